@@ -1,0 +1,10 @@
+pub mod Address
+pub mod NodeCounts
+pub mod Cut
+pub mod Get
+pub mod NameOrder
+pub mod Seen
+pub mod ValueTree
+pub mod ValueCode
+pub mod NodeCountFalls
+pub mod ValueOrder
