@@ -1,5 +1,6 @@
 pub mod FieldLemmas
 pub mod NameOrderLemmas
+pub mod WellFormedLemmas
 pub mod ValueTreeLemmas
 pub mod ValueOrderLemmas
 pub mod ValueOrderLaws

@@ -3,6 +3,7 @@ pub mod NodeCounts
 pub mod Cut
 pub mod Get
 pub mod NameOrder
+pub mod WellFormed
 pub mod Seen
 pub mod ValueTree
 pub mod ValueCode

@@ -4,9 +4,10 @@ ghost use Rattle.std.specs.List.Sorted.{IsSearchInRange};
 ghost use Rattle.std.specs.Ordering.{ordering_then};
 ghost use Rattle.wf_val.specs.Cut.{cut_u32, cut_u64};
 ghost use Rattle.wf_val.specs.Get.{get, item, put, without, is_object, name_of, value_of};
-ghost use Rattle.wf_val.specs.NameOrder.{bytes_cmp, IsInNameOrder, find_named, put_named, without_named, IsPlace, IsGap};
+ghost use Rattle.wf_val.specs.NameOrder.{bytes_cmp, IsInNameOrder, IsAboveAll, find_named, put_named, without_named, IsPlace, IsGap};
 ghost use Rattle.wf_val.specs.Seen.{tree, member};
 ghost use Rattle.wf_val.specs.ValueTree.{ValueTree, depth, weight, trees, trees_depth, trees_weight, members, members_depth, members_weight, Fits};
+ghost use Rattle.wf_val.specs.WellFormed.{IsWellFormed, AreValues, AreMembers};
 ghost use Rattle.wf_val.specs.ValueOrder.{order, rank, trees_order, members_order};
 
 use crate::text::Text;
@@ -48,6 +49,10 @@ impl Model for Vals {
 
     ghost view = { λ a. map tree a.items.items };
 
+    ghost use Rattle.wf_val.specs.WellFormed.{AreValues};
+
+    ghost invariant = { λ a. AreValues (map tree a.items.items) };
+
     ghost size = { count_of_list };
 
     ghost use Rattle.std.proofs.Common.{arith};
@@ -78,10 +83,9 @@ impl Model for Fields {
 
     ghost view = { λ a. map member a.members.items };
 
-    ghost use Rattle.wf_val.specs.Get.{name_of};
-    ghost use Rattle.wf_val.specs.NameOrder.{IsInNameOrder};
+    ghost use Rattle.wf_val.specs.WellFormed.{AreMembers};
 
-    ghost invariant = { λ a. IsInNameOrder name_of (map member a.members.items) };
+    ghost invariant = { λ a. AreMembers (map member a.members.items) };
 
     ghost size = { count_of_members };
 
@@ -123,8 +127,16 @@ impl Vals {
         ensures ok { OnOk result (self.new ≡ self.old ++ tree item ∷ []) }
         ensures err { OnErr result (self.new ≡ self.old) }
     {
+        item.always_well_formed();
         self.items.push(item)?;
         Ok(())
+    }
+
+    /// Every item of every list is well formed: a call that tells its caller so, and does nothing.
+    pub fn always_well_formed(&self)
+        ensures { AreValues self.now }
+    {
+        let _ = &self.items;
     }
 
     #[cycle(copy)]
@@ -223,6 +235,8 @@ impl Fields {
         ensures ok { OnOk result (self.new ≡ put_named name_of (name, tree value) self.old) }
         ensures err { OnErr result (self.new ≡ self.old) }
     {
+        let _ = name.as_str();
+        value.always_well_formed();
         match place_of(&self.members, &name) {
             Ok(place) => {
                 self.members[place] = (name, value);
@@ -233,6 +247,18 @@ impl Fields {
                 Ok(())
             }
         }
+    }
+
+    /// Adds a member behind the others, for a reader that gets members in order.
+    pub fn append(&mut self, name: Text, value: Val) -> Result<(), AllocError>
+        requires { IsAboveAll name_of name self.old }
+        ensures ok { OnOk result (self.new ≡ self.old ++ (name, tree value) ∷ []) }
+        ensures err { OnErr result (self.new ≡ self.old) }
+    {
+        let _ = name.as_str();
+        value.always_well_formed();
+        self.members.push((name, value))?;
+        Ok(())
     }
 
     pub fn remove(&mut self, name: &Text) -> Option<Val>
@@ -246,6 +272,13 @@ impl Fields {
             }
             Err(_) => None,
         }
+    }
+
+    /// The members of every object are in order and well formed: a call that tells its caller so, and does nothing.
+    pub fn always_well_formed(&self)
+        ensures { AreMembers self.now }
+    {
+        let _ = &self.members;
     }
 
     #[cycle(copy)]
@@ -428,6 +461,24 @@ impl Val {
         ensures { IsTrue result ↔ (tree self.now ≡ tree other.now) }
     {
         self.order(other) == Ordering::Equal
+    }
+
+    /// Every value is well formed, at every level: a call that tells its caller so, and does nothing.
+    #[tactic(auto, using(crate::proofs::ValueTreeLemmas::listed))]
+    pub fn always_well_formed(&self)
+        ensures { IsWellFormed (tree self.now) }
+    {
+        match self {
+            Val::Null | Val::Bool(_) => {}
+            Val::Int(number) => {
+                let _number = *number;
+            }
+            Val::Text(text) => {
+                let _ = text.as_str();
+            }
+            Val::List(items) => items.always_well_formed(),
+            Val::Obj(fields) => fields.always_well_formed(),
+        }
     }
 
     #[cycle(copy)]
