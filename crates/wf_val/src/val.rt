@@ -225,7 +225,14 @@ impl Fields {
     pub fn get(&self, name: &Text) -> Option<&Val>
         ensures { option_map (λ v. tree v.now) result ≡ value_of name.now self.now }
     {
-        match place_of(&self.members, name) {
+        self.member(name.as_str())
+    }
+
+    /// The value of a name that is no `Text`, such as a literal.
+    pub fn member(&self, name: &str) -> Option<&Val>
+        ensures { option_map (λ v. tree v.now) result ≡ value_of name.now self.now }
+    {
+        match place_of_str(&self.members, name) {
             Ok(place) => Some(&self.members[place].1),
             Err(_) => None,
         }
@@ -353,7 +360,17 @@ fn place_of(members: &[(Text, Val)], name: &Text) -> Result<usize, usize>
     ensures place { IfOk result (IsPlace name_of name.now (map member members.now)) }
     ensures gap { IfErr result (IsGap name_of name.now (map member members.now)) }
 {
-    members.binary_search_by(|member| member.0.order(name))
+    place_of_str(members, name.as_str())
+}
+
+// The same of a name that is no `Text`.
+fn place_of_str(members: &[(Text, Val)], name: &str) -> Result<usize, usize>
+    requires { IsInNameOrder name_of (map member members.now) }
+    ensures in_range { IsSearchInRange result (length members.now) }
+    ensures place { IfOk result (IsPlace name_of name.now (map member members.now)) }
+    ensures gap { IfErr result (IsGap name_of name.now (map member members.now)) }
+{
+    members.binary_search_by(|member| member.0.as_str().cmp(name))
 }
 
 impl Val {
@@ -392,6 +409,17 @@ impl Val {
     {
         match self {
             Val::Obj(fields) => fields.get(name),
+            _ => None,
+        }
+    }
+
+    /// The member's value of a name that is no `Text`, such as a literal.
+    #[tactic(auto, using(crate::proofs::ValueTreeLemmas::listed))]
+    pub fn member(&self, name: &str) -> Option<&Val>
+        ensures { option_map (λ v. tree v.now) result ≡ get name.now (tree self.now) }
+    {
+        match self {
+            Val::Obj(fields) => fields.member(name),
             _ => None,
         }
     }
