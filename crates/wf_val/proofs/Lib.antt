@@ -1,4 +1,5 @@
 pub mod FieldLemmas
+pub mod FunctionLemmas
 pub mod NameOrderLemmas
 pub mod WellFormedLemmas
 pub mod ValueTreeLemmas

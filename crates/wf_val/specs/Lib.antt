@@ -1,6 +1,7 @@
 pub mod Address
 pub mod NodeCounts
 pub mod Cut
+pub mod Function
 pub mod Get
 pub mod NameOrder
 pub mod WellFormed
