@@ -6,7 +6,7 @@ use Rattle.wf_val.specs.ValueTree.{node_count}
 use Rattle.wf_val.specs.Seen.{tree, member}
 use Rattle.wf_val.specs.NodeCounts.{count_of_list, count_of_members}
 use Rattle.wf_val.specs.declared.val.Val.{Val}
-use Rattle.wf_val.specs.declared.val.Fields.TheDeep.{deep-Val}
+use Rattle.wf_val.specs.declared.fields.Fields.TheDeep.{deep-Val}
 
 deep_le-node_count : (v : Val) → deep-Val v ≤ node_count (tree v)
 deep_le-node_count Val.Null = omega arith

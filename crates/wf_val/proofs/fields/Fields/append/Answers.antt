@@ -1,5 +1,5 @@
 use Rattle.wf_val.proofs.FieldLemmas.{AreMembers-push}
-use Rattle.wf_val.proofs.val.Fields.append.Goals as goal
+use Rattle.wf_val.proofs.fields.Fields.append.Goals as goal
 
 -- the name is above the others
 pub invariant_of-self-2 : goal.invariant_of-self-2

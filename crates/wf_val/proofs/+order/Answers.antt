@@ -1,25 +1,25 @@
 use Rattle.std.proofs.Common.{◌<◌, ◌≤◌, length, sym, ◌∙◌, ltb-true, arith}
 use Rattle.wf_val.proofs.ValueOrderLemmas.{trees_order-ended, members_order-ended, members_order-decided}
-use Rattle.wf_val.proofs.val.+order.Goals as goal
+use Rattle.wf_val.proofs.+order.Goals as goal
 
-pub Vals::order-returns-then-len : goal.Vals::order-returns-then-len
-Vals::order-returns-then-len t c =
+pub vals::Vals::order-returns-then-len : goal.vals::Vals::order-returns-then-len
+vals::Vals::order-returns-then-len t c =
     let xs = c.self.inside.items.items in
     let ys = c.other.inside.items.items in
     let ended : length xs ≤ c.loop-place.place = omega arith in
     let more : c.loop-place.place < length ys = omega arith in
     sym (trees_order-ended xs ys c.loop-place.place ended more) ∙ c.loop-place.invariant
 
-pub Fields::order-returns-then-len : goal.Fields::order-returns-then-len
-Fields::order-returns-then-len t c =
+pub fields::Fields::order-returns-then-len : goal.fields::Fields::order-returns-then-len
+fields::Fields::order-returns-then-len t c =
     let xs = c.self.inside.members.items in
     let ys = c.other.inside.members.items in
     let ended : length xs ≤ c.loop-place.place = omega arith in
     let more : c.loop-place.place < length ys = omega arith in
     sym (members_order-ended xs ys c.loop-place.place ended more) ∙ c.loop-place.invariant
 
-pub Fields::order-returns-in_default : goal.Fields::order-returns-in_default
-Fields::order-returns-in_default t c =
+pub fields::Fields::order-returns-in_default : goal.fields::Fields::order-returns-in_default
+fields::Fields::order-returns-in_default t c =
     let xs = c.self.inside.members.items in
     let ys = c.other.inside.members.items in
     let found = c.in-Some.ensures.lookup in

@@ -1,5 +1,5 @@
 use Rattle.wf_val.proofs.WellFormedLemmas.{AreValues-push}
-use Rattle.wf_val.proofs.val.Vals.push.Goals as goal
+use Rattle.wf_val.proofs.vals.Vals.push.Goals as goal
 
 -- the further item is well formed too
 pub invariant_of-self-2 : goal.invariant_of-self-2

@@ -2,15 +2,15 @@ use Rattle.std.proofs.Common.{◌≡◌, map, drop}
 use Rattle.wf_val.specs.ValueTree.{trees, members}
 use Rattle.wf_val.specs.ValueOrder.{trees_order, members_order}
 use Rattle.wf_val.specs.Seen.{tree, member}
-use Rattle.wf_val.proofs.val.+order.Given as goal
+use Rattle.wf_val.proofs.+order.Given as goal
 
 -- what is left decides
-abbrev pub invariant-Fields::order-loop-place : goal.invariant-Fields::order-loop-place
-invariant-Fields::order-loop-place l =
+abbrev pub invariant-fields::Fields::order-loop-place : goal.invariant-fields::Fields::order-loop-place
+invariant-fields::Fields::order-loop-place l =
     members_order (members (map member (drop l.place l.self-inside.members.items))) (members (map member (drop l.place l.other-inside.members.items)))
     ≡ members_order (members l.self) (members l.other)
 
-abbrev pub invariant-Vals::order-loop-place : goal.invariant-Vals::order-loop-place
-invariant-Vals::order-loop-place l =
+abbrev pub invariant-vals::Vals::order-loop-place : goal.invariant-vals::Vals::order-loop-place
+invariant-vals::Vals::order-loop-place l =
     trees_order (trees (map tree (drop l.place l.self-inside.items.items))) (trees (map tree (drop l.place l.other-inside.items.items)))
     ≡ trees_order (trees l.self) (trees l.other)

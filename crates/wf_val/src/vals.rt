@@ -1,0 +1,151 @@
+//! The items of a list.
+ghost use Rattle.std.specs.Prelude.{◌≡◌, [], ◌∷◌, ◌++◌, length, map, IfOk, OnOk, OnErr, option_map, slice_get};
+ghost use Rattle.wf_val.specs.Cut.{cut_u32, cut_u64};
+ghost use Rattle.wf_val.specs.Seen.{tree};
+ghost use Rattle.wf_val.specs.ValueOrder.{trees_order};
+ghost use Rattle.wf_val.specs.ValueTree.{trees, trees_depth, trees_weight};
+ghost use Rattle.wf_val.specs.WellFormed.{AreValues};
+
+use crate::val::Val;
+use std::alloc::{AllocError, Global};
+use std::cmp::Ordering;
+use std::marker::Model;
+
+/// Values, as a list holds them (RFC 8259, section 5); seen as the list of their trees.
+#[cycle(val)]
+#[derive(Drop)]
+pub struct Vals {
+    items: Vec<Val>,
+}
+
+impl Model for Vals {
+    ghost use Rattle.std.specs.Prelude.{List, map};
+    ghost use Rattle.std.specs.Coded.{coded_list};
+    ghost use Rattle.wf_val.specs.ValueTree.{ValueTree};
+    ghost use Rattle.wf_val.specs.ValueCode.{coded_value};
+
+    ghost Value = { List ValueTree };
+
+    ghost coded = { coded_list coded_value };
+
+    ghost use Rattle.wf_val.specs.Seen.{tree};
+    ghost use Rattle.wf_val.specs.NodeCounts.{count_of_list};
+
+    ghost view = { λ a. map tree a.items.items };
+
+    ghost use Rattle.wf_val.specs.WellFormed.{AreValues};
+
+    ghost invariant = { λ a. AreValues (map tree a.items.items) };
+
+    ghost size = { count_of_list };
+
+    ghost use Rattle.std.proofs.Common.{arith};
+    ghost use Rattle.wf_val.specs.NodeCountFalls.{most_le-count_of_list};
+
+    ghost size_decreases = { λ a h. Prim.omega (arith, most_le-count_of_list a.items.items) };
+}
+
+impl Vals {
+    /// No values.
+    pub fn new(alloc: Global) -> Self
+        ensures { result ≡ [] }
+    {
+        Vals {
+            items: Vec::new(alloc),
+        }
+    }
+
+    /// How many values there are.
+    pub fn len(&self) -> u64
+        ensures { result ≡ length self.now }
+    {
+        self.items.len() as u64
+    }
+
+    /// The value at a place, counted from 0.
+    pub fn at(&self, place: u64) -> Option<&Val>
+        ensures { option_map (λ v. tree v.now) result ≡ slice_get self.now place }
+    {
+        self.items.get(place as usize)
+    }
+
+    /// The values, for a loop.
+    pub fn as_slice(&self) -> &[Val]
+        ensures { map tree result.now ≡ self.now }
+    {
+        &self.items
+    }
+
+    /// Adds a value behind the others.
+    pub fn push(&mut self, item: Val) -> Result<(), AllocError>
+        ensures ok { OnOk result (self.new ≡ self.old ++ tree item ∷ []) }
+        ensures err { OnErr result (self.new ≡ self.old) }
+    {
+        item.always_well_formed();
+        self.items.push(item)?;
+        Ok(())
+    }
+
+    /// Tells a caller what holds of every list, and does nothing.
+    pub fn always_well_formed(&self)
+        ensures { AreValues self.now }
+    {
+        let _ = &self.items;
+    }
+
+    #[cycle(copy)]
+    pub fn copy(&self, alloc: Global) -> Result<Vals, AllocError>
+        ensures { IfOk result (λ v. v ≡ self.now) }
+    {
+        let mut copies = Vec::new(alloc);
+        for item in &self.items {
+            copies.push(item.copy(alloc)?)?;
+        }
+        Ok(Vals { items: copies })
+    }
+
+    // The greatest depth of a value in it.
+    #[cycle(depth)]
+    pub(crate) fn depth(&self) -> u32
+        ensures { result ≡ cut_u32 (trees_depth (trees self.now)) }
+    {
+        let mut deepest = 0;
+        for item in &self.items {
+            deepest = item.depth().max(deepest);
+        }
+        deepest
+    }
+
+    // The sum of the weights.
+    #[cycle(weight)]
+    pub(crate) fn weight(&self) -> u64
+        ensures { result ≡ cut_u64 (trees_weight (trees self.now)) }
+    {
+        let mut total = 0;
+        for item in &self.items {
+            total = item.weight().saturating_add(total);
+        }
+        total
+    }
+
+    // Value by value; a front of a list is below the list.
+    #[cycle(order)]
+    pub(crate) fn order(&self, other: &Vals) -> Ordering
+        ensures { result ≡ trees_order (trees self.now) (trees other.now) }
+    {
+        for (place, item) in self.items.iter().enumerate() {
+            match other.items.get(place) {
+                None => return Ordering::Greater,
+                Some(against) => match item.order(against) {
+                    Ordering::Equal => {}
+                    unequal => return unequal,
+                },
+            }
+        }
+        if self.items.len() < other.items.len() {
+            Ordering::Less
+        } else {
+            Ordering::Equal
+        }
+    }
+}
