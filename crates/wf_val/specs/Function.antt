@@ -1,9 +1,11 @@
--- The functions of the expression language (Workflow Definition Language, 'functions in expressions') and their names.
+-- The functions of the expression language, by their names (Workflow Definition Language, reference of the functions
+-- in expressions). Ten further names stand for a part of a definition whose value is judged as an argument would be:
+-- a fault names such a part as it names a function, and no expression can call it.
 use Rattle.std.specs.Prelude.{ℕ, List, [], ◌∷◌, Option, find, codes}
 use Rattle.std.specs.Str.{str_eq_ignore_ascii_case}
 use Rattle.wf_val.specs.declared.function.Fun.{Fun}
 
--- the name of a function, and what stands for one in the fault of a pseudo-function
+-- the name, as faults print it
 abbrev pub function_name : Fun → List ℕ
 function_name Fun.Concat = codes "concat"
 function_name Fun.Substring = codes "substring"
@@ -118,7 +120,7 @@ function_name Fun.ParseJson = codes "parseJson"
 function_name Fun.Variable = codes "variable"
 function_name Fun.Terminate = codes "terminate"
 
--- what an expression may call; a pseudo-function isn't among them
+-- what an expression can call
 abbrev pub functions : List Fun
 functions =
     -- texts
@@ -231,6 +233,6 @@ functions =
     Fun.Rand ∷
     []
 
--- the function of a name; letter case of ASCII letters doesn't count
+-- the function that an expression calls by the name; the case of ASCII letters doesn't count
 abbrev pub function_of : List ℕ → Option Fun
 function_of name = find (λ f. str_eq_ignore_ascii_case name (function_name f)) functions

@@ -1,4 +1,4 @@
--- What a list or an object holds has fewer nodes than it.
+-- Each value that a list or an object holds has fewer values in it than the whole, so a recursion over values ends.
 use Rattle.std.specs.Prelude.{ℕ, ◌≤◌, max, List, [], ◌∷◌, map}
 use Rattle.std.proofs.Common.{arith}
 use denote.Param.Weighed.{most}

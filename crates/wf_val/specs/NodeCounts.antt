@@ -1,4 +1,4 @@
--- How many nodes a list and an object hold.
+-- How many values a list and an object hold, at every level.
 use Rattle.std.specs.Prelude.{ℕ, List}
 use Rattle.wf_val.specs.ValueTree.{ValueTree, trees, trees_count, Member, members, members_count}
 

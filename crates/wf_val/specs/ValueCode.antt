@@ -1,4 +1,4 @@
--- A code of trees, by which a proof tells two of them apart.
+-- A code of trees, by which a proof tells two of them apart. Nothing else rests on it.
 use Rattle.std.specs.Prelude.{◌≡◌, refl}
 use Rattle.std.specs.Coded.{Coded, coded_ℕ, coded_ℤ, coded_bool, coded_list, coded×}
 use Rattle.std.proofs.Common.{ap}

@@ -1,4 +1,4 @@
--- The order of trees: by kind, and within a kind by what they hold.
+-- The order of values: by kind, and within a kind by what they hold.
 use Rattle.std.specs.Prelude.{ℕ}
 use Rattle.std.specs.declared.cmp.Ordering.{Ordering}
 use Rattle.std.specs.declared.cmp.Ordering.TheVariants.{Less, Equal, Greater}
@@ -15,6 +15,8 @@ rank (text s) = 3
 rank (list ts) = 4
 rank (object ms) = 5
 
+-- false is below true, numbers go by size and texts by bytes; lists go item by item and objects member by member,
+-- by name and then by value, and where one is a front of the other, the front is below
 abbrev mutual
   pub order : ValueTree → ValueTree → Ordering
   order (boolean a) (boolean b) = bool_cmp a b

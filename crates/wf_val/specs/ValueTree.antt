@@ -1,4 +1,5 @@
 -- A value as contracts see it: a tree over plain lists and numbers.
+-- It is what JSON can write (RFC 8259, section 3), but that a number is whole. A text and a name are their bytes in UTF-8.
 use Rattle.std.specs.Prelude.{ℕ, suc, ◌+◌, ◌≤◌, ◌^◌, max, ℤ, Bool, List, [], ◌∷◌, length}
 
 mutual
@@ -18,11 +19,11 @@ mutual
     no_members : MemberTrees
     member_then : List ℕ → ValueTree → MemberTrees → MemberTrees
 
--- a member: its name in bytes, and its value
+-- a member of an object: its name, and its value
 abbrev pub Member : Type 0
 Member = List ℕ × ValueTree
 
--- the trees of a list, and back
+-- trees in a row, from a list and back
 abbrev pub trees : List ValueTree → ValueTrees
 trees [] = no_values
 trees (t ∷ ts) = value_then t (trees ts)
@@ -31,7 +32,7 @@ abbrev pub items : ValueTrees → List ValueTree
 items no_values = []
 items (value_then t ts) = t ∷ items ts
 
--- the members of a list, and back
+-- members in a row, from a list and back
 abbrev pub members : List Member → MemberTrees
 members [] = no_members
 members (m ∷ ms) = member_then m.0 m.1 (members ms)
@@ -40,7 +41,8 @@ abbrev pub pairs : MemberTrees → List Member
 pairs no_members = []
 pairs (member_then k t ms) = (k, t) ∷ pairs ms
 
--- how deep lists and objects nest
+-- how deep lists and objects nest: 0 for a scalar, and for a list or an object 1 more than the deepest inside it,
+-- which is 0 where nothing is inside
 abbrev mutual
   pub depth : ValueTree → ℕ
   depth null = 0
@@ -58,7 +60,8 @@ abbrev mutual
   members_depth no_members = 0
   members_depth (member_then k t ms) = max (depth t) (members_depth ms)
 
--- the work that a value stands for
+-- how large a value is: 1 for itself, and the weights of what it holds; a text holds its bytes,
+-- and a member weighs 1, the bytes of its name, and its value
 abbrev mutual
   pub weight : ValueTree → ℕ
   weight null = 1
@@ -76,11 +79,11 @@ abbrev mutual
   members_weight no_members = 0
   members_weight (member_then k t ms) = 1 + length k + weight t + members_weight ms
 
--- the bounds of a value of an expression
+-- an expression may have the value: it nests at most 64 deep and weighs at most 2^20
 abbrev pub Fits : ValueTree → Type 0
 Fits t = (depth t ≤ 64) × (weight t ≤ 2 ^ 20)
 
--- how many nodes there are
+-- how many values there are in a value, itself included: less in each part, so a recursion over values ends
 abbrev mutual
   pub node_count : ValueTree → ℕ
   node_count null = 1

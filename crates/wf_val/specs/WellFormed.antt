@@ -1,5 +1,6 @@
--- What holds of every value, at every level of it: whole numbers fit 64 bits with a sign, texts and names are
--- UTF-8, and the members of an object have distinct names in byte order (RFC 8259, section 4: names should be unique).
+-- What holds of every value, at every level of it: a number fits 64 bits with a sign, a text or a name is UTF-8, and
+-- the members of an object stand in byte order of their names, each name once (RFC 8259, section 4, only asks that
+-- names be unique).
 use Rattle.std.specs.Prelude.{List, ⊤, FitsSigned, IsUtf8}
 use Rattle.std.specs.Int.{w64}
 use Rattle.wf_val.specs.Get.{name_of}

@@ -155,7 +155,7 @@ impl Fields {
     pub fn copy(&self, alloc: Global) -> Result<Fields, AllocError>
         ensures { IfOk result (λ f. f ≡ self.now) }
     {
-        let mut copies = Vec::new(alloc);
+        let mut copies = Vec::with_capacity(alloc, self.members.len())?;
         for (name, value) in &self.members {
             copies.push((name.copy(alloc)?, value.copy(alloc)?))?;
         }

@@ -4,8 +4,9 @@ ghost use Rattle.wf_val.specs.Function.{function_name, function_of};
 
 use crate::text::Text;
 
-/// A function that an expression may call, or, in the last group, a place of a definition that has the rights and
-/// duties of one: where its value is wrong, the fault names it as if it were a function.
+/// A function that an expression can call (Workflow Definition Language, reference of the functions in expressions);
+/// or, in the last group, a part of an expression or of an action whose value is judged as an argument would be, and
+/// which a fault names in the place of a function.
 #[derive(Clone, Copy, PartialEq, Eq, Debug)]
 pub enum Fun {
     // texts
@@ -116,7 +117,7 @@ pub enum Fun {
     GetPastTime,
     Guid,
     Rand,
-    // no functions: what a definition asks of a value where it stands
+    // no functions: parts that are judged as arguments are
     Condition,
     Index,
     From,
@@ -129,7 +130,7 @@ pub enum Fun {
     Terminate,
 }
 
-// What an expression may call: each variant but those of the last group.
+// What an expression can call: each variant but those of the last group.
 const FUNCTIONS: [Fun; 102] = [
     Fun::Concat,
     Fun::Substring,
@@ -236,7 +237,7 @@ const FUNCTIONS: [Fun; 102] = [
 ];
 
 impl Fun {
-    /// The function that an expression calls by this name.
+    /// The function that an expression calls by the name; the case of ASCII letters doesn't count.
     pub fn of(name: &Text) -> Option<Fun>
         ensures { result ≡ function_of name.now }
     {
@@ -247,7 +248,7 @@ impl Fun {
             .find(|function| called.eq_ignore_ascii_case(function.name()))
     }
 
-    /// The name as faults print it.
+    /// The name, as faults print it.
     pub fn name(self) -> &'static str
         ensures { result.now ≡ function_name self }
     {

@@ -187,5 +187,5 @@ impl Val {
 /// equal values tie. Tells a caller so, and does nothing.
 pub fn order_is_total()
     ensures total { IsTotalOrder order }
-    ensures exact { (x y : ValueTree) → order x y ≡ Ordering.Equal → x ≡ y }
+    ensures exact { (x y : ValueTree) → (order x y ≡ Ordering.Equal) ↔ (x ≡ y) }
 {}

@@ -97,7 +97,7 @@ impl Vals {
     pub fn copy(&self, alloc: Global) -> Result<Vals, AllocError>
         ensures { IfOk result (λ v. v ≡ self.now) }
     {
-        let mut copies = Vec::new(alloc);
+        let mut copies = Vec::with_capacity(alloc, self.items.len())?;
         for item in &self.items {
             copies.push(item.copy(alloc)?)?;
         }
