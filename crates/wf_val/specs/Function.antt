@@ -1,6 +1,6 @@
 -- The functions of the expression language, by their names (Workflow Definition Language, reference of the functions
--- in expressions). Ten further names stand for a part of a definition whose value is judged as an argument would be:
--- a fault names such a part as it names a function, and no expression can call it.
+-- in expressions). Ten further names stand for a part of an expression or of an action whose value is judged as an
+-- argument would be: a fault names such a part as it names a function, and no expression can call it.
 use Rattle.std.specs.Prelude.{ℕ, List, [], ◌∷◌, Option, find, codes}
 use Rattle.std.specs.Str.{str_eq_ignore_ascii_case}
 use Rattle.wf_val.specs.declared.function.Fun.{Fun}
