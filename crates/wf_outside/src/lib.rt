@@ -14,6 +14,7 @@
 //! All sizes and limits are in bytes.
 #![tactic(auto)]
 
+mod calls;
 mod disk;
 mod faults;
 mod mem_files;
