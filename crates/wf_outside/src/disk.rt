@@ -1,5 +1,5 @@
 // The real files.
-ghost use Rattle.std.specs.Prelude.{◌≡◌, ◌⊎◌, ◌<◌, ◌≤◌, ◌^◌, ◌-◌, None, Some, length, IfOk, IfSome};
+ghost use Rattle.std.specs.Prelude.{◌≡◌, [], ◌⊎◌, ◌<◌, ◌≤◌, ◌^◌, ◌-◌, None, Some, length, IfOk, IfSome};
 ghost use Rattle.wf_outside.specs.Outside.{ReadsFrom};
 
 use crate::faults::FileFault;
@@ -18,7 +18,10 @@ pub struct DiskFiles<'a, R: HostFiles + AllocGlobal> {
 }
 
 impl<'a, R: HostFiles + AllocGlobal> DiskFiles<'a, R> {
-    pub fn new(rt: &'a R) -> DiskFiles<'a, R> {
+    /// Adapts the files that the runtime reaches. No read has failed.
+    pub fn new(rt: &'a R) -> DiskFiles<'a, R>
+        ensures { ⟦<DiskFiles<'a, R> as Files>⟧.failed result ≡ [] }
+    {
         DiskFiles {
             rt,
             failed: Vec::new(rt.alloc()),

@@ -14,6 +14,7 @@
 //! All sizes and limits are in bytes.
 #![tactic(auto)]
 
+mod calls;
 mod disk;
 mod faults;
 mod mem_files;
@@ -29,3 +30,6 @@ pub use mem_sink::MemSink;
 pub use mem_source::MemSource;
 pub use standard::{StdSink, StdSource};
 pub use traits::{Files, Sink, Source};
+
+#[cfg(test)]
+mod tests;

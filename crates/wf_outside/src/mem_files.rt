@@ -1,71 +1,74 @@
 // Files in memory.
-ghost use Rattle.std.specs.Prelude.{◌≡◌, ◌≤◌, ℕ, List, [], ◌∷◌, ◌++◌, Some, None, length, OnOk, OnErr, IfOk, IsErrOf, if◌then◌else◌};
+ghost use Rattle.std.specs.Prelude.{◌≡◌, ◌⊎◌, ◌≤◌, ℕ, List, [], ◌∷◌, ◌++◌, Some, None, length, OnOk, OnErr, IfOk, IsErrOf, if◌then◌else◌};
 ghost use Rattle.std.specs.Str.{bytes_eq};
 ghost use Rattle.std.specs.Option.{option_map};
+ghost use Rattle.wf_outside.specs.CallPlan.{called, no_calls, planned};
 ghost use Rattle.wf_outside.specs.Outside.{Tells, failed_after};
 
+use crate::calls::Calls;
 use crate::faults::FileFault;
 use crate::traits::Files;
 use std::alloc::{AllocError, Global};
 use wf_val::Text;
 
-/// A file in memory.
 #[derive(Drop)]
 pub struct MemFile {
     name: Text,
     bytes: Vec<u8>,
 }
 
-/// Files in memory.
+/// Files in memory, which tell what they hold.
+///
+/// A look-up walks the files one by one, the newest first: this is for tests with a few files.
 #[derive(Drop)]
 pub struct MemFiles {
     alloc: Global,
     files: Vec<MemFile>,
     failed: Vec<Text>,
-    calls: u64,
-    to_fail: Vec<u64>,
+    calls: Calls,
 }
 
 impl MemFiles {
-    ghost use Rattle.wf_outside.specs.Memory.{files_held, names_failed, reads_to_fail};
+    ghost use Rattle.wf_outside.specs.MemFiles.{files_held, names_failed, reads};
 
+    /// No files.
     pub fn new(alloc: Global) -> MemFiles
         ensures empty { (name : List ℕ) → files_held result name ≡ None }
         ensures failed { names_failed result ≡ [] }
-        ensures planned { reads_to_fail result ≡ [] }
+        ensures calls { reads result ≡ no_calls }
     {
         MemFiles {
             alloc,
             files: Vec::new(alloc),
             failed: Vec::new(alloc),
-            calls: 0,
-            to_fail: Vec::new(alloc),
+            calls: Calls::new(alloc),
         }
     }
 
-    /// Adds a file, or puts other bytes in its place.
+    /// Adds a file, or puts other bytes in the place of those that the name had.
     pub fn add(&mut self, name: Text, bytes: &[u8]) -> Result<(), AllocError>
-        ensures ok { OnOk result ((n : List ℕ) → files_held self.new n ≡ (if bytes_eq name n then Some bytes.now else files_held self.old n)) }
+        ensures ok { OnOk result ((other : List ℕ) → files_held self.new other ≡ (if bytes_eq name other then Some bytes.now else files_held self.old other)) }
         ensures err { OnErr result (files_held self.new ≡ files_held self.old) }
         ensures failed { names_failed self.new ≡ names_failed self.old }
-        ensures planned { reads_to_fail self.new ≡ reads_to_fail self.old }
+        ensures calls { reads self.new ≡ reads self.old }
     {
         let bytes = bytes.to_vec(self.alloc)?;
         self.files.insert(0, MemFile { name, bytes })?;
         Ok(())
     }
 
-    /// Has the read of that number fail, counted from 1.
+    /// Has the read of that number fail, counted from 1 over all reads of this object. A number that has passed, or 0,
+    /// changes no read.
     pub fn fail_at(&mut self, call: u64) -> Result<(), AllocError>
-        ensures planned { OnOk result (reads_to_fail self.new ≡ reads_to_fail self.old ++ call ∷ []) }
-        ensures err { OnErr result (reads_to_fail self.new ≡ reads_to_fail self.old) }
+        ensures ok { OnOk result (reads self.new ≡ planned (reads self.old) call) }
+        ensures err { OnErr result (reads self.new ≡ reads self.old) }
         ensures held { files_held self.new ≡ files_held self.old }
         ensures failed { names_failed self.new ≡ names_failed self.old }
     {
-        self.to_fail.push(call)?;
-        Ok(())
+        self.calls.fail_at(call)
     }
 
+    /// How many reads failed.
     pub fn faults(&self) -> u64
         ensures { result ≡ length (names_failed self.now) }
     {
@@ -85,7 +88,7 @@ impl MemFiles {
 }
 
 impl Files for MemFiles {
-    ghost use Rattle.wf_outside.specs.Memory.{files_held, names_failed, reads_to_fail};
+    ghost use Rattle.wf_outside.specs.MemFiles.{WillFail, files_held, names_failed, reads};
 
     ghost held = { λ m. Some (files_held m) };
 
@@ -97,14 +100,14 @@ impl Files for MemFiles {
         ensures names { names_failed self.new ≡ failed_after (names_failed self.old) name.now result }
         ensures same { files_held self.new ≡ files_held self.old }
 
-        // Where no call is to fail, only an absent name does.
-        ensures unplanned { reads_to_fail self.old ≡ [] → IsErrOf result FileFault.Failed → files_held self.old name.now ≡ None }
+        // A read fails exactly where it is to fail or there is no such file, want of memory apart.
+        ensures failed { IsErrOf result FileFault.Failed → WillFail self.old name.now }
+        ensures fails { WillFail self.old name.now → IsErrOf result FileFault.Failed ⊎ IsErrOf result FileFault.Memory }
+        ensures counted { reads self.new ≡ called (reads self.old) }
     {
-        self.calls = self.calls.saturating_add(1);
-        let found = self.find(name);
-        let planned = self.to_fail.contains(&self.calls);
-        match found {
-            Some(bytes) if !planned => {
+        let due = self.calls.begin();
+        match self.find(name) {
+            Some(bytes) if !due => {
                 if bytes.len() as u64 > limit {
                     return Err(FileFault::TooLong);
                 }

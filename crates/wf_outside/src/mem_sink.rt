@@ -1,64 +1,70 @@
 // A sink in memory.
-ghost use Rattle.std.specs.Prelude.{◌≡◌, ◌<◌, ◌≤◌, [], ◌∷◌, ◌++◌, Some, length, vec_capacity, vec_len, OnOk, OnErr, IfOk};
+ghost use Rattle.std.specs.Prelude.{◌≡◌, ◌↔◌, ◌<◌, ◌≤◌, [], Some, length, vec_capacity, vec_len, OnOk, OnErr, IfOk, IsErr};
 ghost use Rattle.std.specs.Io.KnownBytes.{WriteAppends};
+ghost use Rattle.wf_outside.specs.CallPlan.{called, no_calls, one_more, planned};
 ghost use Rattle.wf_outside.specs.Outside.{HasCause};
 
+use crate::calls::Calls;
 use crate::faults::Failed;
 use crate::traits::Sink;
 use std::alloc::{AllocError, Global};
 
-/// A sink in memory, which takes at most so many bytes a call, and has room for so many.
+/// A sink that keeps what it takes, and tells it. It takes so many bytes a call and so many in all, and no more.
 #[derive(Drop)]
 pub struct MemSink {
     piece: u64,
-    taken: Vec<u8>,
     room: u64,
-    calls: u64,
+    taken: Vec<u8>,
     faults: u64,
-    to_fail: Vec<u64>,
+    calls: Calls,
     ghost some: { 0 < piece },
     ghost within: { vec_len taken ≤ room },
     ghost reserved: { room ≤ vec_capacity taken },
 }
 
 impl MemSink {
-    ghost use Rattle.wf_outside.specs.Memory.{bytes_taken, sink_faults, sink_room, puts_to_fail};
+    ghost use Rattle.wf_outside.specs.MemSink.{bytes_taken, most_at_once, puts, room_in_all, sink_faults};
 
+    /// A sink that takes at most `piece` bytes a call and `room` bytes in all. The room is reserved here, so no put
+    /// wants memory.
     pub fn new(alloc: Global, piece: u64, room: u64) -> Result<MemSink, AllocError>
         requires { 0 < piece }
         ensures taken { IfOk result (λ sink. bytes_taken sink ≡ []) }
+        ensures piece { IfOk result (λ sink. most_at_once sink ≡ piece) }
+        ensures room { IfOk result (λ sink. room_in_all sink ≡ room) }
         ensures faults { IfOk result (λ sink. sink_faults sink ≡ 0) }
-        ensures room { IfOk result (λ sink. sink_room sink ≡ room) }
-        ensures planned { IfOk result (λ sink. puts_to_fail sink ≡ []) }
+        ensures calls { IfOk result (λ sink. puts sink ≡ no_calls) }
     {
         Ok(MemSink {
             piece,
-            taken: Vec::with_capacity(alloc, room as usize)?,
             room,
-            calls: 0,
+            taken: Vec::with_capacity(alloc, room as usize)?,
             faults: 0,
-            to_fail: Vec::new(alloc),
+            calls: Calls::new(alloc),
         })
     }
 
-    /// Has the call of that number fail, counted from 1.
+    /// Has the put of that number fail, counted from 1 over all puts to this object. A number that has passed, or 0,
+    /// changes no put.
     pub fn fail_at(&mut self, call: u64) -> Result<(), AllocError>
-        ensures planned { OnOk result (puts_to_fail self.new ≡ puts_to_fail self.old ++ call ∷ []) }
-        ensures err { OnErr result (puts_to_fail self.new ≡ puts_to_fail self.old) }
+        ensures ok { OnOk result (puts self.new ≡ planned (puts self.old) call) }
+        ensures err { OnErr result (puts self.new ≡ puts self.old) }
         ensures taken { bytes_taken self.new ≡ bytes_taken self.old }
-        ensures room { sink_room self.new ≡ sink_room self.old }
+        ensures piece { most_at_once self.new ≡ most_at_once self.old }
+        ensures room { room_in_all self.new ≡ room_in_all self.old }
         ensures faults { sink_faults self.new ≡ sink_faults self.old }
     {
-        self.to_fail.push(call)?;
-        Ok(())
+        self.calls.fail_at(call)
     }
 
+    /// The bytes taken.
     pub fn taken(&self) -> &[u8]
         ensures { result.now ≡ bytes_taken self.now }
     {
         &self.taken
     }
 
+    /// How many puts failed. It stands still at the last value of a u64.
     pub fn faults(&self) -> u64
         ensures { result ≡ sink_faults self.now }
     {
@@ -67,7 +73,7 @@ impl MemSink {
 }
 
 impl Sink for MemSink {
-    ghost use Rattle.wf_outside.specs.Memory.{bytes_taken, sink_faults, sink_room, puts_to_fail};
+    ghost use Rattle.wf_outside.specs.MemSink.{NextFails, bytes_taken, fitting, most_at_once, puts, room_in_all, sink_faults};
 
     ghost taken = { λ s. Some (bytes_taken s) };
 
@@ -79,12 +85,17 @@ impl Sink for MemSink {
         ensures bytes { WriteAppends (Some (bytes_taken self.old)) (Some (bytes_taken self.new)) result piece.now }
         ensures cause { HasCause (sink_faults self.old) (sink_faults self.new) result }
 
-        // Where no call is to fail, only a put without room does.
-        ensures unplanned { puts_to_fail self.old ≡ [] → OnErr result (length (bytes_taken self.old) ≡ sink_room self.old) }
+        // A put fails exactly where it is to fail or no room is left, and else takes all that fits.
+        ensures fails { IsErr result ↔ NextFails self.old }
+        ensures exact { IfOk result (λ n. n ≡ fitting self.old piece.now) }
+        ensures fault { OnErr result (sink_faults self.new ≡ one_more (sink_faults self.old)) }
+        ensures counted { puts self.new ≡ called (puts self.old) }
+        ensures most { most_at_once self.new ≡ most_at_once self.old }
+        ensures room { room_in_all self.new ≡ room_in_all self.old }
     {
-        self.calls = self.calls.saturating_add(1);
+        let due = self.calls.begin();
         let room = self.room - self.taken.len() as u64;
-        if room == 0 || self.to_fail.contains(&self.calls) {
+        if due || room == 0 {
             self.faults = self.faults.saturating_add(1);
             return Err(Failed);
         }

@@ -1,5 +1,5 @@
 // The standard input and the standard output.
-ghost use Rattle.std.specs.Prelude.{None};
+ghost use Rattle.std.specs.Prelude.{◌≡◌, None};
 
 use crate::faults::Failed;
 use crate::traits::{Sink, Source};
@@ -13,7 +13,10 @@ pub struct StdSource<'a, R: Input> {
 }
 
 impl<'a, R: Input> StdSource<'a, R> {
-    pub fn new(rt: &'a R) -> StdSource<'a, R> {
+    /// Adapts the standard input of the runtime. No call has failed.
+    pub fn new(rt: &'a R) -> StdSource<'a, R>
+        ensures { ⟦<StdSource<'a, R> as Source>⟧.faults result ≡ 0 }
+    {
         StdSource { rt, faults: 0 }
     }
 }
@@ -42,7 +45,10 @@ pub struct StdSink<'a, R: Print> {
 }
 
 impl<'a, R: Print> StdSink<'a, R> {
-    pub fn new(rt: &'a R) -> StdSink<'a, R> {
+    /// Adapts the standard output of the runtime. No call has failed.
+    pub fn new(rt: &'a R) -> StdSink<'a, R>
+        ensures { ⟦<StdSink<'a, R> as Sink>⟧.faults result ≡ 0 }
+    {
         StdSink { rt, faults: 0 }
     }
 }

@@ -1,5 +1,5 @@
 use Rattle.std.proofs.Common.{◌≡◌, drop}
-use Rattle.wf_outside.specs.Memory.{bytes_at}
+use Rattle.wf_outside.specs.MemFiles.{bytes_at}
 use Rattle.wf_outside.proofs.mem_files.MemFiles.find.Given as goal
 
 abbrev pub invariant-loop-file : goal.invariant-loop-file
