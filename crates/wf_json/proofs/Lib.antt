@@ -1,0 +1,5 @@
+mod PointerLemmas
+mod FlawLemmas
+mod ConvertLemmas
+mod ReadLemmas
+mod SentLemmas

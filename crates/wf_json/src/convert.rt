@@ -43,7 +43,7 @@ fn convert_members(alloc: Global, members: Map<String, Value>) -> Result<Fields,
     let mut fields = Fields::new(alloc);
     let _count = members.len();
     for (name, member) in members {
-        fields.put(Text::from_string(name), convert(alloc, member)?)?;
+        fields.append(Text::from_string(name), convert(alloc, member)?)?;
     }
     Ok(fields)
 }

@@ -1,8 +1,8 @@
 //! The places of a JSON tree that are refused.
 
-ghost use Rattle.std.specs.Prelude.{◌≡◌, Some, IfOk, option_map, string_bytes};
+ghost use Rattle.std.specs.Prelude.{◌≡◌, ◌++◌, Some, IfOk, option_map, string_bytes};
 ghost use Rattle.serde_json.specs.View.{view, items_view, members_view};
-ghost use Rattle.wf_json.specs.Pointer.{lesser, least, member_step};
+ghost use Rattle.wf_json.specs.Pointer.{lesser, least, item_step, member_step};
 ghost use Rattle.wf_json.specs.Read.{has_flaw, flawed_places, flawed_items, flawed_members, least_flaw};
 
 use crate::fault::Flaw;
@@ -67,9 +67,7 @@ fn least_in_items(
 {
     let mut best = None;
     for (place, item) in items.iter().enumerate() {
-        if let Some(rest) = least_in(alloc, flaw, room, item)? {
-            best = Some(lesser_of(best, format!(in alloc; "/{place}{rest}")?));
-        }
+        best = with_item(alloc, best, place, least_in(alloc, flaw, room, item)?)?;
     }
     Ok(best)
 }
@@ -85,13 +83,53 @@ fn least_in_members(
 {
     let mut best = None;
     for (name, member) in members.iter() {
-        if let Some(rest) = least_in(alloc, flaw, room, member)? {
-            let mut pointer = step_to(alloc, name.as_str())?;
-            pointer.push_str(rest.as_str())?;
-            best = Some(lesser_of(best, pointer));
-        }
+        best = with_member(
+            alloc,
+            best,
+            name.as_str(),
+            least_in(alloc, flaw, room, member)?,
+        )?;
     }
     Ok(best)
+}
+
+// The lesser of the best pointer so far and the item's own, if either is there.
+fn with_item(
+    alloc: Global,
+    best: Option<String>,
+    place: usize,
+    rest: Option<String>,
+) -> Result<Option<String>, AllocError>
+    ensures { IfOk result (λ p. option_map string_bytes p ≡ lesser (option_map string_bytes best)
+        (option_map (λ q. item_step place ++ q) (option_map string_bytes rest))) }
+{
+    match rest {
+        None => Ok(best),
+        Some(rest) => {
+            let pointer = format!(in alloc; "/{place}{rest}")?;
+            Ok(Some(lesser_of(best, pointer)))
+        }
+    }
+}
+
+// The same, of a member.
+fn with_member(
+    alloc: Global,
+    best: Option<String>,
+    name: &str,
+    rest: Option<String>,
+) -> Result<Option<String>, AllocError>
+    ensures { IfOk result (λ p. option_map string_bytes p ≡ lesser (option_map string_bytes best)
+        (option_map (λ q. member_step name.now ++ q) (option_map string_bytes rest))) }
+{
+    match rest {
+        None => Ok(best),
+        Some(rest) => {
+            let mut pointer = step_to(alloc, name)?;
+            pointer.push_str(rest.as_str())?;
+            Ok(Some(lesser_of(best, pointer)))
+        }
+    }
 }
 
 // The pointer's step to the member of a name.
