@@ -3,3 +3,4 @@ mod FlawLemmas
 mod ConvertLemmas
 mod ReadLemmas
 mod SentLemmas
+mod ReadBackLemmas

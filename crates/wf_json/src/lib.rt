@@ -12,9 +12,11 @@
 mod convert;
 mod fault;
 mod flaws;
+mod laws;
 mod reading;
 mod writing;
 
 pub use fault::JsonFault;
+pub use laws::reads_back;
 pub use reading::read;
 pub use writing::{text, write};
