@@ -14,6 +14,8 @@ mod fault;
 mod flaws;
 mod laws;
 mod reading;
+#[cfg(test)]
+mod tests;
 mod writing;
 
 pub use fault::JsonFault;
