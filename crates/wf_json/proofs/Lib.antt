@@ -1,0 +1,6 @@
+mod PointerLemmas
+mod FlawLemmas
+mod ConvertLemmas
+mod ReadLemmas
+mod SentLemmas
+mod ReadBackLemmas

@@ -1,0 +1,16 @@
+-- When bytes have no reading.
+use Rattle.std.proofs.Common.{◌≡◌, ◌↔◌, ℕ, List, Bool, true, false, Option, None, IsTrue, IsUtf8, cond, refl, subst}
+use Rattle.std.specs.Str.{is_utf8}
+use Rattle.std.proofs.lemmas.Str.{IsUtf8-from_is_utf8}
+
+pub none_unless_utf8 : {X : Type 0} (bytes : List ℕ) (reading : Option X) → (IsUtf8 bytes → reading ≡ None) → cond (is_utf8 bytes) reading None ≡ None
+none_unless_utf8 bytes reading none =
+    elim (is_utf8 bytes) as (λ b. is_utf8 bytes ≡ b → cond b reading None ≡ None) [
+      | true ↦ λ is. none (IsUtf8-from_is_utf8 bytes is)
+      | false ↦ λ is. refl
+    ] refl
+
+-- what a test stands for doesn't hold where the test is false
+pub refuted : {P : Type 0} {b : Bool} → IsTrue b ↔ P → b ≡ false → ¬ P
+refuted {b = true} tested is = cc
+refuted {b = false} tested is = λ holds. cc (tested.1 holds)

@@ -1,0 +1,4 @@
+pub mod Json
+pub mod Pointer
+pub mod Read
+pub mod Sent
