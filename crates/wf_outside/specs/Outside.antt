@@ -22,19 +22,20 @@ pub record HasCause {T E : Type 0} (before now : ℕ) (result : Result T E) : Ty
   pub calm : OnOk result (now ≡ before)
   pub failed : OnErr result (Rose before now)
 
--- what a read answers of a file that is there or not
+-- What a read may answer, where the file is there or not. Any read may fail or want memory. Bytes that it gives are
+-- the file's, all of them, and only a file over the limit is too long.
 abbrev pub ReadsFrom : Option (List ℕ) → ℕ → Result (Vec ℕ Global) FileFault → Type 0
 ReadsFrom file limit (Ok bytes) = file ≡ Some bytes.items
 ReadsFrom file limit (Err Failed) = Unit {0}
 ReadsFrom file limit (Err TooLong) = IsSomeAnd file (λ bytes. limit < length bytes)
 ReadsFrom file limit (Err Memory) = Unit {0}
 
--- what an object tells of a read
+-- what a read may answer, where the object tells; of one that doesn't nothing is said
 abbrev pub Tells : Held → List ℕ → ℕ → Result (Vec ℕ Global) FileFault → Type 0
 Tells None name limit result = Unit {0}
 Tells (Some bytes_of) name limit result = ReadsFrom (bytes_of name) limit result
 
--- a failed read puts its name at the end of the list
+-- A failed read puts its name at the end of the list, and no other read changes it.
 abbrev pub failed_after : {T : Type 0} → List (List ℕ) → List ℕ → Result T FileFault → List (List ℕ)
 failed_after names name (Ok bytes) = names
 failed_after names name (Err Failed) = names ++ name ∷ []

@@ -1,5 +1,6 @@
 // The real files.
-ghost use Rattle.std.specs.Prelude.{◌≡◌, [], ◌⊎◌, ◌<◌, ◌≤◌, ◌^◌, ◌-◌, None, Some, length, IfOk, IfSome};
+ghost use Rattle.std.specs.Prelude.{◌≡◌, ◌≢◌, ◌↔◌, [], ◌<◌, ◌≤◌, ◌^◌, ◌-◌, None, Some, length, IfOk, IfSome};
+ghost use Rattle.std.specs.IoError.{error_kind};
 ghost use Rattle.wf_outside.specs.Outside.{ReadsFrom};
 
 use crate::faults::FileFault;
@@ -10,7 +11,7 @@ use std::io::{ErrorKind, Read};
 use std::rt::Files as HostFiles;
 use wf_val::Text;
 
-/// The real files.
+/// The real files, by their paths. A name that is no path, and a folder, are read faults as an absent file is.
 #[derive(Drop)]
 pub struct DiskFiles<'a, R: HostFiles + AllocGlobal> {
     rt: &'a R,
@@ -29,8 +30,10 @@ impl<'a, R: HostFiles + AllocGlobal> DiskFiles<'a, R> {
     }
 }
 
+// Each error is a failed read but want of memory.
 fn fault_of(error: std::io::Error) -> FileFault
-    ensures { (result ≡ FileFault.Failed) ⊎ (result ≡ FileFault.Memory) }
+    ensures memory { (result ≡ FileFault.Memory) ↔ (error_kind error ≡ ErrorKind.OutOfMemory) }
+    ensures failed { (result ≡ FileFault.Failed) ↔ (error_kind error ≢ ErrorKind.OutOfMemory) }
 {
     if error.kind() == ErrorKind::OutOfMemory {
         FileFault::Memory
@@ -39,11 +42,12 @@ fn fault_of(error: std::io::Error) -> FileFault
     }
 }
 
-// All the bytes that a reader has left, where there are at most limit.
+// All the bytes that a reader has left, where there are at most limit. No more than one byte past it is read.
 fn read_within<R: Read + Drop>(alloc: Global, reader: R, limit: u64) -> Result<Vec<u8>, FileFault>
     ensures within { IfOk result (λ bytes. length bytes.items ≤ limit) }
 
-    // Where the reader tells what it has left, they are those bytes, or there are more than limit.
+    // Where the reader tells what it has left, they are those bytes, or there are more than limit. At the last limit
+    // of all nothing is said, since no read could find one byte more.
     ensures content { limit < 2 ^ 64 - 1 → IfSome (R.remaining reader) (λ bytes. ReadsFrom (Some bytes) limit result) }
 {
     let mut bytes = Vec::new(alloc);

@@ -11,6 +11,7 @@ use crate::traits::Files;
 use std::alloc::{AllocError, Global};
 use wf_val::Text;
 
+/// A file's bytes under its name.
 #[derive(Drop)]
 pub struct MemFile {
     name: Text,

@@ -5,7 +5,7 @@ use crate::faults::Failed;
 use crate::traits::{Sink, Source};
 use std::io::Read;
 
-/// The standard input.
+/// The standard input. It keeps nothing back: what a call doesn't give stays in the stream.
 #[derive(Drop)]
 pub struct StdSource<'a, R: Input> {
     rt: &'a R,
@@ -37,7 +37,8 @@ impl<'a, R: Input> Source for StdSource<'a, R> {
     }
 }
 
-/// The standard output.
+/// The standard output. It keeps nothing back: what a call takes was handed to the system, and a stream that takes
+/// nothing has failed.
 #[derive(Drop)]
 pub struct StdSink<'a, R: Print> {
     rt: &'a R,
