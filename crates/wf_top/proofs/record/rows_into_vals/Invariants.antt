@@ -1,0 +1,7 @@
+use Rattle.std.proofs.Common.{◌≡◌, map}
+use Rattle.wf_top.specs.Record.{row_value}
+use Rattle.wf_top.specs.Seen.{row_tree}
+use Rattle.wf_top.proofs.record.rows_into_vals.Given as goal
+
+abbrev pub invariant-loop-row : goal.invariant-loop-row
+invariant-loop-row l = l.values ≡ map row_value (map row_tree l.yielded)

@@ -1,0 +1,42 @@
+use Rattle.std.proofs.Common.{ap}
+use Rattle.std.specs.Option.{option_map}
+use Rattle.wf_top.specs.Commands.{plan}
+use Rattle.wf_top.proofs.Asked.{failed_word}
+use Rattle.wf_top.proofs.Endings.{serves_le, serves_told, serves_two, serves_misused, serves_three, serves_unread, no_command}
+use Rattle.wf_top.proofs.Ends.{serves_definition, serves_inputs, serves_ran, serves_whole}
+use Rattle.wf_top.proofs.serve.serve_words.Goals as goal
+
+pub returns-clause-status : goal.returns-clause-status
+returns-clause-status g c = serves_le _ _ _ _ _ _ _ c.serve.ensures.outcome
+
+pub returns-clause-said : goal.returns-clause-said
+returns-clause-said g c = serves_told _ _ _ _ _ _ _ _ _ c.serve.ensures.outcome c.serve.ensures.only
+
+pub returns-clause-two : goal.returns-clause-two
+returns-clause-two g c = λ two. no_command (λ command. plan command c.args.words.now) _ (serves_two _ _ _ _ _ _ _ c.serve.ensures.outcome two)
+
+pub returns-clause-misused : goal.returns-clause-misused
+returns-clause-misused g c = λ none.
+    serves_misused _ _ _ _ _ _ _ c.serve.ensures.outcome (ap (λ o. option_map (λ command. plan command c.args.words.now) o) none)
+
+pub returns-clause-three : goal.returns-clause-three
+returns-clause-three g c = serves_three _ _ _ _ _ _ _ c.serve.ensures.outcome
+
+pub returns-clause-unread : goal.returns-clause-unread
+returns-clause-unread g c = serves_unread _ _ _ _ _ _ _ c.serve.ensures.outcome
+
+pub returns-clause-word : goal.returns-clause-word
+returns-clause-word g c = λ name failed. failed_word _ _ _ _ _ failed
+
+pub returns-clause-ran : goal.returns-clause-ran
+returns-clause-ran g c = serves_ran _ _ _ _ _ _ _ c.serve.ensures.outcome
+
+pub returns-clause-complete : goal.returns-clause-complete
+returns-clause-complete g c =
+    serves_whole _ _ _ _ _ _ _ _ _ (serves_told _ _ _ _ _ _ _ _ _ c.serve.ensures.outcome c.serve.ensures.only)
+
+pub returns-clause-refused_definition : goal.returns-clause-refused_definition
+returns-clause-refused_definition g c = serves_definition _ _ _ _ _ _ _ c.serve.ensures.outcome
+
+pub returns-clause-refused_inputs : goal.returns-clause-refused_inputs
+returns-clause-refused_inputs g c = serves_inputs _ _ _ _ _ _ _ c.serve.ensures.outcome

@@ -1,0 +1,125 @@
+-- Which values are definitions and inputs of the plain form, the one that this program runs so far.
+-- Members that aren't named here are ignored.
+use Rattle.std.specs.Prelude.{ℕ, ◌^◌, List, [], ◌∷◌, length, Bool, true, false, not, ◌&&◌, ◌==◌, Option, None, Some, is_none, if◌then◌else◌, nat_le, codes}
+use Rattle.std.specs.List.{list_all}
+use Rattle.std.specs.Option.{option_map, option_map_or, option_and_then}
+use Rattle.std.specs.Str.{chars, str_eq_ignore_ascii_case}
+use Rattle.sha2.specs.Sha256.{sha256}
+use Rattle.wf_val.specs.ValueTree.{ValueTree, null, boolean, number, text, list, object, ValueTrees, no_values, value_then, MemberTrees, no_members, member_then, Member, pairs, depth, weight}
+use Rattle.wf_val.specs.Get.{get, is_object}
+use Rattle.wf_json.specs.Json.{json}
+use Rattle.wf_top.specs.Definition.{ActionTree, DefinitionTree, InputsTree}
+use Rattle.wf_top.specs.declared.TheConstants.{MOST_ACTIONS, ACTION_NAME_LIMIT, RUN_NAME_LIMIT}
+
+-- A byte of a text that isn't a control character: those are U+0000 to U+001F and U+007F, one byte each in UTF-8, where
+-- the bytes of longer characters are above them.
+abbrev pub is_printable : ℕ → Bool
+is_printable b = nat_le 32 b && not (b == 127)
+
+-- a name of 1 to `most` characters, none of them a control character
+abbrev pub is_name : ℕ → List ℕ → Bool
+is_name most s = nat_le 1 (length (chars s)) && nat_le (length (chars s)) most && list_all is_printable s
+
+-- the members of an object, those of an absent one being none
+abbrev pub members_in : Option ValueTree → Option (List Member)
+members_in None = Some []
+members_in (Some (object ms)) = Some (pairs ms)
+members_in (Some t) = None
+
+-- An absent member counts as `{}`.
+abbrev pub is_absent_or_empty : Option ValueTree → Bool
+is_absent_or_empty value = option_map_or (λ ms. length ms == 0) (members_in value) false
+
+abbrev pub is_text : Option ValueTree → Bool
+is_text (Some (text s)) = true
+is_text t = false
+
+-- the member is a type of this name; letter case doesn't count in ASCII
+abbrev pub is_type : List ℕ → Option ValueTree → Bool
+is_type name (Some (text s)) = str_eq_ignore_ascii_case s name
+is_type name t = false
+
+-- The bounds of a value of an expression.
+abbrev pub fits : ValueTree → Bool
+fits t = nat_le (depth t) 64 && nat_le (weight t) (2 ^ 20)
+
+-- A text without `@` stands for itself; one with it may hold an expression.
+abbrev pub is_literal_text : List ℕ → Bool
+is_literal_text s = list_all (λ b. not (b == 64)) s
+
+-- each text in the value stands for itself
+abbrev mutual
+  pub is_literal : ValueTree → Bool
+  is_literal null = true
+  is_literal (boolean b) = true
+  is_literal (number n) = true
+  is_literal (text s) = is_literal_text s
+  is_literal (list ts) = are_literal ts
+  is_literal (object ms) = have_literals ms
+
+  pub are_literal : ValueTrees → Bool
+  are_literal no_values = true
+  are_literal (value_then t ts) = is_literal t && are_literal ts
+
+  pub have_literals : MemberTrees → Bool
+  have_literals no_members = true
+  have_literals (member_then k t ms) = is_literal t && have_literals ms
+
+-- the `inputs` of a plain action
+abbrev pub plain_inputs : Option ValueTree → Option ValueTree
+plain_inputs None = None
+plain_inputs (Some t) = if fits t && is_literal t then Some t else None
+
+-- A plain action is of type Compose, waits for no other, and tracks nothing; its inputs are judged apart.
+abbrev pub is_plain_action : Member → Bool
+is_plain_action m =
+    is_name ACTION_NAME_LIMIT m.0 && is_type (codes "Compose") (get (codes "type") m.1)
+    && is_absent_or_empty (get (codes "runAfter") m.1) && is_none (get (codes "trackedProperties") m.1)
+
+-- the action that a member is
+abbrev pub action_of : Member → Option ActionTree
+action_of m =
+    if is_plain_action m
+    then option_map (λ inputs. record { name = m.0; after = []; inputs = inputs }) (plain_inputs (get (codes "inputs") m.1))
+    else None
+
+-- the actions of these members, where each of them is plain
+abbrev pub actions_of : List Member → Option (List ActionTree)
+actions_of [] = Some []
+actions_of (m ∷ ms) = option_and_then (λ action. option_map (λ more. action ∷ more) (actions_of ms)) (action_of m)
+
+-- so many members are actions of a plain definition
+abbrev pub few_actions : List Member → Option (List ActionTree)
+few_actions ms = if nat_le (length ms) MOST_ACTIONS then actions_of ms else None
+
+-- the actions of a definition whose member `actions` this is
+abbrev pub plain_actions : Option ValueTree → Option (List ActionTree)
+plain_actions value = option_and_then few_actions (members_in value)
+
+-- A plain definition is the definition itself, not wrapped, and has no parameters, triggers and outputs.
+abbrev pub is_bare : ValueTree → Bool
+is_bare t =
+    is_object t && is_none (get (codes "definition") t) && is_absent_or_empty (get (codes "parameters") t)
+    && is_absent_or_empty (get (codes "triggers") t) && is_absent_or_empty (get (codes "outputs") t)
+
+-- The definition that a value is. Its digest is the SHA-256 of its compact text.
+unfoldable pub definition_of : ValueTree → Option DefinitionTree
+definition_of t =
+    if is_bare t
+    then option_map (λ actions. record { digest = sha256 (json t); actions = actions }) (plain_actions (get (codes "actions") t))
+    else None
+
+-- the name of a run
+abbrev pub run_name : Option ValueTree → Option (List ℕ)
+run_name (Some (text s)) = if is_name RUN_NAME_LIMIT s then Some s else None
+run_name t = None
+
+-- Plain inputs name the run and the moment, and hand in nothing else.
+abbrev pub hands_in_no_more : ValueTree → Bool
+hands_in_no_more t =
+    is_text (get (codes "moment") t) && is_none (get (codes "seed") t) && is_none (get (codes "trigger") t)
+    && is_none (get (codes "outputs") t) && is_none (get (codes "parameters") t) && is_none (get (codes "answers") t)
+
+-- the inputs that a value is
+unfoldable pub inputs_of : ValueTree → Option InputsTree
+inputs_of t = if hands_in_no_more t then option_map (λ run. record { run = run }) (run_name (get (codes "run") t)) else None

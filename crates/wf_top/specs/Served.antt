@@ -1,0 +1,108 @@
+-- How a call ends, and what it wrote.
+use Rattle.std.specs.Prelude.{◌≡◌, ◌⊎◌, ℕ, ◌≤◌, List, [], ◌∷◌, ◌++◌, length, take, Option, None, Some, Result, Ok, Err, IsSomeAnd, codes}
+use Rattle.std.specs.Io.KnownBytes.{Appends}
+use Rattle.std.specs.Option.{option_map}
+use Rattle.wf_outside.specs.Outside.{Held}
+use Rattle.wf_top.specs.Plan.{Plan, EndsWith, ComesTo, ending}
+use Rattle.wf_top.specs.Commands.{plan_of, printed}
+use Rattle.wf_top.specs.declared.said.Verdict.{Verdict}
+use Rattle.wf_top.specs.declared.said.Verdict.TheVariants.{Done, Definition, Inputs}
+use Rattle.wf_top.specs.declared.said.Said.{Said}
+use Rattle.wf_top.specs.declared.load.Stop.{Stop}
+use Rattle.wf_top.specs.declared.load.Stop.TheVariants.{CannotRead, Memory}
+
+-- the number that the program ends with
+abbrev pub number : Verdict → ℕ
+number Done = 0
+number Definition = 1
+number Inputs = 6
+
+abbrev pub usage : List ℕ
+usage =
+    codes "usage: wflow check DEF | run DEF INPUTS [SCHEDULE] | trace DEF INPUTS SCHEDULE | resubmit DEF HISTORY RUN ACTION INPUTS [SCHEDULE] | list HISTORY | drill N\n"
+
+-- the line of a file that couldn't be read
+abbrev pub cannot_read : List ℕ → List ℕ
+cannot_read name = codes "cannot read " ++ printed name ++ 10 ∷ []
+
+abbrev pub out_of_memory : List ℕ
+out_of_memory = codes "out of memory\n"
+
+-- How a call ends: the words are no command, the command speaks, a file of this name couldn't be read, or
+-- there was no memory.
+pub data Ending : Type 0 where
+  Misused : Ending
+  Speaks : Verdict → List ℕ → Ending
+  Unread : List ℕ → Ending
+  Spent : Ending
+
+abbrev pub status_of : Ending → ℕ
+status_of Misused = 2
+status_of (Speaks status text) = number status
+status_of (Unread name) = 3
+status_of Spent = 5
+
+abbrev pub text_of : Ending → List ℕ
+text_of Misused = usage
+text_of (Speaks status text) = text
+text_of (Unread name) = cannot_read name
+text_of Spent = out_of_memory
+
+-- The list of failed names grew by one, whose turn had come.
+abbrev pub GrewBy : Held → Plan → List (List ℕ) → List (List ℕ) → List ℕ → Type 0
+GrewBy held plan old new name = ComesTo held plan name × (new ≡ old ++ name ∷ [])
+
+-- The plan comes to this ending, and does this to the list of failed names.
+abbrev pub Reaches : Held → Plan → List (List ℕ) → List (List ℕ) → Ending → Type 0
+Reaches held plan old new Misused = ⊥
+Reaches held plan old new (Speaks status text) = (new ≡ old) × EndsWith held plan status text
+Reaches held plan old new (Unread name) = GrewBy held plan old new name
+Reaches held plan old new Spent = (new ≡ old) ⊎ ((name : List ℕ) × GrewBy held plan old new name)
+
+-- The words come to this ending. None is the plan of words that are no command.
+abbrev pub Comes : Held → Option Plan → List (List ℕ) → List (List ℕ) → Ending → Type 0
+Comes held None old new e = (e ≡ Misused) × (new ≡ old)
+Comes held (Some plan) old new e = Reaches held plan old new e
+
+-- what following a plan gave
+abbrev pub ending_of : Result Said Stop → Ending
+ending_of (Ok said) = Speaks said.verdict said.text.items
+ending_of (Err (CannotRead name)) = Unread name
+ending_of (Err Memory) = Spent
+
+abbrev pub Follows : Held → Plan → List (List ℕ) → List (List ℕ) → Result Said Stop → Type 0
+Follows held plan old new result = Reaches held plan old new (ending_of result)
+
+-- known bytes grow by a front of bs
+abbrev pub AppendsFront : Option (List ℕ) → Option (List ℕ) → List ℕ → Type 0
+AppendsFront old new bs = (n : ℕ) × (n ≤ length bs) × Appends old new (take n bs)
+
+-- All of a text was taken, and the status is its own; or a front of it, and the status is 4.
+abbrev pub Writes : Option (List ℕ) → Option (List ℕ) → ℕ → List ℕ → ℕ → Type 0
+Writes before after status text result =
+    ((result ≡ status) × Appends before after text) ⊎ ((result ≡ 4) × AppendsFront before after text)
+
+-- The whole of a call: its words came to an ending, of which it wrote the text.
+pub record Serves (held : Held) (plan : Option Plan) (old new : List (List ℕ)) (before after : Option (List ℕ)) (result : ℕ) : Type 0 where
+  pub end : Ending
+  pub comes : Comes held plan old new end
+  pub writes : Writes before after (status_of end) (text_of end) result
+
+-- what a plan says over files that tell, with None for words that are no command
+abbrev pub said_of : (List ℕ → Option (List ℕ)) → Option Plan → Option (ℕ × List ℕ)
+said_of bytes_of None = Some (2, usage)
+said_of bytes_of (Some plan) = option_map (λ said. (number said.0, said.1)) (ending bytes_of plan)
+
+-- What the words say over files that tell: a status and a whole text, or None where one of the files isn't there.
+abbrev pub say : (List ℕ → Option (List ℕ)) → List (List ℕ) → Option (ℕ × List ℕ)
+say bytes_of words = said_of bytes_of (plan_of words)
+
+-- That was answered, and all of it written; or memory ran out.
+abbrev pub IsSaid : Option (ℕ × List ℕ) → Option (List ℕ) → Option (List ℕ) → ℕ → Type 0
+IsSaid said before after result =
+    IsSomeAnd said (λ s. (result ≡ s.0) × Appends before after s.1) ⊎ ((result ≡ 5) × Appends before after out_of_memory)
+
+-- The read of this name failed, and its turn had come.
+abbrev pub FailedAt : Held → Option Plan → List (List ℕ) → List (List ℕ) → List ℕ → Type 0
+FailedAt held None old new name = ⊥
+FailedAt held (Some plan) old new name = GrewBy held plan old new name

@@ -1,0 +1,179 @@
+// The top call, and the commands behind it.
+ghost use Rattle.std.specs.Prelude.{◌≡◌, ◌≢◌, ◌⊎◌, ◌<◌, ◌≤◌, ℕ, List, Ok, Some, None, Contains, IfOk, IfErr, IfSome};
+ghost use Rattle.std.specs.Io.KnownBytes.{Appends};
+ghost use Rattle.wf_outside.specs.Outside.{IsCalm, Rose};
+ghost use Rattle.wf_top.specs.Commands.{command_of, plan, fault_line, plan_of, run, run_definition, run_text};
+ghost use Rattle.wf_top.specs.Definition.{DefinitionTree, InputsTree};
+ghost use Rattle.wf_top.specs.Ran.{IsWhole, PassesAll, Ran, RefusedDefinition, RefusedInputs};
+ghost use Rattle.wf_top.specs.Seen.{definition_tree};
+ghost use Rattle.wf_top.specs.Served.{FailedAt, Follows, IsSaid, Serves, cannot_read, say};
+
+use crate::definition::Definition;
+use crate::form::{FormFault, definition_form, fault_line, inputs_form, printed};
+use crate::load::{Stop, load};
+use crate::put::close;
+use crate::run::run_text;
+use crate::said::{Said, Verdict};
+use crate::words::{Command, parse_words};
+use crate::{DEFINITION_LIMIT, INPUTS_LIMIT};
+use std::alloc::{AllocError, Global};
+use wf_outside::{Files, Sink, Source};
+use wf_val::Text;
+
+const USAGE: &[u8] =
+    b"usage: wflow check DEF | run DEF INPUTS [SCHEDULE] | trace DEF INPUTS SCHEDULE | resubmit DEF HISTORY RUN ACTION INPUTS [SCHEDULE] | list HISTORY | drill N\n";
+
+const OUT_OF_MEMORY: &[u8] = b"out of memory\n";
+
+// A fault of a file, said with the verdict on such files.
+fn say_fault(alloc: Global, verdict: Verdict, front: &[u8], fault: FormFault) -> Result<Said, Stop>
+    ensures said { IfOk result (λ said. (fault ≢ FormFault.Memory) × (said.verdict ≡ verdict) × (said.text.items ≡ fault_line front.now fault)) }
+    ensures stopped { IfErr result (λ stop. stop ≡ Stop.Memory) }
+{
+    match fault {
+        FormFault::Memory => Err(Stop::Memory),
+        fault => Ok(Said {
+            verdict,
+            text: fault_line(alloc, front, fault)?,
+        }),
+    }
+}
+
+fn run_inputs<F: Files>(
+    alloc: Global,
+    files: &mut F,
+    definition: Definition,
+    inputs: &Text,
+) -> Result<Said, Stop>
+    ensures { Follows (F.held files.old) (run_definition inputs.now (Ok (definition_tree definition))) (F.failed files.old) (F.failed files.new) result }
+{
+    let file = load(alloc, files, inputs, INPUTS_LIMIT)?;
+    match inputs_form(alloc, file) {
+        Err(fault) => say_fault(alloc, Verdict::Inputs, b"inputs ", fault),
+        Ok(inputs) => Ok(Said {
+            verdict: Verdict::Done,
+            text: run_text(alloc, definition, inputs)?,
+        }),
+    }
+}
+
+fn run_files<F: Files>(
+    alloc: Global,
+    files: &mut F,
+    definition: &Text,
+    inputs: &Text,
+) -> Result<Said, Stop>
+    ensures { Follows (F.held files.old) (run definition.now inputs.now) (F.failed files.old) (F.failed files.new) result }
+{
+    let file = load(alloc, files, definition, DEFINITION_LIMIT)?;
+    match definition_form(alloc, file) {
+        Err(fault) => say_fault(alloc, Verdict::Definition, b"definition ", fault),
+        Ok(definition) => run_inputs(alloc, files, definition, inputs),
+    }
+}
+
+// Follows the command that the words are.
+#[tactic(auto, unfolding(crate::specs::Commands::plan))]
+fn follow<F: Files>(
+    alloc: Global,
+    words: &[Text],
+    command: Command,
+    files: &mut F,
+) -> Result<Said, Stop>
+    requires { command_of words.now ≡ Some command }
+    ensures { Follows (F.held files.old) (plan command words.now) (F.failed files.old) (F.failed files.new) result }
+{
+    match command {
+        Command::Run => run_files(alloc, files, &words[1], &words[2]),
+    }
+}
+
+fn unread_line(alloc: Global, name: Text) -> Result<Vec<u8>, AllocError>
+    ensures { IfOk result (λ line. line.items ≡ cannot_read name) }
+{
+    let mut line = b"cannot read ".to_vec(alloc)?;
+    line.extend_from_slice(&printed(alloc, name)?)?;
+    line.push(b'\n')?;
+    Ok(line)
+}
+
+fn serve<F: Files, O: Sink>(alloc: Global, words: &[Text], files: &mut F, out: &mut O) -> u8
+    ensures outcome { Serves (F.held files.old) (plan_of words.now) (F.failed files.old) (F.failed files.new) (O.taken out.old) (O.taken out.new) result }
+    ensures only { result ≡ 4 → Rose (O.faults out.old) (O.faults out.new) }
+    ensures always { O.faults out.old < O.faults out.new → result ≡ 4 }
+{
+    let Some(command) = parse_words(words) else {
+        return close(out, 2, USAGE);
+    };
+    match follow(alloc, words, command, files) {
+        Ok(said) => close(out, said.verdict.number(), &said.text),
+        Err(Stop::CannotRead(name)) => match unread_line(alloc, name) {
+            Ok(line) => close(out, 3, &line),
+            Err(_) => close(out, 5, OUT_OF_MEMORY),
+        },
+        Err(Stop::Memory) => close(out, 5, OUT_OF_MEMORY),
+    }
+}
+
+/// Does what the words after the program's name ask for, and answers the status that the program ends with.
+pub fn serve_words<F: Files, I: Source, O: Sink>(
+    alloc: Global,
+    words: &[Text],
+    files: &mut F,
+    input: &mut I,
+    out: &mut O,
+) -> u8
+    ensures status { result ≤ 8 }
+
+    // Where the files tell and no count rose, what the words say is answered and all of it written; or memory ran out.
+    ensures said { IfSome (F.held files.old) (λ bytes_of.
+        F.failed files.new ≡ F.failed files.old → IsCalm (O.faults out.old) (O.faults out.new) →
+        IsSaid (say bytes_of words.now) (O.taken out.old) (O.taken out.new) result) }
+
+    // In any case the words come to one ending, and its status is answered and its text written; or with 4 a front of
+    // the text.
+    ensures outcome { Serves (F.held files.old) (plan_of words.now) (F.failed files.old) (F.failed files.new)
+        (O.taken out.old) (O.taken out.new) result }
+
+    // 0 comes where a definition and inputs were read, and the sink took exactly the line of the record that they mean
+    // and its summary line.
+    ensures ran { result ≡ 0 → Ran (F.held files.old) words.now (O.taken out.old) (O.taken out.new) }
+
+    // Where all tests pass and no count rose, that comes and nothing else, but for want of memory.
+    ensures complete { IfSome (F.held files.old) (λ bytes_of. (definition : DefinitionTree) (inputs : InputsTree) →
+        PassesAll bytes_of words.now definition inputs →
+        F.failed files.new ≡ F.failed files.old → IsCalm (O.faults out.old) (O.faults out.new) →
+        IsWhole (O.taken out.old) (O.taken out.new) (run_text definition inputs) result) }
+
+    // 1 comes where the first file gave no definition, and 6 where it gave one and the second gave no inputs.
+    ensures refused_definition { result ≡ 1 → RefusedDefinition (F.held files.old) words.now (O.taken out.old) (O.taken out.new) }
+    ensures refused_inputs { result ≡ 6 → RefusedInputs (F.held files.old) words.now (O.taken out.old) (O.taken out.new) }
+
+    // 2 comes where the words are no command, and always there, 4 apart.
+    ensures two { result ≡ 2 → command_of words.now ≡ None }
+    ensures misused { command_of words.now ≡ None → (result ≡ 2) ⊎ (result ≡ 4) }
+
+    // 3 comes where the read of a name failed whose turn had come, and always there, 4 and 5 apart.
+    ensures three { result ≡ 3 → (name : List ℕ)
+        × FailedAt (F.held files.old) (plan_of words.now) (F.failed files.old) (F.failed files.new) name
+        × Appends (O.taken out.old) (O.taken out.new) (cannot_read name) }
+    ensures unread { (F.failed files.new ≡ F.failed files.old) ⊎ ((name : List ℕ)
+        × FailedAt (F.held files.old) (plan_of words.now) (F.failed files.old) (F.failed files.new) name
+        × ((result ≡ 3) ⊎ (result ≡ 4) ⊎ (result ≡ 5))) }
+
+    // The name is one of the words.
+    ensures word { (name : List ℕ)
+        → FailedAt (F.held files.old) (plan_of words.now) (F.failed files.old) (F.failed files.new) name
+        → Contains words.now name }
+
+    // 4 comes where the sink's count rose, and always there.
+    ensures four { result ≡ 4 → Rose (O.faults out.old) (O.faults out.new) }
+    ensures unwritten { O.faults out.old < O.faults out.new → result ≡ 4 }
+
+    // The source stays as it was.
+    ensures source_faults { I.faults input.new ≡ I.faults input.old }
+    ensures source_left { I.left input.new ≡ I.left input.old }
+{
+    let _ = input;
+    serve(alloc, words, files, out)
+}

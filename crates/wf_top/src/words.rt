@@ -1,0 +1,23 @@
+// The words of a command.
+ghost use Rattle.std.specs.Prelude.{◌≡◌};
+ghost use Rattle.wf_top.specs.Commands.{command_of};
+
+use wf_val::Text;
+
+/// A command of the program.
+#[derive(Clone, Copy, Debug, PartialEq, Eq)]
+pub enum Command {
+    /// `run DEF INPUTS`: runs a definition and prints the run's record.
+    Run,
+}
+
+/// The command that the words after the program's name are, or `None` where they are no command. It takes no memory.
+pub fn parse_words(words: &[Text]) -> Option<Command>
+    ensures { result ≡ command_of words.now }
+{
+    let (name, rest) = words.split_first()?;
+    match (name.as_str(), rest.len()) {
+        ("run", 2) => Some(Command::Run),
+        _ => None,
+    }
+}
