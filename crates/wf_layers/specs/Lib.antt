@@ -1,0 +1,5 @@
+pub mod Row
+pub mod Tree
+pub mod Machine
+pub mod Resume
+pub mod Vars
