@@ -1,5 +1,7 @@
-pub mod Row
-pub mod Tree
+pub mod Definition
+pub mod Address
+pub mod Source
+pub mod Meaning
+pub mod Rule
 pub mod Machine
-pub mod Resume
-pub mod Vars
+pub mod Laws

@@ -1,67 +1,83 @@
--- The event machine over a definition with containers.
-use Rattle.std.specs.Prelude.{◌≡◌, ℕ, zero, suc, ◌+◌, ◌<◌, ◌≤◌, Bool, true, false, ◌&&◌, ◌||◌, cond, List, [], ◌∷◌, ◌++◌, Option, Some, None, nat_eq, ◌⊎◌}
-use Rattle.wf_layers.specs.Row.{Row, skipped, Need, has_ended, Names}
-use Rattle.wf_layers.specs.Tree.{Address, address, Table, Kind, Leaf, Scope, Choice, Foreach, Until, Graph, done, add, has, holds, is_own, is_within, skip, skip_all, gate, Sem, only, taken_number, meaning}
+-- The event machine over a definition: a state, its enabled events, and what each does.
+use Rattle.std.specs.Prelude.{◌≡◌, ℕ, zero, suc, ◌<◌, Bool, true, false, ◌&&◌, cond, List, [], ◌∷◌, ◌++◌, Option, Some, None, ◌⊎◌}
+use Rattle.wf_layers.specs.Definition.{Need, Pace, InTurn, AtMost, Kind, Leaf, Scope, Choice, Foreach, Until, Branches, no_branch, branch, Graph, done, add, is_one, less_one, branch_at}
+use Rattle.wf_layers.specs.Address.{Address, address, Table, is_own, is_within}
+use Rattle.wf_layers.specs.Source.{Source, gate}
+use Rattle.wf_layers.specs.Meaning.{only, skip, skip_all}
 
--- an open container: its decision, its next index, and an Until's last test
-pub record Opening : Type 0 where
-  pub number : ℕ
+-- A running leaf: what its Start gave, and how many attempts it has made.
+pub record Running (Begun : Type 0) : Type 0 where
+  pub begun : Begun
+  pub tries : ℕ
+
+-- An open container: its decision, the index of its next iteration, and an Until's test of the last one.
+pub record Opening (Decision Verdict : Type 0) : Type 0 where
+  pub decision : Decision
   pub next : ℕ
-  pub test : Option Bool
+  pub test : Option Verdict
 
-abbrev pub Openings : Type 0
-Openings = Address → Option Opening
+pub record State (Row Begun Decision Verdict : Type 0) : Type 0 where
+  pub rows : Table Row
+  pub running : Table (Running Begun)
+  pub opens : Table (Opening Decision Verdict)
 
-pub record State : Type 0 where
-  pub rows : Table
-  pub running : Table
-  pub opens : Openings
-
-abbrev pub fresh : State
+-- The state of a run that begins.
+abbrev pub fresh : {Row Begun Decision Verdict : Type 0} → State Row Begun Decision Verdict
 fresh = record { rows = λ x. None; running = λ x. None; opens = λ x. None }
 
--- the action stands in the graph
+-- The action stands in the graph.
 pub data In : Graph → ℕ → List Need → Kind → Type 0 where
   here : {n : ℕ} {after : List Need} {kind : Kind} {rest : Graph} → In (add n after kind rest) n after kind
   there : {n m : ℕ} {after before : List Need} {kind other : Kind} {rest : Graph} → In rest n after kind → In (add m before other rest) n after kind
 
--- the graph is open at these indexes
-pub data IsOpen (d : Graph) (o : Openings) : Graph → List ℕ → Type 0 where
-  top : IsOpen d o d []
-  scope : {g h : Graph} {i : List ℕ} {n : ℕ} {after : List Need} {w : Opening} → IsOpen d o g i → In g n after (Scope h) → o (address n i) ≡ Some w → IsOpen d o h i
-  left : {g a b : Graph} {i : List ℕ} {n : ℕ} {after : List Need} {w : Opening} → IsOpen d o g i → In g n after (Choice a b) → o (address n i) ≡ Some w → w.number ≡ 1 → IsOpen d o a i
-  right : {g a b : Graph} {i : List ℕ} {n : ℕ} {after : List Need} {w : Opening} → IsOpen d o g i → In g n after (Choice a b) → o (address n i) ≡ Some w → w.number ≡ 2 → IsOpen d o b i
-  turn : {g h : Graph} {i : List ℕ} {n : ℕ} {after : List Need} {in_turn : Bool} {w : Opening} (j : ℕ) → IsOpen d o g i → In g n after (Foreach in_turn h) → o (address n i) ≡ Some w → j < w.next → IsOpen d o h (i ++ j ∷ [])
-  round : {g h : Graph} {i : List ℕ} {n most : ℕ} {after : List Need} {w : Opening} (j : ℕ) → IsOpen d o g i → In g n after (Until most h) → o (address n i) ≡ Some w → j < w.next → IsOpen d o h (i ++ j ∷ [])
+-- The graph is open at these indexes: it is the whole definition, that of an open Scope, the taken branch of an open Choice, or that of a begun iteration.
+pub data IsOpen {Decision Verdict : Type 0} (taken : Decision → ℕ) (d : Graph) (o : Table (Opening Decision Verdict)) : Graph → List ℕ → Type 0 where
+  top : IsOpen taken d o d []
+  scope : {g h : Graph} {i : List ℕ} {n : ℕ} {after : List Need} {w : Opening Decision Verdict} → IsOpen taken d o g i → In g n after (Scope h) → o (address n i) ≡ Some w → IsOpen taken d o h i
+  chosen : {g b : Graph} {i : List ℕ} {n : ℕ} {after : List Need} {bs : Branches} {w : Opening Decision Verdict} → IsOpen taken d o g i → In g n after (Choice bs) → o (address n i) ≡ Some w → branch_at bs (taken w.decision) ≡ Some b → IsOpen taken d o b i
+  turn : {g h : Graph} {i : List ℕ} {n : ℕ} {after : List Need} {pace : Pace} {w : Opening Decision Verdict} (j : ℕ) → IsOpen taken d o g i → In g n after (Foreach pace h) → o (address n i) ≡ Some w → j < w.next → IsOpen taken d o h (i ++ j ∷ [])
+  round : {g h : Graph} {i : List ℕ} {n most : ℕ} {after : List Need} {w : Opening Decision Verdict} (j : ℕ) → IsOpen taken d o g i → In g n after (Until most h) → o (address n i) ≡ Some w → j < w.next → IsOpen taken d o h (i ++ j ∷ [])
 
--- each of the graph's actions has a row
-abbrev pub IsEnded : Graph → List ℕ → Table → Type 0
-IsEnded done i t = Unit {0}
-IsEnded (add n after kind rest) i t = (has_ended (t (address n i)) ≡ true) × IsEnded rest i t
+abbrev pub has_ended : {A : Type 0} → Option A → Bool
+has_ended None = false
+has_ended (Some r) = true
 
-abbrev pub all_ended : List Need → List ℕ → Table → Bool
+-- Each of the graph's actions has a row.
+abbrev pub is_ended : {A : Type 0} → Graph → List ℕ → Table A → Bool
+is_ended done i t = true
+is_ended (add n after kind rest) i t = has_ended (t (address n i)) && is_ended rest i t
+
+-- All that an action waits for have rows.
+abbrev pub all_ended : {A : Type 0} → List Need → List ℕ → Table A → Bool
 all_ended [] i t = true
 all_ended (n ∷ ns) i t = has_ended (t (address n.name i)) && all_ended ns i t
 
-abbrev pub or_row : Option Row → Option Row → Option Row
-or_row None q = q
-or_row (Some r) q = Some r
+-- How many of the first c iterations have an action without a row.
+abbrev pub unfinished : {A : Type 0} → Graph → List ℕ → Table A → ℕ → ℕ
+unfinished g i t zero = 0
+unfinished g i t (suc j) = cond (is_ended g (i ++ j ∷ []) t) (unfinished g i t j) (suc (unfinished g i t j))
 
--- the rows with new ones
-abbrev pub place : Table → Table → Table
-place new t y = or_row (new y) (t y)
+abbrev pub or_else : {A : Type 0} → Option A → Option A → Option A
+or_else None q = q
+or_else (Some r) q = Some r
 
-abbrev pub one : ℕ → List ℕ → Row → Table
+-- A table with new entries, with one entry, without one, and with one replaced.
+abbrev pub place : {A : Type 0} → Table A → Table A → Table A
+place new t y = or_else (new y) (t y)
+
+abbrev pub one : {A : Type 0} → ℕ → List ℕ → A → Table A
 one n i r y = only (is_own n i y) (Some r)
 
-abbrev pub without : ℕ → List ℕ → Table → Table
+abbrev pub without : {A : Type 0} → ℕ → List ℕ → Table A → Table A
 without n i t y = cond (is_own n i y) None (t y)
 
-abbrev pub opened : ℕ → List ℕ → Option Opening → Openings → Openings
+abbrev pub opened : {A : Type 0} → ℕ → List ℕ → Option A → Table A → Table A
 opened n i w o y = cond (is_own n i y) w (o y)
 
+-- The eight kinds of event, each at an address.
 pub data Event : Type 0 where
   Start : (n : ℕ) (i : List ℕ) → Event
+  Try : (n : ℕ) (i : List ℕ) → Event
   End : (n : ℕ) (i : List ℕ) → Event
   Skip : (n : ℕ) (i : List ℕ) → Event
   Open : (n : ℕ) (i : List ℕ) → Event
@@ -69,147 +85,115 @@ pub data Event : Type 0 where
   Test : (n : ℕ) (i : List ℕ) → Event
   Close : (n : ℕ) (i : List ℕ) → Event
 
--- it stands in an open graph
-pub record IsThere (d : Graph) (s : State) (n : ℕ) (i : List ℕ) (after : List Need) (kind : Kind) : Type 0 where
-  pub graph : Graph
-  pub is_open : IsOpen d s.opens graph i
-  pub is_in : In graph n after kind
-
-pub record IsDecided (d : Graph) (s : State) (n : ℕ) (i : List ℕ) (after : List Need) (kind : Kind) : Type 0 where
-  pub is_there : IsThere d s n i after kind
-  pub no_row : s.rows (address n i) ≡ None
-  pub not_running : s.running (address n i) ≡ None
-  pub not_open : s.opens (address n i) ≡ None
-  pub ended : all_ended after i s.rows ≡ true
-
--- what a container decides as it opens
-abbrev pub decision : Sem → Kind → Address → Table → ℕ
-decision m Leaf x t = 0
-decision m (Scope g) x t = 0
-decision m (Choice a b) x t = taken_number (m.choose x t)
-decision m (Foreach in_turn g) x t = m.count x t
-decision m (Until most g) x t = 0
-
--- Skipped rows of the branches that are not taken
-abbrev pub not_taken : Graph → Graph → ℕ → List ℕ → Table
-not_taken a b zero i y = or_row (skip_all a i y) (skip_all b i y)
-not_taken a b (suc zero) i y = skip_all b i y
-not_taken a b (suc (suc x)) i y = skip_all a i y
-
-abbrev pub passed_over : Kind → ℕ → List ℕ → Table
-passed_over (Choice a b) number i y = not_taken a b number i y
-passed_over Leaf number i y = None
-passed_over (Scope g) number i y = None
-passed_over (Foreach in_turn g) number i y = None
-passed_over (Until most g) number i y = None
-
 abbrev pub IsContainer : Kind → Type 0
 IsContainer Leaf = ⊥
 IsContainer (Scope g) = Unit {0}
-IsContainer (Choice a b) = Unit {0}
-IsContainer (Foreach in_turn g) = Unit {0}
+IsContainer (Choice bs) = Unit {0}
+IsContainer (Foreach pace g) = Unit {0}
 IsContainer (Until most g) = Unit {0}
 
--- another iteration may begin
-abbrev pub MayBegin : Kind → List ℕ → Opening → Table → Type 0
-MayBegin Leaf i w t = ⊥
-MayBegin (Scope g) i w t = ⊥
-MayBegin (Choice a b) i w t = ⊥
-MayBegin (Foreach true g) i w t = (w.next < w.number) × ((j : ℕ) → j < w.next → IsEnded g (i ++ j ∷ []) t)
-MayBegin (Foreach false g) i w t = w.next < w.number
-MayBegin (Until most g) i w t = (w.next < most) × ((w.next ≡ 0) ⊎ (w.test ≡ Some false))
+-- The address lies in a branch that isn't taken.
+abbrev pub in_others : Branches → ℕ → List ℕ → Address → Bool
+in_others no_branch c i y = false
+in_others (branch b rest) c i y = cond (is_within b i y) (cond (is_one c) false true) (in_others rest (less_one c) i y)
 
--- the last iteration may be tested: it is that of index j
-abbrev pub MayTest : Kind → List ℕ → Opening → Table → ℕ → Type 0
-MayTest Leaf i w t j = ⊥
-MayTest (Scope g) i w t j = ⊥
-MayTest (Choice a b) i w t j = ⊥
-MayTest (Foreach in_turn g) i w t j = ⊥
-MayTest (Until most g) i w t j = (w.next ≡ suc j) × (w.test ≡ None) × IsEnded g (i ++ j ∷ []) t
+module _ {Row Begun Decision Verdict : Type 0} (m : Source Row Begun Decision Verdict) where
+  -- The Skipped rows of the branches that aren't taken.
+  abbrev pub skip_others : Branches → ℕ → List ℕ → Table Row
+  skip_others no_branch c i y = None
+  skip_others (branch b rest) c i y = cond (is_within b i y) (cond (is_one c) None (skip_all m b i y)) (skip_others rest (less_one c) i y)
 
-abbrev pub IsEndedBranch : Graph → Graph → ℕ → List ℕ → Table → Type 0
-IsEndedBranch a b zero i t = Unit {0}
-IsEndedBranch a b (suc zero) i t = IsEnded a i t
-IsEndedBranch a b (suc (suc x)) i t = IsEnded b i t
+  abbrev pub passed_over : Kind → ℕ → List ℕ → Table Row
+  passed_over (Choice bs) c i y = skip_others bs c i y
+  passed_over Leaf c i y = None
+  passed_over (Scope g) c i y = None
+  passed_over (Foreach pace g) c i y = None
+  passed_over (Until most g) c i y = None
 
--- a container may close with this number
-abbrev pub MayClose : Kind → List ℕ → Opening → Table → ℕ → Type 0
-MayClose Leaf i w t c = ⊥
-MayClose (Scope g) i w t c = (c ≡ 0) × IsEnded g i t
-MayClose (Choice a b) i w t c = (c ≡ w.number) × IsEndedBranch a b w.number i t
-MayClose (Foreach in_turn g) i w t c = (c ≡ w.number) × (w.next ≡ w.number) × ((j : ℕ) → j < w.next → IsEnded g (i ++ j ∷ []) t)
-MayClose (Until most g) i w t c = (c ≡ w.next) × ((w.test ≡ Some true) ⊎ ((w.test ≡ Some false) × (w.next ≡ most)))
+  -- Another iteration may begin.
+  abbrev pub MayBegin : Kind → List ℕ → Opening Decision Verdict → Table Row → Type 0
+  MayBegin Leaf i w t = ⊥
+  MayBegin (Scope g) i w t = ⊥
+  MayBegin (Choice bs) i w t = ⊥
+  MayBegin (Foreach InTurn g) i w t = (w.next < m.items w.decision) × ((j : ℕ) → j < w.next → is_ended g (i ++ j ∷ []) t ≡ true)
+  MayBegin (Foreach (AtMost most) g) i w t = (w.next < m.items w.decision) × (unfinished g i t w.next < most)
+  MayBegin (Until most g) i w t = (w.next < most) × ((w.next ≡ 0) ⊎ ((v : Verdict) × (w.test ≡ Some v) × (m.ends v ≡ false)))
 
--- from s, the event leads to s'
-abbrev pub Step : Graph → Sem → State → Event → State → Type 0
-Step d m s (Start n i) s' =
-    (after : List Need) × IsDecided d s n i after Leaf × (gate after i s.rows ≡ true)
-    × (s' ≡ record { rows = s.rows; running = place (one n i (m.leaf (address n i) s.rows)) s.running; opens = s.opens })
-Step d m s (End n i) s' =
-    (r : Row) × (s.running (address n i) ≡ Some r)
-    × (s' ≡ record { rows = place (one n i r) s.rows; running = without n i s.running; opens = s.opens })
-Step d m s (Skip n i) s' =
-    (after : List Need) × (kind : Kind) × IsDecided d s n i after kind × (gate after i s.rows ≡ false)
-    × (s' ≡ record { rows = place (skip n kind i) s.rows; running = s.running; opens = s.opens })
-Step d m s (Open n i) s' =
-    (after : List Need) × (kind : Kind) × IsContainer kind × IsDecided d s n i after kind × (gate after i s.rows ≡ true)
-    × (s' ≡ record {
-        rows = place (passed_over kind (decision m kind (address n i) s.rows) i) s.rows;
+  -- The last begun iteration may be tested: it is that of index j.
+  abbrev pub MayTest : Kind → List ℕ → Opening Decision Verdict → Table Row → ℕ → Type 0
+  MayTest Leaf i w t j = ⊥
+  MayTest (Scope g) i w t j = ⊥
+  MayTest (Choice bs) i w t j = ⊥
+  MayTest (Foreach pace g) i w t j = ⊥
+  MayTest (Until most g) i w t j = (w.next ≡ suc j) × (w.test ≡ None) × (is_ended g (i ++ j ∷ []) t ≡ true)
+
+  -- The container may close.
+  abbrev pub MayClose : Kind → List ℕ → Opening Decision Verdict → Table Row → Type 0
+  MayClose Leaf i w t = ⊥
+  MayClose (Scope g) i w t = is_ended g i t ≡ true
+  MayClose (Choice bs) i w t = (b : Graph) → branch_at bs (m.taken w.decision) ≡ Some b → is_ended b i t ≡ true
+  MayClose (Foreach pace g) i w t = (w.next ≡ m.items w.decision) × ((j : ℕ) → j < w.next → is_ended g (i ++ j ∷ []) t ≡ true)
+  MayClose (Until most g) i w t = (v : Verdict) × (w.test ≡ Some v) × ((m.ends v ≡ true) ⊎ (w.next ≡ most))
+
+  -- The row with which it does.
+  abbrev pub closing : Kind → Address → Opening Decision Verdict → Table Row → Row
+  closing (Until most g) x w t = m.close x w.decision w.next w.test t
+  closing Leaf x w t = m.close x w.decision 0 None t
+  closing (Scope g) x w t = m.close x w.decision 0 None t
+  closing (Choice bs) x w t = m.close x w.decision 0 None t
+  closing (Foreach pace g) x w t = m.close x w.decision 0 None t
+
+module _ {Row Begun Decision Verdict : Type 0} (d : Graph) (m : Source Row Begun Decision Verdict) where
+  -- The action stands in an open graph.
+  pub record IsThere (s : State Row Begun Decision Verdict) (n : ℕ) (i : List ℕ) (after : List Need) (kind : Kind) : Type 0 where
+    pub graph : Graph
+    pub is_open : IsOpen m.taken d s.opens graph i
+    pub is_in : In graph n after kind
+
+  -- It is decided now whether it runs: it has no row, is neither running nor open, and all that it waits for have ended.
+  pub record IsDecided (s : State Row Begun Decision Verdict) (n : ℕ) (i : List ℕ) (after : List Need) (kind : Kind) : Type 0 where
+    pub is_there : IsThere s n i after kind
+    pub no_row : s.rows (address n i) ≡ None
+    pub not_running : s.running (address n i) ≡ None
+    pub not_open : s.opens (address n i) ≡ None
+    pub ended : all_ended after i s.rows ≡ true
+
+  -- THE MACHINE: in the state s the event is enabled, and leads to s'.
+  abbrev pub Step : State Row Begun Decision Verdict → Event → State Row Begun Decision Verdict → Type 0
+  Step s (Start n i) s' =
+      (after : List Need) × IsDecided s n i after Leaf × (gate m after n i s.rows ≡ true)
+      × (s' ≡ record { rows = s.rows; running = place (one n i (record { begun = m.start (address n i) s.rows; tries = 0 })) s.running; opens = s.opens })
+  Step s (Try n i) s' =
+      (w : Running Begun) × (s.running (address n i) ≡ Some w) × (w.tries < m.tries (address n i) w.begun)
+      × (s' ≡ record { rows = s.rows; running = place (one n i (record { begun = w.begun; tries = suc w.tries })) s.running; opens = s.opens })
+  Step s (End n i) s' =
+      (w : Running Begun) × (s.running (address n i) ≡ Some w) × (w.tries ≡ m.tries (address n i) w.begun)
+      × (s' ≡ record { rows = place (one n i (m.finish (address n i) w.begun s.rows)) s.rows; running = without n i s.running; opens = s.opens })
+  Step s (Skip n i) s' =
+      (after : List Need) × (kind : Kind) × IsDecided s n i after kind × (gate m after n i s.rows ≡ false)
+      × (s' ≡ record { rows = place (skip m n kind i) s.rows; running = s.running; opens = s.opens })
+  Step s (Open n i) s' =
+      (after : List Need) × (kind : Kind) × IsContainer kind × IsDecided s n i after kind × (gate m after n i s.rows ≡ true)
+      × (s' ≡ record {
+        rows = place (passed_over m kind (m.taken (m.decide (address n i) s.rows)) i) s.rows;
         running = s.running;
-        opens = opened n i (Some (record { number = decision m kind (address n i) s.rows; next = 0; test = None })) s.opens;
+        opens = opened n i (Some (record { decision = m.decide (address n i) s.rows; next = 0; test = None })) s.opens;
       })
-Step d m s (Begin n i) s' =
-    (after : List Need) × (kind : Kind) × (w : Opening) × IsThere d s n i after kind × (s.opens (address n i) ≡ Some w) × MayBegin kind i w s.rows
-    × (s' ≡ record { rows = s.rows; running = s.running; opens = opened n i (Some (record { number = w.number; next = suc w.next; test = None })) s.opens })
-Step d m s (Test n i) s' =
-    (after : List Need) × (kind : Kind) × (w : Opening) × (j : ℕ) × IsThere d s n i after kind × (s.opens (address n i) ≡ Some w) × MayTest kind i w s.rows j
-    × (s' ≡ record { rows = s.rows; running = s.running; opens = opened n i (Some (record { number = w.number; next = w.next; test = Some (m.stop (address n i) j s.rows) })) s.opens })
-Step d m s (Close n i) s' =
-    (after : List Need) × (kind : Kind) × (w : Opening) × (c : ℕ) × IsThere d s n i after kind × (s.opens (address n i) ≡ Some w) × MayClose kind i w s.rows c
-    × (s' ≡ record { rows = place (one n i (m.close (address n i) c s.rows)) s.rows; running = s.running; opens = opened n i None s.opens })
+  Step s (Begin n i) s' =
+      (after : List Need) × (kind : Kind) × (w : Opening Decision Verdict) × IsThere s n i after kind × (s.opens (address n i) ≡ Some w) × MayBegin m kind i w s.rows
+      × (s' ≡ record { rows = s.rows; running = s.running; opens = opened n i (Some (record { decision = w.decision; next = suc w.next; test = None })) s.opens })
+  Step s (Test n i) s' =
+      (after : List Need) × (kind : Kind) × (w : Opening Decision Verdict) × (j : ℕ) × IsThere s n i after kind × (s.opens (address n i) ≡ Some w) × MayTest m kind i w s.rows j
+      × (s' ≡ record { rows = s.rows; running = s.running; opens = opened n i (Some (record { decision = w.decision; next = w.next; test = Some (m.test (address n i) j s.rows) })) s.opens })
+  Step s (Close n i) s' =
+      (after : List Need) × (kind : Kind) × (w : Opening Decision Verdict) × IsThere s n i after kind × (s.opens (address n i) ≡ Some w) × MayClose m kind i w s.rows
+      × (s' ≡ record { rows = place (one n i (closing m kind (address n i) w s.rows)) s.rows; running = s.running; opens = opened n i None s.opens })
 
-abbrev pub Run : Graph → Sem → State → List Event → State → Type 0
-Run d m s [] s' = s' ≡ s
-Run d m s (e ∷ es) s' = (mid : State) × Step d m s e mid × Run d m mid es s'
+  -- The list of events, each enabled in its turn, leads from s to s'.
+  abbrev pub Run : State Row Begun Decision Verdict → List Event → State Row Begun Decision Verdict → Type 0
+  Run s [] s' = s' ≡ s
+  Run s (e ∷ es) s' = (mid : State Row Begun Decision Verdict) × Step s e mid × Run mid es s'
 
--- the graph has an action of this name
-abbrev pub has_own : Graph → ℕ → Bool
-has_own done p = false
-has_own (add n after kind rest) p = nat_eq n p || has_own rest p
-
--- the actions that are named stand in the same graph
-abbrev mutual
-  pub ClosedIn : Kind → Type 0
-  ClosedIn Leaf = Unit {0}
-  ClosedIn (Scope g) = Closed g g
-  ClosedIn (Choice a b) = Closed a a × Closed b b
-  ClosedIn (Foreach in_turn g) = Closed g g
-  ClosedIn (Until most g) = Closed g g
-
-  pub Closed : Graph → Graph → Type 0
-  Closed done w = Unit {0}
-  Closed (add n after kind rest) w = ((p : ℕ) → Names after p → has_own w p ≡ true) × ClosedIn kind × Closed rest w
-
--- no event is enabled
-abbrev pub IsOver : Graph → Sem → State → Type 0
-IsOver d m s = (e : Event) (s' : State) → Step d m s e s' → ⊥
-
--- an Until has at least one iteration
-abbrev mutual
-  pub TurnsIn : Kind → Type 0
-  TurnsIn Leaf = Unit {0}
-  TurnsIn (Scope g) = Turns g
-  TurnsIn (Choice a b) = Turns a × Turns b
-  TurnsIn (Foreach in_turn g) = Turns g
-  TurnsIn (Until most g) = (0 < most) × Turns g
-
-  pub Turns : Graph → Type 0
-  Turns done = Unit {0}
-  Turns (add n after kind rest) = TurnsIn kind × Turns rest
-
--- THE THEOREM
-pub record OrderFree (d : Graph) (m : Sem) (depth : ℕ → ℕ) : Type 0 where
-  -- whatever order was taken, each row is the meaning's
-  pub rows : (es : List Event) (s : State) → Run d m fresh es s → (x : Address) (r : Row) → s.rows x ≡ Some r → meaning m depth d x ≡ Some r
-  -- and where nothing is enabled, all of them are there
-  pub over : (es : List Event) (s : State) → Run d m fresh es s → IsOver d m s → (x : Address) → is_within d [] x ≡ true → s.rows x ≡ meaning m depth d x
+  -- No event is enabled.
+  abbrev pub IsOver : State Row Begun Decision Verdict → Type 0
+  IsOver s = (e : Event) (s' : State Row Begun Decision Verdict) → Step s e s' → ⊥

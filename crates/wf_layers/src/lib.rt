@@ -1,48 +1,30 @@
-//! Order independence of workflow runs, and resubmission, as laws over definitions.
-//!
-//! This crate has no code: each public function's contract is a law.
+//! Laws.
 #![tactic(auto)]
 
-ghost use Rattle.std.specs.Prelude.{◌≡◌, ℕ, Bool};
-ghost use Rattle.wf_layers.specs.Machine.{Closed, Turns, OrderFree as OrderFreeTree};
-ghost use Rattle.wf_layers.specs.Resume.{IsFresh, IsSplit, Passed, BranchesKept, ResumedIsFresh, ResumedOrderFree};
-ghost use Rattle.wf_layers.specs.Vars.{VariablesInOrder};
-ghost use Rattle.wf_layers.specs.Tree.{Graph as Tree, IsDepth as IsDeep, Sem, Sound, SeenIn, IsSolution, meaning};
+ghost use Rattle.std.specs.Prelude.{◌≡◌, ℕ, [], true};
+ghost use Rattle.wf_layers.specs.Definition.{Graph, IsDepth};
+ghost use Rattle.wf_layers.specs.Address.{SeenIn, Table, Address, is_within};
+ghost use Rattle.wf_layers.specs.Source.{Source, Sound};
+ghost use Rattle.wf_layers.specs.Meaning.{meaning};
+ghost use Rattle.wf_layers.specs.Rule.{Obeys};
+ghost use Rattle.wf_layers.specs.Laws.{IsInstance, RowsAreTheMeanings, AllRowsAtTheEnd};
 
-/// With containers the layered meaning obeys the local rule, at every address.
-pub fn meaning_is_local()
-    ensures {
-        (s : Sem) (depth : ℕ → ℕ) (g : Tree) → IsDeep g depth → Sound s (SeenIn g) g 0 → IsSolution s g (meaning s depth g)
-    }
-{
-}
+/// The meaning obeys the local rule.
+pub fn meaning_obeys_rule<Row, Begun, Decision, Verdict>()
+    ensures { (s : Source Row Begun Decision Verdict) (g : Graph) (depth : ℕ → ℕ) → IsDepth g depth → Sound s (SeenIn g) g 0 → Obeys s g (meaning s depth g) }
+{}
 
-/// With containers too, whatever order events are taken in, the rows are the meaning's.
-pub fn order_free_tree()
-    ensures { (g : Tree) (s : Sem) (depth : ℕ → ℕ) → Sound s (SeenIn g) g 0 → Closed g g → IsDeep g depth → Turns g → IsFresh s → OrderFreeTree g s depth }
-{
-}
+/// A table that obeys the rule is the meaning.
+pub fn rows_are_unique<Row, Begun, Decision, Verdict>()
+    ensures { (s : Source Row Begun Decision Verdict) (g : Graph) (depth : ℕ → ℕ) → IsDepth g depth → Sound s (SeenIn g) g 0 → (f : Table Row) → Obeys s g f → (x : Address) → is_within g [] x ≡ true → meaning s depth g x ≡ f x }
+{}
 
-/// The resubmitted record is that of a fresh run in an environment with one layer more.
-pub fn resumed_is_fresh()
-    ensures {
-        (d : Tree) (depth : ℕ → ℕ) (a b : Sem) (redo again : ℕ → Bool) → IsDeep d depth → Sound a (SeenIn d) d 0 → Sound b (SeenIn d) d 0 → IsFresh a → IsSplit d redo again → Passed again (meaning a depth d) d → ResumedIsFresh d depth a b redo again
-    }
-{
-}
+/// Whatever order events are taken in, each row is the meaning's.
+pub fn rows_are_the_meanings<Row, Begun, Decision, Verdict>()
+    ensures { (d : Graph) (m : Source Row Begun Decision Verdict) (depth : ℕ → ℕ) → IsInstance d m depth → RowsAreTheMeanings d m depth }
+{}
 
-/// From the state of a resubmission, whatever order events are taken in, the rows are those of the resubmitted record.
-pub fn resumed_order_free()
-    ensures {
-        (d : Tree) (depth : ℕ → ℕ) (a b : Sem) (redo again : ℕ → Bool) → IsDeep d depth → Closed d d → Turns d → Sound a (SeenIn d) d 0 → Sound b (SeenIn d) d 0 → IsFresh a → IsSplit d redo again → Passed again (meaning a depth d) d → BranchesKept d a redo again (meaning a depth d) → ResumedOrderFree d depth a b redo again
-    }
-{
-}
-
-/// As an action is decided, the finished accesses that it is ordered with are those that it sees.
-pub fn variables_in_order()
-    ensures {
-        (d : Tree) (m : Sem) (depth : ℕ → ℕ) → Sound m (SeenIn d) d 0 → Closed d d → IsDeep d depth → IsFresh m → VariablesInOrder d m
-    }
-{
-}
+/// Where nothing is enabled, every row of the meaning is there.
+pub fn all_rows_are_there_at_the_end<Row, Begun, Decision, Verdict>()
+    ensures { (d : Graph) (m : Source Row Begun Decision Verdict) (depth : ℕ → ℕ) → IsInstance d m depth → AllRowsAtTheEnd d m depth }
+{}
