@@ -11,7 +11,8 @@ use Rattle.wf_layers.proofs.Basics.{two, and_in, and_of, fork, not_true, same_se
 use Rattle.wf_layers.specs.Machine.{Running, Opening, State, fresh, In, here, there, IsOpen, top, scope, chosen, turn, round, has_ended, is_ended, all_ended, or_else, place, one, without, opened, Event, Start, Try, End, Skip, Open, Begin, Test, Close, IsContainer, in_others, skip_others, passed_over, MayBegin, MayTest, MayClose, closing, Step, Run}
 use Rattle.wf_layers.proofs.Tables.{same_at_is, same_starts, own_self, Within, one_is, place_split, place_agrees, place_fills, nothing, either_or, or_true, skip_in, shows_holds, inner_name}
 use Rattle.wf_layers.proofs.Places.{within_of, or_right, or_none}
-use Rattle.wf_layers.proofs.Open.{Placed, Sub, placed_in, open_sub, Settled, Passes, OpenFact, kind_there, fact_of, obey_in, inner_rule, follows}
+use Rattle.wf_layers.specs.Facts.{Settled, OpenFact}
+use Rattle.wf_layers.proofs.Open.{OpenFacts, Placed, Sub, placed_in, open_sub, Passes, kind_there, fact_of, obey_in, inner_rule, follows}
 use Rattle.wf_layers.proofs.Keeps.{is_special, SpecialOut, Held, Keeps, IsClosed, decided_sees, decided_own, decided_gate, pass_keeps, drop_keeps, less_open, more_open, put_keeps}
 use Rattle.wf_layers.proofs.Others.{others_among, look_others, some_others, others_or, others_sees, others_inner}
 
@@ -200,7 +201,7 @@ module _ {Row Begun Decision Verdict : Type 0} (m : Source Row Begun Decision Ve
   ended_row (Some r) e = (r, refl)
 
   -- a graph whose actions have rows is settled
-  pub ended_settled : (s : State Row Begun Decision Verdict) → (Keeps m d so f sol) s → (h : Graph) (i : List ℕ) → IsOpen m.taken d s.opens h i → is_ended h i s.rows ≡ true → (Settled m d so f sol) s.rows h i
+  pub ended_settled : (s : State Row Begun Decision Verdict) → (Keeps m d so f sol) s → (h : Graph) (i : List ℕ) → IsOpen m.taken d s.opens h i → is_ended h i s.rows ≡ true → (Settled m f) s.rows h i
   ended_settled s k h i og e y w = walk_ended h (λ n after kind st. st) e w
     where
       walk_ended : (r : Graph) → ((n : ℕ) (after : List Need) (kind : Kind) → In r n after kind → In h n after kind) → is_ended r i s.rows ≡ true → is_within r i y ≡ true → s.rows y ≡ f y
@@ -217,14 +218,14 @@ module _ {Row Begun Decision Verdict : Type 0} (m : Source Row Begun Decision Ve
       let fact = k.facts n i w kind e is in
       (more_open m d so f sol) out s k n i (record { decision = w.decision; next = suc w.next; test = None }) kind (plain kind may fact.0 fact.1) is (λ y see. k.open_behind n i w e y see) fact.0 (go kind st may fact.1)
     where
-      plain : (kind : Kind) → MayBegin m kind i w s.rows → (Passes m d so f sol) n (needs_of d n) i → (OpenFact m d so f sol) s.rows kind n i w → (is_special m d so f sol) n ≡ false
+      plain : (kind : Kind) → MayBegin m kind i w s.rows → (Passes m d so f sol) n (needs_of d n) i → (OpenFact m f) s.rows kind n i w → (is_special m d so f sol) n ≡ false
       plain Leaf may p h = absurd may
       plain (Scope g) may p h = absurd may
       plain (Choice bs) may p h = absurd may
       plain (Foreach t g) may p h = ap (λ b. b || m.reclosed n) p.free ∙ h.3
       plain (Until most g) may p h = ap (λ b. b || m.reclosed n) p.free ∙ h.3
 
-      go : (kind : Kind) → In g n after kind → MayBegin m kind i w s.rows → (OpenFact m d so f sol) s.rows kind n i w → (OpenFact m d so f sol) s.rows kind n i (record { decision = w.decision; next = suc w.next; test = None })
+      go : (kind : Kind) → In g n after kind → MayBegin m kind i w s.rows → (OpenFact m f) s.rows kind n i w → (OpenFact m f) s.rows kind n i (record { decision = w.decision; next = suc w.next; test = None })
       go Leaf st may h = absurd may
       go (Scope h) st may fact = absurd may
       go (Choice bs) st may fact = absurd may
@@ -232,13 +233,13 @@ module _ {Row Begun Decision Verdict : Type 0} (m : Source Row Begun Decision Ve
       go (Foreach (AtMost most) h) st may fact = (fact.0, may.0, λ q j lt. absurd (beside_not q), fact.3)
       go (Until most h) st may fact = (may.0, earlier, λ v q. absurd (none-some v q), fact.3, fact.4)
         where
-          earlier : (j : ℕ) → suc j < suc w.next → (m.ends (m.test (address n i) j f) ≡ false) × (Settled m d so f sol) s.rows h (i ++ j ∷ [])
+          earlier : (j : ℕ) → suc j < suc w.next → (m.ends (m.test (address n i) j f) ≡ false) × (Settled m f) s.rows h (i ++ j ∷ [])
           earlier j lt =
               ⊎_elim
               (λ zero'. absurd (omega arith))
               (λ t. let r = fact.2 t.0 t.1 in
               ⊎_elim
-              (λ same. let x = eqb-true j r.0 same in (ap (λ q. m.ends (m.test (address n i) q f)) x ∙ ap m.ends r.2 ∙ t.2, subst (λ q. (Settled m d so f sol) s.rows h (i ++ q ∷ [])) (sym x) r.3))
+              (λ same. let x = eqb-true j r.0 same in (ap (λ q. m.ends (m.test (address n i) q f)) x ∙ ap m.ends r.2 ∙ t.2, subst (λ q. (Settled m f) s.rows h (i ++ q ∷ [])) (sym x) r.3))
               (λ ne. let x = eqb-false j r.0 ne in let y = r.1 in fact.1 j (omega (arith, x, y)))
               (two (nat_eq j r.0)))
               may.1
@@ -249,14 +250,14 @@ module _ {Row Begun Decision Verdict : Type 0} (m : Source Row Begun Decision Ve
       let fact = k.facts n i w kind e is in
       (more_open m d so f sol) out s k n i (record { decision = w.decision; next = w.next; test = Some (m.test (address n i) j s.rows) }) kind (plain kind may fact.0 fact.1) is (λ y see. k.open_behind n i w e y see) fact.0 (go kind st may fact.1)
     where
-      plain : (kind : Kind) → MayTest m kind i w s.rows j → (Passes m d so f sol) n (needs_of d n) i → (OpenFact m d so f sol) s.rows kind n i w → (is_special m d so f sol) n ≡ false
+      plain : (kind : Kind) → MayTest m kind i w s.rows j → (Passes m d so f sol) n (needs_of d n) i → (OpenFact m f) s.rows kind n i w → (is_special m d so f sol) n ≡ false
       plain Leaf may p h = absurd may
       plain (Scope g) may p h = absurd may
       plain (Choice bs) may p h = absurd may
       plain (Foreach t g) may p h = absurd may
       plain (Until most g) may p h = ap (λ b. b || m.reclosed n) p.free ∙ h.3
 
-      go : (kind : Kind) → In g n after kind → MayTest m kind i w s.rows j → (OpenFact m d so f sol) s.rows kind n i w → (OpenFact m d so f sol) s.rows kind n i (record { decision = w.decision; next = w.next; test = Some (m.test (address n i) j s.rows) })
+      go : (kind : Kind) → In g n after kind → MayTest m kind i w s.rows j → (OpenFact m f) s.rows kind n i w → (OpenFact m f) s.rows kind n i (record { decision = w.decision; next = w.next; test = Some (m.test (address n i) j s.rows) })
       go Leaf st may fact = absurd may
       go (Scope h) st may fact = absurd may
       go (Choice bs) st may fact = absurd may
@@ -266,16 +267,16 @@ module _ {Row Begun Decision Verdict : Type 0} (m : Source Row Begun Decision Ve
           lt : j < w.next
           lt = omega (arith, may.0)
 
-          last' : (Settled m d so f sol) s.rows h (i ++ j ∷ [])
+          last' : (Settled m f) s.rows h (i ++ j ∷ [])
           last' = ended_settled s k h (i ++ j ∷ []) (round j og st e lt) may.2
 
           value : (v : Verdict) → Some (m.test (address n i) j s.rows) ≡ Some v → m.test (address n i) j s.rows ≡ v
           value v q = cc
 
-          turns' : (q : ℕ) → q < suc j → (Settled m d so f sol) s.rows h (i ++ q ∷ [])
+          turns' : (q : ℕ) → q < suc j → (Settled m f) s.rows h (i ++ q ∷ [])
           turns' q l =
               ⊎_elim
-              (λ same. subst (λ x. (Settled m d so f sol) s.rows h (i ++ x ∷ [])) (sym (eqb-true q j same)) last')
+              (λ same. subst (λ x. (Settled m f) s.rows h (i ++ x ∷ [])) (sym (eqb-true q j same)) last')
               (λ ne. let x = eqb-false q j ne in let y = may.0 in (fact.1 q (omega (arith, x, y))).1)
               (two (nat_eq q j))
 
@@ -324,7 +325,7 @@ module _ {Row Begun Decision Verdict : Type 0} (m : Source Row Begun Decision Ve
           ruled : (y : Address) → is_in n kind i y ≡ true → f y ≡ look_in m kind n i f y
           ruled y t = (obey_in m d so f sol) g i n after kind ((placed_in m d so f sol) (length i) g n after kind ((open_sub m d so f sol) s.opens g i og) st) ((follows m d so f sol) s.rows s.opens k.facts g i og) pass y t
 
-      go : (kind : Kind) → In g n after kind → MayClose m kind i w s.rows → (Passes m d so f sol) n after i × (OpenFact m d so f sol) s.rows kind n i w → Closed' kind
+      go : (kind : Kind) → In g n after kind → MayClose m kind i w s.rows → (Passes m d so f sol) n after i × (OpenFact m f) s.rows kind n i w → Closed' kind
       go Leaf st may fact = absurd may
       go (Scope h) st may fact =
           closes (Scope h) (Some (m.close (address n i) (m.decide (address n i) f) 0 None f)) (is_within h i) (look m h i f) st fact.0 (λ y. refl) inside
@@ -333,7 +334,7 @@ module _ {Row Begun Decision Verdict : Type 0} (m : Source Row Begun Decision Ve
           pl : (Placed m d so f sol) (length i) g n after (Scope h)
           pl = (placed_in m d so f sol) (length i) g n after (Scope h) ((open_sub m d so f sol) s.opens g i og) st
 
-          inside : (Settled m d so f sol) s.rows h i
+          inside : (Settled m f) s.rows h i
           inside = ended_settled s k h i (scope og st e) may
       go (Choice bs) st may fact =
           closes (Choice bs) (Some (m.close (address n i) (m.decide (address n i) f) 0 None f)) (is_among bs i) (look_any m bs (m.taken (m.decide (address n i) f)) i f) st fact.0 (λ y. refl) inside
@@ -358,7 +359,7 @@ module _ {Row Begun Decision Verdict : Type 0} (m : Source Row Begun Decision Ve
           items : ℕ
           items = m.items (m.decide (address n i) f)
 
-          inside : (Settled m d so f sol) s.rows h i
+          inside : (Settled m f) s.rows h i
           inside y v =
               ⊎_elim
               (λ q. let num = ap m.items fact.1.0 in let lt : q.0 < w.next = omega (arith, q.1, may.0, num) in
@@ -379,7 +380,7 @@ module _ {Row Begun Decision Verdict : Type 0} (m : Source Row Begun Decision Ve
           p : ℕ → Bool
           p j = m.ends (m.test (address n i) j f)
 
-          last' : (j : ℕ) × (w.next ≡ suc j) × ((p j ≡ true) ⊎ (suc j ≡ 0 + most)) × (m.test (address n i) j f ≡ may.0) × (Settled m d so f sol) s.rows h (i ++ j ∷ [])
+          last' : (j : ℕ) × (w.next ≡ suc j) × ((p j ≡ true) ⊎ (suc j ≡ 0 + most)) × (m.test (address n i) j f ≡ may.0) × (Settled m f) s.rows h (i ++ j ∷ [])
           last' =
               let r = fact.1.2 may.0 may.1 in
               (r.0, r.1, ⊎_elim (λ t. inl (ap m.ends r.2 ∙ t)) (λ t. inr (let x = r.1 in omega (arith, x, t))) may.2, r.2, r.3)
@@ -390,7 +391,7 @@ module _ {Row Begun Decision Verdict : Type 0} (m : Source Row Begun Decision Ve
           counts : rounds most 0 p ≡ suc last'.0
           counts = rounds_is most 0 last'.0 p (λ q l. let x = last'.1 in (fact.1.1 q (omega (arith, x))).0) (omega arith) (let x = last'.1 in let y = fact.1.0 in omega (arith, x, y)) last'.2
 
-          inside : (Settled m d so f sol) s.rows h i
+          inside : (Settled m f) s.rows h i
           inside y v =
               ⊎_elim
               (λ q.
@@ -405,14 +406,14 @@ module _ {Row Begun Decision Verdict : Type 0} (m : Source Row Begun Decision Ve
               (some_turn (rounds most 0 p) i y.at)
 
   -- an action of an open graph has a row in f
-  pub own_row : (s : State Row Begun Decision Verdict) → (Keeps m d so f sol) s → (g : Graph) (i : List ℕ) (n : ℕ) (after : List Need) (kind : Kind) → IsOpen m.taken d s.opens g i → In g n after kind → (is_special m d so f sol) n ≡ false → f (address n i) ≡ None → ⊥
-  own_row s k g i n after kind og st sn e =
-      let pl = (placed_in m d so f sol) (length i) g n after kind ((open_sub m d so f sol) s.opens g i og) st in
+  pub own_row : (t : Table Row) (o : Table (Opening Decision Verdict)) → (OpenFacts m d so f sol) t o → (g : Graph) (i : List ℕ) (n : ℕ) (after : List Need) (kind : Kind) → IsOpen m.taken d o g i → In g n after kind → (is_special m d so f sol) n ≡ false → f (address n i) ≡ None → ⊥
+  own_row t o facts g i n after kind og st sn e =
+      let pl = (placed_in m d so f sol) (length i) g n after kind ((open_sub m d so f sol) o g i og) st in
       let own = own_in n kind i in
-      let v = sym e ∙ (follows m d so f sol) s.rows s.opens k.facts g i og (address n i) (within_of m (IsBefore d) (SeenIn d) (length i) g n after kind pl i (address n i) own) ∙ pl.looked i f (address n i) own ∙ unless (m.pinned n) (m.old (address n i)) _ (or_none m (IsBefore d) (SeenIn d) (m.pinned n) (m.reclosed n) sn).0 in
+      let v = sym e ∙ (follows m d so f sol) t o facts g i og (address n i) (within_of m (IsBefore d) (SeenIn d) (length i) g n after kind pl i (address n i) own) ∙ pl.looked i f (address n i) own ∙ unless (m.pinned n) (m.old (address n i)) _ (or_none m (IsBefore d) (SeenIn d) (m.pinned n) (m.reclosed n) sn).0 in
       ⊎_elim
-      (λ t. ran kind (v ∙ when (m.reclosed n || gate m after n i f) _ (skip m n kind i (address n i)) t))
-      (λ t. none-some m.skipped (v ∙ unless (m.reclosed n || gate m after n i f) _ _ t ∙ when ((nat_eq n n || shows kind n) && same_at i i) (Some m.skipped) None (and_of (nat_eq n n || shows kind n) (same_at i i) (ap (λ z. z || shows kind n) (same_self n)) (same_self_at i))))
+      (λ p. ran kind (v ∙ when (m.reclosed n || gate m after n i f) _ (skip m n kind i (address n i)) p))
+      (λ p. none-some m.skipped (v ∙ unless (m.reclosed n || gate m after n i f) _ _ p ∙ when ((nat_eq n n || shows kind n) && same_at i i) (Some m.skipped) None (and_of (nat_eq n n || shows kind n) (same_at i i) (ap (λ z. z || shows kind n) (same_self n)) (same_self_at i))))
       (two (m.reclosed n || gate m after n i f))
     where
       ran : (kind : Kind) → None ≡ look_in m kind n i f (address n i) → ⊥

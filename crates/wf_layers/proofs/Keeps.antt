@@ -10,7 +10,8 @@ use Rattle.wf_layers.proofs.Layers.{gate_same}
 use Rattle.wf_layers.specs.Machine.{Running, Opening, State, In, IsOpen, top, scope, chosen, turn, round, has_ended, all_ended, place, one, without, opened}
 use Rattle.wf_layers.proofs.Tables.{own_is, Within, one_is, one_within, place_split, place_none, place_agrees, place_fills, place_within, own_placed, without_split, opened_split, taken_has}
 use Rattle.wf_layers.proofs.Places.{within_of}
-use Rattle.wf_layers.proofs.Open.{placed_in, open_sub, Passes, OpenFact, OpenFacts, kind_there, lift, lower_of, into_step, OpenBehind, seen_open}
+use Rattle.wf_layers.specs.Facts.{OpenFact}
+use Rattle.wf_layers.proofs.Open.{placed_in, open_sub, Passes, OpenFacts, kind_there, lift, lower_of, into_step, OpenBehind, seen_open}
 
 module _ {Row Begun Decision Verdict : Type 0} (m : Source Row Begun Decision Verdict) (d : Graph) (so : Sound m (SeenIn d) d 0) (f : Table Row) (sol : Obeys m d f) where
   -- WHAT A STATE KEEPS
@@ -98,7 +99,7 @@ module _ {Row Begun Decision Verdict : Type 0} (m : Source Row Begun Decision Ve
   pub facts_more : (t u : Table Row) (o : Table (Opening Decision Verdict)) → ((y : Address) → t y ≡ f y → u y ≡ f y) → (OpenFacts m d so f sol) t o → (OpenFacts m d so f sol) u o
   facts_more t u o up h n i w kind e k = let r = h n i w kind e k in (r.0, go kind r.1)
     where
-      go : (kind : Kind) → (OpenFact m d so f sol) t kind n i w → (OpenFact m d so f sol) u kind n i w
+      go : (kind : Kind) → (OpenFact m f) t kind n i w → (OpenFact m f) u kind n i w
       go Leaf h = h
       go (Scope g) h = h
       go (Choice bs) h = (h.0, λ y q. up y (h.1 y q))
@@ -199,7 +200,7 @@ module _ {Row Begun Decision Verdict : Type 0} (m : Source Row Begun Decision Ve
       still : (q : ℕ) (j : List ℕ) (w : (Opening Decision Verdict)) → opened n i None s.opens (address q j) ≡ Some w → s.opens (address q j) ≡ Some w
       still q j w e = ⊎_elim (λ h. absurd (none-some w h.1)) (λ h. h) (opened_split n i None s.opens (address q j) w e)
 
-  pub more_open : SpecialOut → (s : State Row Begun Decision Verdict) → Keeps s → (n : ℕ) (i : List ℕ) (w : (Opening Decision Verdict)) (kind : Kind) → is_special n ≡ false → kind_of d n ≡ Some kind → ((y : Address) → SeenIn d (address n i) y → s.rows y ≡ f y) → (Passes m d so f sol) n (needs_of d n) i → (OpenFact m d so f sol) s.rows kind n i w → Keeps (record { rows = s.rows; running = s.running; opens = opened n i (Some w) s.opens })
+  pub more_open : SpecialOut → (s : State Row Begun Decision Verdict) → Keeps s → (n : ℕ) (i : List ℕ) (w : (Opening Decision Verdict)) (kind : Kind) → is_special n ≡ false → kind_of d n ≡ Some kind → ((y : Address) → SeenIn d (address n i) y → s.rows y ≡ f y) → (Passes m d so f sol) n (needs_of d n) i → (OpenFact m f) s.rows kind n i w → Keeps (record { rows = s.rows; running = s.running; opens = opened n i (Some w) s.opens })
   more_open out s k n i w kind sn is sees pass fact = record {
     placed = k.placed;
     held = k.held;
@@ -221,10 +222,10 @@ module _ {Row Begun Decision Verdict : Type 0} (m : Source Row Begun Decision Ve
           ⊎_elim (λ o. absurd (none-some w (sym u ∙ when (is_own n i (address q j)) (Some w) (s.opens (address q j)) o))) (λ o. sym (unless (is_own n i (address q j)) (Some w) (s.opens (address q j)) o) ∙ u) (two (is_own n i (address q j)))
 
       FactAt : Address → (Opening Decision Verdict) → Type 0
-      FactAt x u = (l : Kind) → kind_of d x.name ≡ Some l → (Passes m d so f sol) x.name (needs_of d x.name) x.at × (OpenFact m d so f sol) s.rows l x.name x.at u
+      FactAt x u = (l : Kind) → kind_of d x.name ≡ Some l → (Passes m d so f sol) x.name (needs_of d x.name) x.at × (OpenFact m f) s.rows l x.name x.at u
 
       base : FactAt (address n i) w
-      base l e = let v : Some kind ≡ Some l = sym is ∙ e in let v' : kind ≡ l = cc in (pass, subst (λ z. (OpenFact m d so f sol) s.rows z n i w) v' fact)
+      base l e = let v : Some kind ≡ Some l = sym is ∙ e in let v' : kind ≡ l = cc in (pass, subst (λ z. (OpenFact m f) s.rows z n i w) v' fact)
 
   -- a row at an action whose inside is settled
   pub put_keeps : (s : State Row Begun Decision Verdict) → Keeps s → (n : ℕ) (i : List ℕ) (r : Row) → f (address n i) ≡ Some r → ((y : Address) → SeenIn d (address n i) y → s.rows y ≡ f y) → ((kind : Kind) → kind_of d n ≡ Some kind → (y : Address) → is_in n kind i y ≡ true → is_own n i y ≡ false → s.rows y ≡ f y) → Keeps (record { rows = place (one n i r) s.rows; running = s.running; opens = s.opens })

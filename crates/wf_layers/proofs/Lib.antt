@@ -9,3 +9,7 @@ pub mod Open
 pub mod Keeps
 pub mod Events
 pub mod Progress
+pub mod Limit
+pub mod Facts
+pub mod Called
+pub mod Laws

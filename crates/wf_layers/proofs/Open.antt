@@ -1,13 +1,14 @@
 -- What holds in the open graphs of a state whose rows are those of a table f that obeys the rule.
 use Rattle.std.proofs.Common.{◌≡◌, ℕ, zero, suc, ◌+◌, ◌<◌, ◌≤◌, Bool, true, false, ◌&&◌, ◌||◌, cond, List, [], ◌∷◌, ◌++◌, Option, Some, None, ◌⊎◌, inl, inr, ⊎_elim, refl, sym, ap, ◌∙◌, subst, arith, nat_eq, eqb-true, true≢false, length}
 use Rattle.std.proofs.lemmas.Bool.{eqb-false}
-use Rattle.wf_layers.specs.Definition.{Need, InTurn, Kind, Leaf, Scope, Choice, Foreach, Until, Branches, Graph, holds, has, needs_in, needs_of, kind_in, kind_of, IsBefore}
+use Rattle.wf_layers.specs.Definition.{Need, Kind, Scope, Choice, Foreach, Until, Graph, holds, has, needs_in, needs_of, kind_in, kind_of, IsBefore}
 use Rattle.wf_layers.specs.Address.{Address, address, Table, starts, is_own, is_in, is_within, is_among, owner, Lower, earlier_in, IsEarlier, SeenIn}
 use Rattle.wf_layers.specs.Source.{Source, gate, Sound}
 use Rattle.wf_layers.specs.Meaning.{only, rounds, skip}
 use Rattle.wf_layers.specs.Rule.{look_in, look_any, look, Obeys}
+use Rattle.wf_layers.specs.Facts.{OpenFact}
 use Rattle.wf_layers.proofs.Basics.{two, and_in, and_of, starts_outer, index_once, when, unless, own_in, held_in, inner_not_own, longer, sides_at}
-use Rattle.wf_layers.specs.Machine.{Opening, In, IsOpen, top, scope, chosen, turn, round, in_others}
+use Rattle.wf_layers.specs.Machine.{Opening, In, IsOpen, top, scope, chosen, turn, round}
 use Rattle.wf_layers.proofs.Tables.{taken_has, taken_within}
 use Rattle.wf_layers.proofs.Places.{Stands, within_of, stands, taken_sound, taken_kind, taken_needs, taken_look, taken_joined, taken_joins}
 
@@ -57,33 +58,14 @@ module _ {Row Begun Decision Verdict : Type 0} (m : Source Row Begun Decision Ve
       let sub = open_sub o g i og in let pl = placed_in (length i) g n after (Until most h) sub st in
       sub_in (length (i ++ j ∷ [])) g h (length i) n after (Until most h) sub pl (subst (λ x. Sound m (SeenIn d) h x) (sym (longer i j (length i) refl)) pl.sound.3) (λ q e. (e, refl, refl))
 
-  -- the rows at these addresses are those of f
-  abbrev pub Settled : Table Row → Graph → List ℕ → Type 0
-  Settled t g i = (y : Address) → is_within g i y ≡ true → t y ≡ f y
-
-  -- and those in the branches that aren't taken
-  abbrev pub SettledOthers : Table Row → Branches → ℕ → List ℕ → Type 0
-  SettledOthers t bs c i = (y : Address) → in_others bs c i y ≡ true → t y ≡ f y
-
   -- an action that is neither kept nor skipped
   pub record Passes (n : ℕ) (after : List Need) (i : List ℕ) : Type 0 where
     pub free : m.pinned n ≡ false
     pub passes : (m.reclosed n || gate m after n i f) ≡ true
 
-  -- what is known of an open container
-  abbrev pub OpenFact : Table Row → Kind → ℕ → List ℕ → Opening Decision Verdict → Type 0
-  OpenFact t Leaf n i w = ⊥
-  OpenFact t (Scope h) n i w = w.decision ≡ m.decide (address n i) f
-  OpenFact t (Choice bs) n i w = (w.decision ≡ m.decide (address n i) f) × SettledOthers t bs (m.taken w.decision) i
-  OpenFact t (Foreach pace h) n i w =
-      (w.decision ≡ m.decide (address n i) f) × (w.next ≤ m.items w.decision) × (pace ≡ InTurn → (j : ℕ) → suc j < w.next → Settled t h (i ++ j ∷ [])) × (m.reclosed n ≡ false)
-  OpenFact t (Until most h) n i w =
-      (w.next ≤ most) × ((j : ℕ) → suc j < w.next → (m.ends (m.test (address n i) j f) ≡ false) × Settled t h (i ++ j ∷ []))
-      × ((v : Verdict) → w.test ≡ Some v → (j : ℕ) × (w.next ≡ suc j) × (m.test (address n i) j f ≡ v) × Settled t h (i ++ j ∷ [])) × (m.reclosed n ≡ false)
-      × (w.decision ≡ m.decide (address n i) f)
-
+  -- what is known of the open containers
   abbrev pub OpenFacts : Table Row → Table (Opening Decision Verdict) → Type 0
-  OpenFacts t o = (n : ℕ) (i : List ℕ) (w : Opening Decision Verdict) (kind : Kind) → o (address n i) ≡ Some w → kind_of d n ≡ Some kind → Passes n (needs_of d n) i × OpenFact t kind n i w
+  OpenFacts t o = (n : ℕ) (i : List ℕ) (w : Opening Decision Verdict) (kind : Kind) → o (address n i) ≡ Some w → kind_of d n ≡ Some kind → Passes n (needs_of d n) i × OpenFact m f t kind n i w
 
   -- the rule holds in each open graph
   abbrev pub Follows : Graph → List ℕ → Type 0
@@ -94,7 +76,7 @@ module _ {Row Begun Decision Verdict : Type 0} (m : Source Row Begun Decision Ve
       let sub = open_sub o g i og in let pl = placed_in (length i) g n after kind sub st in
       (sub.kinds n pl.own_has ∙ pl.own_kind, sub.needs n pl.own_has ∙ pl.own_needs)
 
-  pub fact_of : (t : Table Row) (o : Table (Opening Decision Verdict)) → OpenFacts t o → (g : Graph) (i : List ℕ) (n : ℕ) (after : List Need) (kind : Kind) (w : Opening Decision Verdict) → IsOpen m.taken d o g i → In g n after kind → o (address n i) ≡ Some w → Passes n after i × OpenFact t kind n i w
+  pub fact_of : (t : Table Row) (o : Table (Opening Decision Verdict)) → OpenFacts t o → (g : Graph) (i : List ℕ) (n : ℕ) (after : List Need) (kind : Kind) (w : Opening Decision Verdict) → IsOpen m.taken d o g i → In g n after kind → o (address n i) ≡ Some w → Passes n after i × OpenFact m f t kind n i w
   fact_of t o facts g i n after kind w og st e =
       let k = kind_there o g i n after kind og st in
       let h = facts n i w kind e k.0 in

@@ -10,7 +10,8 @@ use Rattle.wf_layers.proofs.Basics.{two, and_of, when, unless}
 use Rattle.wf_layers.specs.Machine.{Running, Opening, State, fresh, In, here, there, IsOpen, top, scope, chosen, turn, round, has_ended, is_ended, all_ended, unfinished, place, one, without, Event, Start, Try, End, Skip, Open, Begin, Test, Close, MayBegin, IsThere, IsDecided, Run, IsOver}
 use Rattle.wf_layers.specs.Laws.{IsInstance, RowsAreTheMeanings, AllRowsAtTheEnd}
 use Rattle.wf_layers.proofs.Meaning.{meaning_solves}
-use Rattle.wf_layers.proofs.Open.{OpenFact, kind_there, fact_of}
+use Rattle.wf_layers.specs.Facts.{OpenFact}
+use Rattle.wf_layers.proofs.Open.{kind_there, fact_of}
 use Rattle.wf_layers.proofs.Keeps.{Keeps, IsClosed}
 use Rattle.wf_layers.proofs.Events.{ended_settled, fresh_keeps, run_keeps}
 
@@ -117,7 +118,7 @@ module _ {Row Begun Decision Verdict : Type 0} (m : Source Row Begun Decision Ve
       collect done h = refl
       collect (add n after kind rest) h = and_of (has_ended (s.rows (address n i))) (is_ended rest i s.rows) (h n after kind here) (collect rest (λ q a l st. h q a l (there st)))
 
-  fact : (g : Graph) (i : List ℕ) (n : ℕ) (after : List Need) (kind : Kind) (w : (Opening Decision Verdict)) → IsOpen m.taken d s.opens g i → In g n after kind → s.opens (address n i) ≡ Some w → OpenFact m d so f sol s.rows kind n i w
+  fact : (g : Graph) (i : List ℕ) (n : ℕ) (after : List Need) (kind : Kind) (w : (Opening Decision Verdict)) → IsOpen m.taken d s.opens g i → In g n after kind → s.opens (address n i) ≡ Some w → OpenFact m f s.rows kind n i w
   fact g i n after kind w og st e = (fact_of m d so f sol s.rows s.opens k.facts g i n after kind w og st e).1
 
   -- and each taken branch

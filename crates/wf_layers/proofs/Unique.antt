@@ -5,29 +5,12 @@ use Rattle.wf_layers.specs.Address.{Address, address, Table, starts, is_own, is_
 use Rattle.wf_layers.specs.Source.{Source, gate, GateLocal, SoundIn, SoundAny, Sound}
 use Rattle.wf_layers.specs.Meaning.{only, turns, sides, rounds, last, deepest, rank, skip, run, run_any, meaning}
 use Rattle.wf_layers.specs.Rule.{look_in, look_any, look, Obeys}
+use Rattle.wf_layers.specs.Part.{RegionIn, RegionAny, Region, IsPart}
 use Rattle.wf_layers.proofs.Basics.{two, and_in, and_of, fork, apart, not_true, starts_outer, index_once, when, unless, only_same, cond_same, in_within, rest_within, other_within, own_in, held_in, inner_not_own, rank_below, falls_rank, none_inside, any_within, among_here, among_there, beside_not, longer, some_turn, sides_out, sides_at, rounds_same}
 use Rattle.wf_layers.proofs.Layers.{out_layers, after_layers, body, other_turn, turns_out, turns_at, gate_same, leaf_same}
 use Rattle.wf_layers.proofs.Meaning.{known, whole, Clear, Part, part_all, part_rest, rank_of, block_of, kind_clear, any_out, before_falls}
 
 module _ {Row Begun Decision Verdict : Type 0} (s : Source Row Begun Decision Verdict) (depth : ℕ → ℕ) (low : ℕ → ℕ → Type 0) (falls : (a b : ℕ) → low a b → depth a < depth b) (Sees : Address → Address → Type 0) (P T : ℕ → Bool) (within_T : (n : ℕ) → P n ≡ true → T n ≡ true) (sees_P : (z y : Address) → T z.name ≡ true → Sees z y → P y.name ≡ true) where
-  -- the region has with an action all inside it, its containers are touched, and a loop that is touched is in it
-  abbrev mutual
-    pub RegionIn : Kind → ℕ → Type 0
-    RegionIn Leaf n = Unit {0}
-    RegionIn (Scope g) n = Region g
-    RegionIn (Choice bs) n = RegionAny bs
-    RegionIn (Foreach pace g) n = (T n ≡ true → P n ≡ true) × Region g
-    RegionIn (Until most g) n = (T n ≡ true → P n ≡ true) × Region g
-
-    pub RegionAny : Branches → Type 0
-    RegionAny no_branch = Unit {0}
-    RegionAny (branch b rest) = Region b × RegionAny rest
-
-    pub Region : Graph → Type 0
-    Region done = Unit {0}
-    Region (add n after kind rest) =
-        (P n ≡ true → (q : ℕ) → holds kind q ≡ true → P q ≡ true) × ((q : ℕ) → holds kind q ≡ true → P q ≡ true → T n ≡ true) × RegionIn kind n × Region rest
-
   abbrev pub IntoT : Graph → List ℕ → Table Row → Table Row → Type 0
   IntoT g i k f = (z y : Address) → is_within g i z ≡ true → T z.name ≡ true → Sees z y → ((is_within g i y ≡ true) × IsEarlier low g i y z) ⊎ ((is_within g i y ≡ false) × (k y ≡ f y))
 
@@ -411,7 +394,7 @@ module _ {Row Begun Decision Verdict : Type 0} (s : Source Row Begun Decision Ve
       below (suc b) x w lt px = step i li k f (part_all s depth low falls Sees g i k) into rule clear x w (λ y wy ly py. below b y wy (omega arith) py) px
 
   mutual
-    kind_unique : (kind : Kind) (n l : ℕ) → holds kind n ≡ false → SoundIn s Sees kind n l → RegionIn kind n → (P n ≡ true → (q : ℕ) → holds kind q ≡ true → P q ≡ true) → ((q : ℕ) → holds kind q ≡ true → P q ≡ true → T n ≡ true) → KindUnique kind n l
+    kind_unique : (kind : Kind) (n l : ℕ) → holds kind n ≡ false → SoundIn s Sees kind n l → RegionIn P T kind n → (P n ≡ true → (q : ℕ) → holds kind q ≡ true → P q ≡ true) → ((q : ℕ) → holds kind q ≡ true → P q ≡ true → T n ≡ true) → KindUnique kind n l
     kind_unique Leaf n l nh so re down up = leaf_unique n l so
     kind_unique (Scope g) n l nh so re down up = scope_unique g n nh l so down up (graph_of g l (λ i li k f. step_walk g g l i li k f so.2 re))
     kind_unique (Choice bs) n l nh so re down up = choice_unique bs n nh l so down up (all_agree bs l so.2 re)
@@ -419,11 +402,11 @@ module _ {Row Begun Decision Verdict : Type 0} (s : Source Row Begun Decision Ve
     kind_unique (Foreach (AtMost most) g) n l nh so re down up = beside_unique g most n nh l so down up (graph_of g (suc l) (λ i li k f. step_walk g g (suc l) i li k f so.2 re.1))
     kind_unique (Until most g) n l nh so re down up = until_unique g most n nh l so down up re.0 (graph_of g (suc l) (λ i li k f. step_walk g g (suc l) i li k f so.3 re.1))
 
-    all_agree : (bs : Branches) (l : ℕ) → SoundAny s Sees bs l → RegionAny bs → AllUnique bs l
+    all_agree : (bs : Branches) (l : ℕ) → SoundAny s Sees bs l → RegionAny P T bs → AllUnique bs l
     all_agree no_branch l so re = tt
     all_agree (branch b rest) l so re = (graph_of b l (λ i li k f. step_walk b b l i li k f so.1 re.0), all_agree rest l so.2 re.1)
 
-    step_walk : (g w : Graph) (l : ℕ) (i : List ℕ) → length i ≡ l → (k f : Table Row) → Sound s Sees g l → Region g → Part s depth low falls Sees w i k g → IntoT w i k f → RuleIn g i f → Clear s depth low falls Sees w i k → (x : Address) → is_within g i x ≡ true → ((y : Address) → is_within w i y ≡ true → rank depth w i y < rank depth w i x → P y.name ≡ true → whole s depth low falls Sees w i k y ≡ f y) → P x.name ≡ true → whole s depth low falls Sees w i k x ≡ f x
+    step_walk : (g w : Graph) (l : ℕ) (i : List ℕ) → length i ≡ l → (k f : Table Row) → Sound s Sees g l → Region P T g → Part s depth low falls Sees w i k g → IntoT w i k f → RuleIn g i f → Clear s depth low falls Sees w i k → (x : Address) → is_within g i x ≡ true → ((y : Address) → is_within w i y ≡ true → rank depth w i y < rank depth w i x → P y.name ≡ true → whole s depth low falls Sees w i k y ≡ f y) → P x.name ≡ true → whole s depth low falls Sees w i k x ≡ f x
     step_walk done w l i li k f so re p into rule clear x m ih px = absurd (true≢false (sym m))
     step_walk (add n after kind rest) w l i li k f so re p into rule clear x m ih px =
         ⊎_elim
@@ -436,28 +419,32 @@ module _ {Row Begun Decision Verdict : Type 0} (s : Source Row Begun Decision Ve
         (two (is_in n kind i x))
 
   -- Rows that obey the rule in the region are the meaning's there
-  pub rows_unique : (g : Graph) → Sound s Sees g 0 → Region g → ((y z : Address) → Sees z y → (is_within g [] y ≡ true) × IsEarlier low g [] y z) → (f : Table Row) → RuleIn g [] f → (x : Address) → is_within g [] x ≡ true → P x.name ≡ true → meaning s depth g x ≡ f x
+  pub rows_unique : (g : Graph) → Sound s Sees g 0 → Region P T g → ((y z : Address) → Sees z y → (is_within g [] y ≡ true) × IsEarlier low g [] y z) → (f : Table Row) → RuleIn g [] f → (x : Address) → is_within g [] x ≡ true → P x.name ≡ true → meaning s depth g x ≡ f x
   rows_unique g so re sees f rule x w px =
       graph_of g 0 (λ i li k f. step_walk g g 0 i li k f so re) [] refl (λ y. None) f (λ z y wz tz e. inl (sees y z e)) rule (λ y m. refl) x w px
 
-module _ {Row Begun Decision Verdict : Type 0} (s : Source Row Begun Decision Verdict) (depth : ℕ → ℕ) (g : Graph) (falls : IsDepth g depth) where
-  mutual
-    all_region_in : (kind : Kind) (n : ℕ) → RegionIn s depth (IsBefore g) (before_falls g depth falls) (SeenIn g) (λ n. true) (λ n. true) (λ n e. refl) (λ z y t e. refl) kind n
-    all_region_in Leaf n = tt
-    all_region_in (Scope h) n = all_region h
-    all_region_in (Choice bs) n = all_region_any bs
-    all_region_in (Foreach t h) n = (λ e. refl, all_region h)
-    all_region_in (Until most h) n = (λ e. refl, all_region h)
+mutual
+  all_region_in : (kind : Kind) (n : ℕ) → RegionIn (λ n. true) (λ n. true) kind n
+  all_region_in Leaf n = tt
+  all_region_in (Scope h) n = all_region h
+  all_region_in (Choice bs) n = all_region_any bs
+  all_region_in (Foreach t h) n = (λ e. refl, all_region h)
+  all_region_in (Until most h) n = (λ e. refl, all_region h)
 
-    all_region_any : (bs : Branches) → RegionAny s depth (IsBefore g) (before_falls g depth falls) (SeenIn g) (λ n. true) (λ n. true) (λ n e. refl) (λ z y t e. refl) bs
-    all_region_any no_branch = tt
-    all_region_any (branch b rest) = (all_region b, all_region_any rest)
+  all_region_any : (bs : Branches) → RegionAny (λ n. true) (λ n. true) bs
+  all_region_any no_branch = tt
+  all_region_any (branch b rest) = (all_region b, all_region_any rest)
 
-    all_region : (h : Graph) → Region s depth (IsBefore g) (before_falls g depth falls) (SeenIn g) (λ n. true) (λ n. true) (λ n e. refl) (λ z y t e. refl) h
-    all_region done = tt
-    all_region (add n after kind rest) = (λ e q h. refl, λ q h e. refl, all_region_in kind n, all_region rest)
+  all_region : (h : Graph) → Region (λ n. true) (λ n. true) h
+  all_region done = tt
+  all_region (add n after kind rest) = (λ e q h. refl, λ q h e. refl, all_region_in kind n, all_region rest)
 
 -- All rows that obey the rule are the meaning's
 pub all_unique : {Row Begun Decision Verdict : Type 0} (s : Source Row Begun Decision Verdict) (depth : ℕ → ℕ) (g : Graph) → IsDepth g depth → Sound s (SeenIn g) g 0 → (f : Table Row) → Obeys s g f → (x : Address) → is_within g [] x ≡ true → meaning s depth g x ≡ f x
 all_unique s depth g falls so f sol x w =
-    rows_unique s depth (IsBefore g) (before_falls g depth falls) (SeenIn g) (λ n. true) (λ n. true) (λ n e. refl) (λ z y t e. refl) g so (all_region s depth g falls g) (λ y z e. e) f (λ y v p. sol y v) x w refl
+    rows_unique s depth (IsBefore g) (before_falls g depth falls) (SeenIn g) (λ n. true) (λ n. true) (λ n e. refl) (λ z y t e. refl) g so (all_region g) (λ y z e. e) f (λ y v p. sol y v) x w refl
+
+-- rows that obey the rule in a part of the definition are the meaning's there
+pub part_unique : {Row Begun Decision Verdict : Type 0} (s : Source Row Begun Decision Verdict) (depth : ℕ → ℕ) (g : Graph) → IsDepth g depth → Sound s (SeenIn g) g 0 → (part near : ℕ → Bool) → IsPart g part near → (f : Table Row) → ((y : Address) → is_within g [] y ≡ true → part y.name ≡ true → f y ≡ look s g [] f y) → (x : Address) → is_within g [] x ≡ true → part x.name ≡ true → meaning s depth g x ≡ f x
+part_unique s depth g falls so part near p f rule =
+    rows_unique s depth (IsBefore g) (before_falls g depth falls) (SeenIn g) part near p.within p.sees g so p.tree (λ y z e. e) f rule

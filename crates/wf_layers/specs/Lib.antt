@@ -3,5 +3,8 @@ pub mod Address
 pub mod Source
 pub mod Meaning
 pub mod Rule
+pub mod Part
 pub mod Machine
+pub mod Called
+pub mod Facts
 pub mod Laws

@@ -1,27 +1,41 @@
-//! Laws.
+//! Order independence of workflow runs, as laws over definitions.
+
 #![tactic(auto)]
 
-ghost use Rattle.std.specs.Prelude.{◌≡◌, ℕ, [], true};
+ghost use Rattle.std.specs.Prelude.{ℕ};
+ghost use Rattle.wf_layers.specs.Address.{SeenIn};
 ghost use Rattle.wf_layers.specs.Definition.{Graph, IsDepth};
-ghost use Rattle.wf_layers.specs.Address.{SeenIn, Table, Address, is_within};
-ghost use Rattle.wf_layers.specs.Source.{Source, Sound};
-ghost use Rattle.wf_layers.specs.Meaning.{meaning};
-ghost use Rattle.wf_layers.specs.Rule.{Obeys};
-ghost use Rattle.wf_layers.specs.Laws.{IsInstance, RowsAreTheMeanings, AllRowsAtTheEnd};
+ghost use Rattle.wf_layers.specs.Laws.{AllRowsAtTheEnd, FactsOfStates, IsFresh, IsInstance, MeaningObeysTheRule, PartIsUnique, RowsAreTheMeanings, RowsAreUnique, RowsWhereCalledFor};
+ghost use Rattle.wf_layers.specs.Source.{Sound, Source};
 
-/// The meaning obeys the local rule.
-pub fn meaning_obeys_rule<Row, Begun, Decision, Verdict>()
-    ensures { (s : Source Row Begun Decision Verdict) (g : Graph) (depth : ℕ → ℕ) → IsDepth g depth → Sound s (SeenIn g) g 0 → Obeys s g (meaning s depth g) }
+/// The layered meaning obeys the local rule at every address.
+pub fn meaning_obeys_the_rule<Row, Begun, Decision, Verdict>()
+    ensures { (d : Graph) (m : Source Row Begun Decision Verdict) (depth : ℕ → ℕ) → IsDepth d depth → Sound m (SeenIn d) d 0 → MeaningObeysTheRule d m depth }
 {}
 
-/// A table that obeys the rule is the meaning.
+/// The meaning has rows exactly at the addresses that its own decisions call for.
+pub fn rows_stand_where_called_for<Row, Begun, Decision, Verdict>()
+    ensures { (d : Graph) (m : Source Row Begun Decision Verdict) (depth : ℕ → ℕ) → IsDepth d depth → Sound m (SeenIn d) d 0 → IsFresh m → RowsWhereCalledFor d m depth }
+{}
+
+/// Two tables that obey the local rule are the same.
 pub fn rows_are_unique<Row, Begun, Decision, Verdict>()
-    ensures { (s : Source Row Begun Decision Verdict) (g : Graph) (depth : ℕ → ℕ) → IsDepth g depth → Sound s (SeenIn g) g 0 → (f : Table Row) → Obeys s g f → (x : Address) → is_within g [] x ≡ true → meaning s depth g x ≡ f x }
+    ensures { (d : Graph) (m : Source Row Begun Decision Verdict) (depth : ℕ → ℕ) → IsDepth d depth → Sound m (SeenIn d) d 0 → RowsAreUnique d m }
+{}
+
+/// And so are two that obey it on a part of the definition, there.
+pub fn part_is_unique<Row, Begun, Decision, Verdict>()
+    ensures { (d : Graph) (m : Source Row Begun Decision Verdict) (depth : ℕ → ℕ) → IsDepth d depth → Sound m (SeenIn d) d 0 → PartIsUnique d m }
 {}
 
 /// Whatever order events are taken in, each row is the meaning's.
 pub fn rows_are_the_meanings<Row, Begun, Decision, Verdict>()
     ensures { (d : Graph) (m : Source Row Begun Decision Verdict) (depth : ℕ → ℕ) → IsInstance d m depth → RowsAreTheMeanings d m depth }
+{}
+
+/// Each state that a run reaches has the facts of `Facts`.
+pub fn facts_of_states<Row, Begun, Decision, Verdict>()
+    ensures { (d : Graph) (m : Source Row Begun Decision Verdict) (depth : ℕ → ℕ) → IsInstance d m depth → FactsOfStates d m depth }
 {}
 
 /// Where nothing is enabled, every row of the meaning is there.
