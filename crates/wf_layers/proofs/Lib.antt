@@ -13,3 +13,4 @@ pub mod Limit
 pub mod Facts
 pub mod Called
 pub mod Laws
+pub mod Example

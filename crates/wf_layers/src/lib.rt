@@ -2,10 +2,11 @@
 
 #![tactic(auto)]
 
-ghost use Rattle.std.specs.Prelude.{ℕ};
-ghost use Rattle.wf_layers.specs.Address.{SeenIn};
+ghost use Rattle.std.specs.Prelude.{[], ◌∷◌, ◌≡◌, Bool, Some, ℕ};
+ghost use Rattle.wf_layers.specs.Address.{SeenIn, address};
 ghost use Rattle.wf_layers.specs.Definition.{Graph, IsDepth};
 ghost use Rattle.wf_layers.specs.Laws.{AllRowsAtTheEnd, FactsOfStates, IsFresh, IsInstance, MeaningObeysTheRule, PartIsUnique, RowsAreTheMeanings, RowsAreUnique, RowsWhereCalledFor};
+ghost use Rattle.wf_layers.specs.Meaning.{meaning};
 ghost use Rattle.wf_layers.specs.Source.{Sound, Source};
 
 /// The layered meaning obeys the local rule at every address.
@@ -42,3 +43,9 @@ pub fn facts_of_states<Row, Begun, Decision, Verdict>()
 pub fn all_rows_are_there_at_the_end<Row, Begun, Decision, Verdict>()
     ensures { (d : Graph) (m : Source Row Begun Decision Verdict) (depth : ℕ → ℕ) → IsInstance d m depth → AllRowsAtTheEnd d m depth }
 {}
+
+/// The premises can be met: there is a definition whose loop goes one iteration after the other, and iteration 2 sees iteration 1.
+pub fn premises_can_be_met()
+    ensures { (d : Graph) × (m : Source ℕ ℕ ℕ Bool) × (depth : ℕ → ℕ) × IsInstance d m depth × (meaning m depth d (address 2 (2 ∷ [])) ≡ Some 4) }
+{
+}
