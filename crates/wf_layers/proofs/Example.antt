@@ -1,11 +1,11 @@
 -- Meanings that compute: a sequential iteration sees the one before, a concurrent one doesn't, an Until counts. And the premises
 -- of the laws are met by such a definition, so the laws aren't empty.
-use Rattle.std.proofs.Common.{◌≡◌, ℕ, zero, suc, ◌+◌, ◌<◌, Bool, true, false, ◌&&◌, ◌||◌, ◌⊎◌, cond, List, [], ◌∷◌, Option, Some, None, refl, inl, inr, ⊎_elim, ap, subst, sym, ◌∙◌, length, arith, nat_eq, eqb-true}
-use Rattle.wf_layers.specs.Definition.{Status, Succeeded, Need, Names, Pace, InTurn, AtMost, Kind, Leaf, Scope, Foreach, Until, Choice, Branches, branch, no_branch, Graph, done, add, IsBefore, next, IsDepth, has, has_own, needs_of, Closed, Turns}
+use Rattle.std.proofs.Common.{◌≡◌, ℕ, zero, suc, ◌+◌, ◌<◌, Bool, true, false, ◌&&◌, ◌||◌, cond, List, [], ◌∷◌, Option, Some, None, refl, inl, inr, ⊎_elim, ap, subst, sym, ◌∙◌, length, arith, nat_eq, eqb-true}
+use Rattle.wf_layers.specs.Definition.{Succeeded, Need, Names, InTurn, AtMost, Kind, Leaf, Foreach, Until, Choice, branch, no_branch, Graph, done, add, IsBefore, next, IsDepth, has, has_own, needs_of}
 use Rattle.wf_layers.specs.Address.{Address, address, Table, SeenIn}
 use Rattle.wf_layers.specs.Source.{Source, Sound}
 use Rattle.wf_layers.specs.Meaning.{meaning}
-use Rattle.wf_layers.specs.Machine.{State, Running, Opening}
+use Rattle.wf_layers.specs.Machine.{State}
 use Rattle.wf_layers.specs.Laws.{IsInstance}
 use Rattle.wf_layers.proofs.Basics.{two, same_self}
 
@@ -111,16 +111,30 @@ same_before (zero ∷ js) t u e h = ap value_of (h (address 0 []) (refl, inl fir
 same_before (suc j ∷ js) t u e h = ap value_of (h (address 2 (j ∷ [])) (sees_previous j js))
 
 sound : Sound answers (SeenIn graph) graph 0
-sound =
-    ( ((λ i li p q. absurd q), λ i li t u h. refl), refl, (λ m e. once 0 m (add 1 (record { name = 0; listed = Succeeded ∷ [] } ∷ []) (Foreach InTurn inner) (add 3 (record { name = 1; listed = Succeeded ∷ [] } ∷ []) Leaf done)) refl (or_none' (nat_eq 0 m) e)),
-      ((λ i li t u h. refl), λ i li t u b h. refl),
-      ( ((λ i li p q. ⊎_elim (λ e. subst (λ z. SeenIn graph (address 1 i) (address z i)) e (refl, inl first_before)) (λ e. absurd e) q), λ i li t u h. refl), refl,
-        (λ m e. ⊎_elim (λ t. once 1 m (add 3 (record { name = 1; listed = Succeeded ∷ [] } ∷ []) Leaf done) refl t)
-          (λ t. once 2 m (add 3 (record { name = 1; listed = Succeeded ∷ [] } ∷ []) Leaf done) refl (or_none' (nat_eq 2 m) (or_none' (nat_eq 2 m || false) (sym (ap (λ b. b || (nat_eq 2 m || false || false)) t) ∙ e)))) (two (nat_eq 1 m))),
-        ( (λ i li t u d c v h k. refl), (λ i li t u h. refl),
-          (((λ i li p q. absurd q), λ i li t u h. refl), refl, (λ m e. refl), ((λ i li t u h. ap (λ v. v + 1) (same_before i t u li h)), λ i li t u b h. refl), tt)),
-        ( ((λ i li p q. ⊎_elim (λ e. subst (λ z. SeenIn graph (address 3 i) (address z i)) e (refl, inl loop_before)) (λ e. absurd e) q), λ i li t u h. refl), refl, (λ m e. refl),
-          ((λ i li t u h. ap (λ r. value_of r) (h (address 2 (2 ∷ [])) (refl, inl loop_before))), λ i li t u b h. refl), tt)))
+sound = (
+  ((λ i li p q. absurd q), λ i li t u h. refl),
+  refl,
+  (λ m e. once 0 m (add 1 (record { name = 0; listed = Succeeded ∷ [] } ∷ []) (Foreach InTurn inner) (add 3 (record { name = 1; listed = Succeeded ∷ [] } ∷ []) Leaf done)) refl (or_none' (nat_eq 0 m) e)),
+  ((λ i li t u h. refl), λ i li t u b h. refl),
+  (
+    ((λ i li p q. ⊎_elim (λ e. subst (λ z. SeenIn graph (address 1 i) (address z i)) e (refl, inl first_before)) (λ e. absurd e) q), λ i li t u h. refl),
+    refl,
+    (λ m e. ⊎_elim (λ t. once 1 m (add 3 (record { name = 1; listed = Succeeded ∷ [] } ∷ []) Leaf done) refl t)
+        (λ t. once 2 m (add 3 (record { name = 1; listed = Succeeded ∷ [] } ∷ []) Leaf done) refl (or_none' (nat_eq 2 m) (or_none' (nat_eq 2 m || false) (sym (ap (λ b. b || (nat_eq 2 m || false || false)) t) ∙ e)))) (two (nat_eq 1 m))),
+    (
+      (λ i li t u d c v h k. refl),
+      (λ i li t u h. refl),
+      (((λ i li p q. absurd q), λ i li t u h. refl), refl, (λ m e. refl), ((λ i li t u h. ap (λ v. v + 1) (same_before i t u li h)), λ i li t u b h. refl), tt),
+    ),
+    (
+      ((λ i li p q. ⊎_elim (λ e. subst (λ z. SeenIn graph (address 3 i) (address z i)) e (refl, inl loop_before)) (λ e. absurd e) q), λ i li t u h. refl),
+      refl,
+      (λ m e. refl),
+      ((λ i li t u h. ap (λ r. value_of r) (h (address 2 (2 ∷ [])) (refl, inl loop_before))), λ i li t u b h. refl),
+      tt,
+    ),
+  ),
+)
 
 abbrev last_one : Graph
 last_one = add 3 (record { name = 1; listed = Succeeded ∷ [] } ∷ []) Leaf done

@@ -14,3 +14,4 @@ pub mod Facts
 pub mod Called
 pub mod Laws
 pub mod Example
+pub mod Resubmission

@@ -8,3 +8,4 @@ pub mod Machine
 pub mod Called
 pub mod Facts
 pub mod Laws
+pub mod Resubmission

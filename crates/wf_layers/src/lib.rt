@@ -2,11 +2,12 @@
 
 #![tactic(auto)]
 
-ghost use Rattle.std.specs.Prelude.{[], ◌∷◌, ◌≡◌, Bool, Some, ℕ};
-ghost use Rattle.wf_layers.specs.Address.{SeenIn, address};
+ghost use Rattle.std.specs.Prelude.{[], ◌∷◌, ◌≡◌, Bool, None, Some, ℕ};
+ghost use Rattle.wf_layers.specs.Address.{Address, SeenIn, address};
 ghost use Rattle.wf_layers.specs.Definition.{Graph, IsDepth};
 ghost use Rattle.wf_layers.specs.Laws.{AllRowsAtTheEnd, FactsOfStates, IsFresh, IsInstance, MeaningObeysTheRule, PartIsUnique, RowsAreTheMeanings, RowsAreUnique, RowsWhereCalledFor};
 ghost use Rattle.wf_layers.specs.Meaning.{meaning};
+ghost use Rattle.wf_layers.specs.Resubmission.{IsResubmission, MayBeResubmittedAgain, OldAnswersGiveTheOldRows, ResubmissionIsFresh};
 ghost use Rattle.wf_layers.specs.Source.{Sound, Source};
 
 /// The layered meaning obeys the local rule at every address.
@@ -47,5 +48,25 @@ pub fn all_rows_are_there_at_the_end<Row, Begun, Decision, Verdict>()
 /// The premises can be met: there is a definition whose loop goes one iteration after the other, and iteration 2 sees iteration 1.
 pub fn premises_can_be_met()
     ensures { (d : Graph) × (m : Source ℕ ℕ ℕ Bool) × (depth : ℕ → ℕ) × IsInstance d m depth × (meaning m depth d (address 2 (2 ∷ [])) ≡ Some 4) }
-{
-}
+{}
+
+/// The resubmitted record is that of a fresh run in the environment with one layer more.
+pub fn resubmission_is_fresh<Row, Begun, Decision, Verdict>()
+    ensures { (d : Graph) (depth : ℕ → ℕ) (a b : Source Row Begun Decision Verdict) (redo again : ℕ → Bool) (recall : Address → Decision)
+        → IsDepth d depth → Sound a (SeenIn d) d 0 → Sound b (SeenIn d) d 0 → IsFresh a → IsResubmission d depth a b redo again recall
+        → ResubmissionIsFresh d depth a b redo again recall }
+{}
+
+/// With the old answers everywhere, the resubmitted record is the old one.
+pub fn old_answers_give_the_old_rows<Row, Begun, Decision, Verdict>()
+    ensures { (d : Graph) (depth : ℕ → ℕ) (a b : Source Row Begun Decision Verdict) (redo again : ℕ → Bool) (recall : Address → Decision)
+        → IsDepth d depth → Sound a (SeenIn d) d 0 → Sound b (SeenIn d) d 0 → IsFresh a → ((x : Address) → a.old x ≡ None) → IsResubmission d depth a b redo again recall
+        → OldAnswersGiveTheOldRows d depth a b redo again recall }
+{}
+
+/// A resubmitted record may be resubmitted again.
+pub fn a_resubmitted_record_may_be_resubmitted<Row, Begun, Decision, Verdict>()
+    ensures { (d : Graph) (depth : ℕ → ℕ) (a b : Source Row Begun Decision Verdict) (redo again : ℕ → Bool) (recall : Address → Decision)
+        → IsDepth d depth → Sound a (SeenIn d) d 0 → Sound b (SeenIn d) d 0 → IsFresh a → IsResubmission d depth a b redo again recall
+        → MayBeResubmittedAgain d depth a b redo again recall }
+{}
