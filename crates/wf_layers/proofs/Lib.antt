@@ -15,3 +15,4 @@ pub mod Called
 pub mod Laws
 pub mod Example
 pub mod Resubmission
+pub mod Resumed
