@@ -16,3 +16,4 @@ pub mod Laws
 pub mod Example
 pub mod Resubmission
 pub mod Resumed
+pub mod Variables

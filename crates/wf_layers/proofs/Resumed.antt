@@ -1,20 +1,18 @@
 -- The machine from the state of a resubmission.
-use Rattle.std.proofs.Common.{◌≡◌, ℕ, zero, suc, ◌+◌, ◌<◌, ◌≤◌, Bool, true, false, not, ◌&&◌, ◌||◌, cond, max, List, [], ◌∷◌, ◌++◌, Option, Some, None, ◌⊎◌, inl, inr, ⊎_elim, refl, sym, ap, ap₂, ◌∙◌, subst, arith, nat_eq, eq-eqb, eqb-true, ne_eqb, true≢false, length, length-append, nat_lt, ltb-true, ltb-false}
-use Rattle.std.proofs.lemmas.Bool.{eqb-false}
+use Rattle.std.proofs.Common.{◌≡◌, ℕ, Bool, true, false, ◌&&◌, ◌||◌, List, [], Some, None, ⊎_elim, refl, sym, ap, ◌∙◌, subst, arith, nat_eq, eqb-true, true≢false}
 use Rattle.std.proofs.lemmas.Option.{none-some}
-use Rattle.wf_layers.specs.Definition.{Status, Need, Names, Pace, InTurn, AtMost, Kind, Leaf, Scope, Choice, Foreach, Until, Branches, no_branch, branch, Graph, done, add, is_one, less_one, branch_at, holds, has, has_any, shows, plain, plain_any, has_own, needs_in, needs_of, needs_any, kind_in, kind_of, kind_any, IsBefore, next, more, IsDepth, ClosedIn, ClosedAny, Closed, Goes, TurnsIn, TurnsAny, Turns}
-use Rattle.wf_layers.specs.Address.{Address, address, Table, same_at, starts, is_own, is_in, is_within, is_among, owner, Lower, earlier_in, earlier_any, together, IsEarlier, SeenIn}
-use Rattle.wf_layers.specs.Source.{Source, is_listed, is_met, all_met, gate, leaf, Agrees, AgreesIn, AgreesInside, GateLocal, StartLocal, FinishLocal, CloseLocal, DecideLocal, TestLocal, SoundIn, SoundAny, Sound}
-use Rattle.wf_layers.specs.Meaning.{only, layers, turns, sides, loop, rounds, last, deepest, rank, skip, skip_all, run, run_any, layer, meaning}
-use Rattle.wf_layers.specs.Rule.{look_in, look_any, look, Obeys}
-use Rattle.wf_layers.proofs.Basics.{two, and_in, and_of, front, back, fork, apart, not_true, same_self, same_self_at, starts_self, starts_outer, index_once, when, unless, only_same, cond_same, in_within, rest_within, other_within, own_in, held_in, inner_not_own, rank_below, falls_rank, none_inside, any_within, among_here, among_there, beside_not, longer, some_turn, sides_out, sides_at, rounds_same}
-use Rattle.wf_layers.proofs.Layers.{out_layer, out_layers, off_layer, before_layers, after_layers, body, other_turn, turns_out, turns_at, gate_same, leaf_same}
-
-use Rattle.wf_layers.specs.Machine.{Running, Opening, State, fresh, In, here, there, IsOpen, top, scope, chosen, turn, round, has_ended, is_ended, all_ended, unfinished, or_else, place, one, without, opened, Event, Start, Try, End, Skip, Open, Begin, Test, Close, IsContainer, in_others, skip_others, passed_over, MayBegin, MayTest, MayClose, closing, IsThere, IsDecided, Step, Run, IsOver}
-use Rattle.wf_layers.proofs.Tables.{same_at_is, same_starts, own_is, own_self, Within, one_is, one_within, place_split, place_none, place_agrees, place_fills, place_within, nothing, own_placed, without_split, opened_split, either_or, or_true, held, later', skip_in, skip_all_in, shows_holds, any_plain, plain_has, holds_in, any_in, has_in, inner_name, inner_of, branch_none, taken_has, taken_within}
+use Rattle.wf_layers.specs.Definition.{Need, Kind, Leaf, Scope, Choice, Foreach, Until, Branches, no_branch, branch, Graph, done, add, is_one, less_one, branch_at, holds, has, needs_in, needs_of, needs_any, kind_in, kind_of, kind_any, IsBefore, IsDepth, Closed, Turns}
+use Rattle.wf_layers.specs.Address.{Address, address, Table, same_at, starts, is_in, is_within, SeenIn}
+use Rattle.wf_layers.specs.Source.{Source, gate, Sound}
+use Rattle.wf_layers.specs.Meaning.{deepest, run, meaning}
+use Rattle.wf_layers.specs.Rule.{Obeys}
+use Rattle.wf_layers.proofs.Basics.{two, and_in, and_of, not_true, when, unless}
+use Rattle.wf_layers.proofs.Layers.{out_layers}
+use Rattle.wf_layers.specs.Machine.{Opening, State, In, here, there, IsOpen, top, scope, chosen, turn, round, in_others}
+use Rattle.wf_layers.proofs.Tables.{same_at_is}
 use Rattle.wf_layers.specs.Facts.{OpenFact}
 use Rattle.wf_layers.specs.Laws.{IsFresh}
-use Rattle.wf_layers.specs.Resubmission.{kept, SplitIn, SplitAny, Split, IsSplit, layered, pin, PassedIn, PassedAny, Passed, IsResubmission, reopened, resumed, OthersKept, ResumedRows, ResumedAtTheEnd}
+use Rattle.wf_layers.specs.Resubmission.{kept, SplitIn, SplitAny, Split, IsSplit, pin, PassedIn, PassedAny, Passed, IsResubmission, reopened, resumed, OthersKept, ResumedRows, ResumedAtTheEnd}
 use Rattle.wf_layers.proofs.Meaning.{meaning_solves}
 use Rattle.wf_layers.proofs.Places.{or_right}
 use Rattle.wf_layers.proofs.Open.{OpenFacts, kind_there}
@@ -38,9 +36,9 @@ module _ {Row Begun Decision Verdict : Type 0} (a : Source Row Begun Decision Ve
     at_any (branch g rest) n k s p e =
         ⊎_elim
         (λ t. let h = at_graph g n k s.0 p.0 (sym (when (has g n) (kind_of g n) (kind_any rest n) t) ∙ e) in
-          (h.0, h.1, λ q. subst (λ x. gate a x n [] r ≡ true) (sym (when (has g n) (needs_of g n) (needs_any rest n) t)) (h.2 q)))
+        (h.0, h.1, λ q. subst (λ x. gate a x n [] r ≡ true) (sym (when (has g n) (needs_of g n) (needs_any rest n) t)) (h.2 q)))
         (λ t. let h = at_any rest n k s.1 p.1 (sym (unless (has g n) (kind_of g n) (kind_any rest n) t) ∙ e) in
-          (h.0, h.1, λ q. subst (λ x. gate a x n [] r ≡ true) (sym (unless (has g n) (needs_of g n) (needs_any rest n) t)) (h.2 q)))
+        (h.0, h.1, λ q. subst (λ x. gate a x n [] r ≡ true) (sym (unless (has g n) (needs_of g n) (needs_any rest n) t)) (h.2 q)))
         (two (has g n))
 
     at_graph : (g : Graph) (n : ℕ) (k : Kind) → Split redo again g → Passed a again r g → kind_of g n ≡ Some k → SplitIn redo again k n × (kept redo again n ≡ true → (q : ℕ) → holds k q ≡ true → kept redo again q ≡ true) × (again n ≡ true → gate a (needs_of g n) n [] r ≡ true)
@@ -48,17 +46,18 @@ module _ {Row Begun Decision Verdict : Type 0} (a : Source Row Begun Decision Ve
     at_graph (add c after kind rest) n k s p e =
         ⊎_elim
         (λ t. let same = eqb-true c n t in
-          let x : Some kind ≡ Some k = sym (when (nat_eq c n) (Some kind) _ t) ∙ e in let x' : kind ≡ k = cc in
-          (subst (λ z. SplitIn redo again z n) x' (subst (λ z. SplitIn redo again kind z) same s.2),
-           subst (λ z. kept redo again n ≡ true → (q : ℕ) → holds z q ≡ true → kept redo again q ≡ true) x' (subst (λ z. kept redo again z ≡ true → (q : ℕ) → holds kind q ≡ true → kept redo again q ≡ true) same s.1),
-           λ q. subst (λ z. gate a z n [] r ≡ true) (sym (when (nat_eq c n) after _ t)) (subst (λ z. gate a after z [] r ≡ true) same (p.0 (subst (λ z. again z ≡ true) (sym same) q)))))
+        let x : Some kind ≡ Some k = sym (when (nat_eq c n) (Some kind) _ t) ∙ e in let x' : kind ≡ k = cc in (
+          subst (λ z. SplitIn redo again z n) x' (subst (λ z. SplitIn redo again kind z) same s.2),
+          subst (λ z. kept redo again n ≡ true → (q : ℕ) → holds z q ≡ true → kept redo again q ≡ true) x' (subst (λ z. kept redo again z ≡ true → (q : ℕ) → holds kind q ≡ true → kept redo again q ≡ true) same s.1),
+          λ q. subst (λ z. gate a z n [] r ≡ true) (sym (when (nat_eq c n) after _ t)) (subst (λ z. gate a after z [] r ≡ true) same (p.0 (subst (λ z. again z ≡ true) (sym same) q))),
+        ))
         (λ u. let e' = sym (unless (nat_eq c n) (Some kind) _ u) ∙ e in
-          ⊎_elim
-          (λ t. let h = at_kind kind c n k s.2 p.1 (sym (when (holds kind n) (kind_in kind n) (kind_of rest n) t) ∙ e') in
-            (h.0, h.1, λ q. subst (λ z. gate a z n [] r ≡ true) (sym (unless (nat_eq c n) after _ u ∙ when (holds kind n) (needs_in kind n) (needs_of rest n) t)) (h.2 q)))
-          (λ t. let h = at_graph rest n k s.3 p.2 (sym (unless (holds kind n) (kind_in kind n) (kind_of rest n) t) ∙ e') in
-            (h.0, h.1, λ q. subst (λ z. gate a z n [] r ≡ true) (sym (unless (nat_eq c n) after _ u ∙ unless (holds kind n) (needs_in kind n) (needs_of rest n) t)) (h.2 q)))
-          (two (holds kind n)))
+        ⊎_elim
+        (λ t. let h = at_kind kind c n k s.2 p.1 (sym (when (holds kind n) (kind_in kind n) (kind_of rest n) t) ∙ e') in
+        (h.0, h.1, λ q. subst (λ z. gate a z n [] r ≡ true) (sym (unless (nat_eq c n) after _ u ∙ when (holds kind n) (needs_in kind n) (needs_of rest n) t)) (h.2 q)))
+        (λ t. let h = at_graph rest n k s.3 p.2 (sym (unless (holds kind n) (kind_in kind n) (kind_of rest n) t) ∙ e') in
+        (h.0, h.1, λ q. subst (λ z. gate a z n [] r ≡ true) (sym (unless (nat_eq c n) after _ u ∙ unless (holds kind n) (needs_in kind n) (needs_of rest n) t)) (h.2 q)))
+        (two (holds kind n)))
         (two (nat_eq c n))
 
   in_split : (g : Graph) (n : ℕ) (after : List Need) (kind : Kind) → Split redo again g → In g n after kind → (redo n ≡ true → (q : ℕ) → holds kind q ≡ true → redo q ≡ true) × SplitIn redo again kind n
@@ -121,8 +120,8 @@ module _ {Row Begun Decision Verdict : Type 0} (a b : Source Row Begun Decision 
   open_is n i w kind e k =
       ⊎_elim
       (λ t. let h = and_in (again n) (same_at [] i) t in
-        let v : Some (record { decision = recall (address n i); next = 0; test = None }) ≡ Some w = sym (when (again n && same_at [] i) _ None t ∙ ap (λ z. reopened z (recall (address n i))) k) ∙ e in
-        (h.0, same_at_is [] i h.1, cc))
+      let v : Some (record { decision = recall (address n i); next = 0; test = None }) ≡ Some w = sym (when (again n && same_at [] i) _ None t ∙ ap (λ z. reopened z (recall (address n i))) k) ∙ e in
+      (h.0, same_at_is [] i h.1, cc))
       (λ t. absurd (none-some w (sym (unless (again n && same_at [] i) _ None t) ∙ e)))
       (two (again n && same_at [] i))
 
@@ -132,16 +131,18 @@ module _ {Row Begun Decision Verdict : Type 0} (a b : Source Row Begun Decision 
   facts : OpenFacts m d so f sol s0.rows s0.opens
   facts n i w kind e k =
       let o = open_is n i w kind e k in
-      let at = at_graph a redo again r d n kind sp.tree rs.passed k in
-      (record { free = not_kept' n o.0; passes = ap (λ z. z || gate m (needs_of d n) n i f) o.0 },
-       subst (λ z. OpenFact m f s0.rows kind n i z) (sym o.2) (go kind k o.0 at.0 o.1))
+      let at = at_graph a redo again r d n kind sp.tree rs.passed k in (
+        record { free = not_kept' n o.0; passes = ap (λ z. z || gate m (needs_of d n) n i f) o.0 },
+        subst (λ z. OpenFact m f s0.rows kind n i z) (sym o.2) (go kind k o.0 at.0 o.1),
+      )
     where
       go : (kind : Kind) → kind_of d n ≡ Some kind → again n ≡ true → SplitIn redo again kind n → [] ≡ i → OpenFact m f s0.rows kind n i (record { decision = recall (address n i); next = 0; test = None })
       go Leaf k ag s e = true≢false (sym ag ∙ s)
       go (Scope g) k ag s e = sym (when (again n) (recall (address n i)) _ ag)
-      go (Choice bs) k ag s e =
-          (sym (when (again n) (recall (address n i)) _ ag),
-           λ y h. row_of y (subst (λ j. in_others bs (a.taken (recall (address n j))) j y ≡ true → kept redo again y.name ≡ true) e (others n bs ag k y) h))
+      go (Choice bs) k ag s e = (
+        sym (when (again n) (recall (address n i)) _ ag),
+        λ y h. row_of y (subst (λ j. in_others bs (a.taken (recall (address n j))) j y ≡ true → kept redo again y.name ≡ true) e (others n bs ag k y) h),
+      )
       go (Foreach t g) k ag s e = absurd (true≢false (sym ag ∙ s.0))
       go (Until most g) k ag s e = absurd (true≢false (sym ag ∙ s.0))
 
@@ -152,9 +153,10 @@ module _ {Row Begun Decision Verdict : Type 0} (a b : Source Row Begun Decision 
   old_facts : OpenFacts a d sa r sol_a r s0.opens
   old_facts n i w kind e k =
       let o = open_is n i w kind e k in
-      let at = at_graph a redo again r d n kind sp.tree rs.passed k in
-      (record { free = (fa n).0; passes = subst (λ j. (a.reclosed n || gate a (needs_of d n) n j r) ≡ true) o.1 (or_right a (IsBefore d) (SeenIn d) (a.reclosed n) (gate a (needs_of d n) n [] r) (at.2 o.0)) },
-       subst (λ z. OpenFact a r r kind n i z) (sym o.2) (go kind o.0 at.0 (subst (λ j. recall (address n j) ≡ a.decide (address n j) r) o.1 (rs.recalls n o.0))))
+      let at = at_graph a redo again r d n kind sp.tree rs.passed k in (
+        record { free = (fa n).0; passes = subst (λ j. (a.reclosed n || gate a (needs_of d n) n j r) ≡ true) o.1 (or_right a (IsBefore d) (SeenIn d) (a.reclosed n) (gate a (needs_of d n) n [] r) (at.2 o.0)) },
+        subst (λ z. OpenFact a r r kind n i z) (sym o.2) (go kind o.0 at.0 (subst (λ j. recall (address n j) ≡ a.decide (address n j) r) o.1 (rs.recalls n o.0))),
+      )
     where
       go : (kind : Kind) → again n ≡ true → SplitIn redo again kind n → recall (address n i) ≡ a.decide (address n i) r → OpenFact a r r kind n i (record { decision = recall (address n i); next = 0; test = None })
       go Leaf ag s q = true≢false (sym ag ∙ s)
@@ -192,7 +194,7 @@ module _ {Row Begun Decision Verdict : Type 0} (a b : Source Row Begun Decision 
           ⊎_elim
           (λ t. own_row a d sa r sol_a r s0.opens old_facts g i n after kind og st (ap (λ z. z || a.reclosed n) (fa n).0 ∙ (fa n).1) (sym (when (kept redo again n) (r (address n i)) None t) ∙ e))
           (λ t. let ag = sym (ap (λ z. z || again n) t) ∙ s in
-            none-some _ (sym u ∙ when (again n && same_at [] i) _ None (and_of (again n) (same_at [] i) ag (subst (λ j. same_at [] j ≡ true) (flat g i og) refl)) ∙ ap (λ z. reopened z (recall (address n i))) (kind_there a d sa r sol_a s0.opens g i n after kind og st).0))
+          none-some _ (sym u ∙ when (again n && same_at [] i) _ None (and_of (again n) (same_at [] i) ag (subst (λ j. same_at [] j ≡ true) (flat g i og) refl)) ∙ ap (λ z. reopened z (recall (address n i))) (kind_there a d sa r sol_a s0.opens g i n after kind og st).0))
           (two (kept redo again n))
         where
           -- no open container is a loop

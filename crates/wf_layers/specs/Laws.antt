@@ -8,6 +8,7 @@ use Rattle.wf_layers.specs.Address.{Table}
 use Rattle.wf_layers.specs.Rule.{look, Obeys}
 use Rattle.wf_layers.specs.Part.{IsPart}
 use Rattle.wf_layers.specs.Called.{IsCalled}
+use Rattle.wf_layers.specs.Variables.{SeesFinished, SeenAreThere}
 use Rattle.wf_layers.specs.Facts.{Facts}
 use Rattle.wf_layers.specs.Machine.{State, fresh, has_ended, Event, Run, IsOver}
 
@@ -59,3 +60,7 @@ module _ {Row Begun Decision Verdict : Type 0} where
   -- Each state that a run reaches has the facts, with the meaning's rows.
   abbrev pub FactsOfStates : Graph → Source Row Begun Decision Verdict → (ℕ → ℕ) → Type 0
   FactsOfStates d m depth = (es : List Event) (s : State Row Begun Decision Verdict) → Run d m fresh es s → Facts d m (meaning m depth d) s
+
+  -- In each state that a run reaches: as an action is decided, the finished accesses that it is ordered with, or exclusive, are those that it sees, and all that it sees is there.
+  abbrev pub VariablesInOrder : Graph → Source Row Begun Decision Verdict → (ℕ → ℕ) → Type 0
+  VariablesInOrder d m depth = (es : List Event) (s : State Row Begun Decision Verdict) → Run d m fresh es s → SeesFinished d m s × SeenAreThere d m (meaning m depth d) s

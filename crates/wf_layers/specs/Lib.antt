@@ -7,5 +7,6 @@ pub mod Part
 pub mod Machine
 pub mod Called
 pub mod Facts
+pub mod Variables
 pub mod Laws
 pub mod Resubmission

@@ -5,7 +5,7 @@
 ghost use Rattle.std.specs.Prelude.{[], ◌∷◌, ◌≡◌, Bool, None, Some, ℕ};
 ghost use Rattle.wf_layers.specs.Address.{Address, SeenIn, address};
 ghost use Rattle.wf_layers.specs.Definition.{Closed, Graph, IsDepth, Turns};
-ghost use Rattle.wf_layers.specs.Laws.{AllRowsAtTheEnd, FactsOfStates, IsFresh, IsInstance, MeaningObeysTheRule, PartIsUnique, RowsAreTheMeanings, RowsAreUnique, RowsWhereCalledFor};
+ghost use Rattle.wf_layers.specs.Laws.{AllRowsAtTheEnd, FactsOfStates, IsFresh, IsInstance, MeaningObeysTheRule, PartIsUnique, RowsAreTheMeanings, RowsAreUnique, RowsWhereCalledFor, VariablesInOrder};
 ghost use Rattle.wf_layers.specs.Meaning.{meaning};
 ghost use Rattle.wf_layers.specs.Resubmission.{IsResubmission, MayBeResubmittedAgain, OldAnswersGiveTheOldRows, OthersKept, ResubmissionIsFresh, ResumedAtTheEnd, ResumedRows};
 ghost use Rattle.wf_layers.specs.Source.{Sound, Source};
@@ -73,20 +73,19 @@ pub fn a_resubmitted_record_may_be_resubmitted<Row, Begun, Decision, Verdict>()
 
 /// From the state of a resubmission, whatever order events are taken in, each row is the resubmitted record's.
 pub fn resumed_rows<Row, Begun, Decision, Verdict>()
-    ensures {
-        (d : Graph) (depth : ℕ → ℕ) (a b : Source Row Begun Decision Verdict) (redo again : ℕ → Bool) (recall : Address → Decision)
+    ensures { (d : Graph) (depth : ℕ → ℕ) (a b : Source Row Begun Decision Verdict) (redo again : ℕ → Bool) (recall : Address → Decision)
         → IsDepth d depth → Closed d d → Sound a (SeenIn d) d 0 → Sound b (SeenIn d) d 0 → IsFresh a → IsResubmission d depth a b redo again recall → OthersKept d a redo again recall
-        → ResumedRows d depth a b redo again recall
-    }
-{
-}
+        → ResumedRows d depth a b redo again recall }
+{}
 
 /// And where nothing is enabled, all of its rows are there.
 pub fn resumed_at_the_end<Row, Begun, Decision, Verdict>()
-    ensures {
-        (d : Graph) (depth : ℕ → ℕ) (a b : Source Row Begun Decision Verdict) (redo again : ℕ → Bool) (recall : Address → Decision)
+    ensures { (d : Graph) (depth : ℕ → ℕ) (a b : Source Row Begun Decision Verdict) (redo again : ℕ → Bool) (recall : Address → Decision)
         → IsDepth d depth → Closed d d → Turns d → Sound a (SeenIn d) d 0 → Sound b (SeenIn d) d 0 → IsFresh a → IsResubmission d depth a b redo again recall → OthersKept d a redo again recall
-        → ResumedAtTheEnd d depth a b redo again recall
-    }
-{
-}
+        → ResumedAtTheEnd d depth a b redo again recall }
+{}
+
+/// As an action is decided, the finished accesses of a variable are those that it sees.
+pub fn variables_in_order<Row, Begun, Decision, Verdict>()
+    ensures { (d : Graph) (m : Source Row Begun Decision Verdict) (depth : ℕ → ℕ) → IsInstance d m depth → VariablesInOrder d m depth }
+{}
