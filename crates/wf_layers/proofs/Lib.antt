@@ -17,3 +17,4 @@ pub mod Example
 pub mod Resubmission
 pub mod Resumed
 pub mod Variables
+pub mod Redo

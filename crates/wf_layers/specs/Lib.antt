@@ -9,4 +9,5 @@ pub mod Called
 pub mod Facts
 pub mod Variables
 pub mod Laws
+pub mod Redo
 pub mod Resubmission

@@ -7,7 +7,8 @@ ghost use Rattle.wf_layers.specs.Address.{Address, SeenIn, address};
 ghost use Rattle.wf_layers.specs.Definition.{Closed, Graph, IsDepth, Turns};
 ghost use Rattle.wf_layers.specs.Laws.{AllRowsAtTheEnd, FactsOfStates, IsFresh, IsInstance, MeaningObeysTheRule, PartIsUnique, RowsAreTheMeanings, RowsAreUnique, RowsWhereCalledFor, VariablesInOrder};
 ghost use Rattle.wf_layers.specs.Meaning.{meaning};
-ghost use Rattle.wf_layers.specs.Resubmission.{IsResubmission, MayBeResubmittedAgain, OldAnswersGiveTheOldRows, OthersKept, ResubmissionIsFresh, ResumedAtTheEnd, ResumedRows};
+ghost use Rattle.wf_layers.specs.Redo.{IsRedo};
+ghost use Rattle.wf_layers.specs.Resubmission.{IsResubmission, IsSplit, MayBeResubmittedAgain, OldAnswersGiveTheOldRows, OthersKept, ResubmissionIsFresh, ResumedAtTheEnd, ResumedRows};
 ghost use Rattle.wf_layers.specs.Source.{Sound, Source};
 
 /// The layered meaning obeys the local rule at every address.
@@ -89,3 +90,9 @@ pub fn resumed_at_the_end<Row, Begun, Decision, Verdict>()
 pub fn variables_in_order<Row, Begun, Decision, Verdict>()
     ensures { (d : Graph) (m : Source Row Begun Decision Verdict) (depth : ℕ → ℕ) → IsInstance d m depth → VariablesInOrder d m depth }
 {}
+
+/// From a set of chosen actions: all inside a redone action is redone, all inside a kept one is kept, and nothing kept or closed again stands after what is redone or closed again.
+pub fn order_of_a_resubmission()
+    ensures { (d : Graph) (chosen redo again : ℕ → Bool) → IsRedo d chosen redo again → IsSplit d redo again }
+{
+}
