@@ -18,3 +18,4 @@ pub mod Resubmission
 pub mod Resumed
 pub mod Variables
 pub mod Redo
+pub mod Chosen

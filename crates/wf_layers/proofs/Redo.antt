@@ -17,19 +17,19 @@ use Rattle.wf_layers.specs.Resubmission.{kept, SplitIn, SplitAny, Split, IsSplit
 use Rattle.wf_layers.proofs.Resubmission.{kept_not, kept_other, is_kept}
 
 module _ (d : Graph) (chosen redo again : ℕ → Bool) where
-  abbrev Tree : Bool → Graph → Graph → Type 0
+  abbrev pub Tree : Bool → Graph → Graph → Type 0
   Tree up g w = RedoOf d chosen redo again up g w
 
-  abbrev Inside : Kind → ℕ → Type 0
+  abbrev pub Inside : Kind → ℕ → Type 0
   Inside kind n = RedoIn d chosen redo again kind n
 
   -- redone, or closed again
-  abbrev Moves : ℕ → Type 0
+  abbrev pub Moves : ℕ → Type 0
   Moves q = (redo q ≡ true) ⊎ (again q ≡ true)
 
   -- ALL INSIDE A REDONE ACTION IS REDONE
   mutual
-    kind_redone : (kind : Kind) (n : ℕ) → redo n ≡ true → Inside kind n → (q : ℕ) → holds kind q ≡ true → redo q ≡ true
+    pub kind_redone : (kind : Kind) (n : ℕ) → redo n ≡ true → Inside kind n → (q : ℕ) → holds kind q ≡ true → redo q ≡ true
     kind_redone Leaf n r t q h = absurd (true≢false (sym h))
     kind_redone (Scope g) n r t q h = graph_redone g g (redo n) r t q h
     kind_redone (Choice bs) n r t q h = any_redone bs (redo n) r t q h
@@ -62,7 +62,7 @@ module _ (d : Graph) (chosen redo again : ℕ → Bool) where
   touched_has w c before kind st (inr h) = (h.0, (in_has w c before kind st).1 h.0 h.1, h.2)
 
   mutual
-    kind_touched : (kind : Kind) (n : ℕ) → redo n ≡ false → Inside kind n → (q : ℕ) → holds kind q ≡ true → Moves q → HoldsChosen d chosen kind
+    pub kind_touched : (kind : Kind) (n : ℕ) → redo n ≡ false → Inside kind n → (q : ℕ) → holds kind q ≡ true → Moves q → HoldsChosen d chosen kind
     kind_touched Leaf n r t q h mv = absurd (true≢false (sym h))
     kind_touched (Scope g) n r t q h mv = walk_touched g g (redo n) r (λ x b k st. st) t q h mv
     kind_touched (Choice bs) n r t q h mv = any_touched bs (redo n) r t q h mv
@@ -77,7 +77,7 @@ module _ (d : Graph) (chosen redo again : ℕ → Bool) where
         (λ e. let r = any_touched rest up u t.1 q (sym (ap (λ x. x || has_any rest q) e) ∙ h) mv in (r.0, ap (λ x. has b r.0 || x) r.1 ∙ or_true (has b r.0), r.2))
         (two (has b q))
 
-    walk_touched : (g w : Graph) (up : Bool) → up ≡ false → ((c : ℕ) (before : List Need) (kind : Kind) → In g c before kind → In w c before kind) → Tree up g w → (q : ℕ) → has g q ≡ true → Moves q → (a : ℕ) × (has w a ≡ true) × (chosen a ≡ true)
+    pub walk_touched : (g w : Graph) (up : Bool) → up ≡ false → ((c : ℕ) (before : List Need) (kind : Kind) → In g c before kind → In w c before kind) → Tree up g w → (q : ℕ) → has g q ≡ true → Moves q → (a : ℕ) × (has w a ≡ true) × (chosen a ≡ true)
     walk_touched done w up u into t q h mv = absurd (true≢false (sym h))
     walk_touched (add n after kind rest) w up u into t q h mv =
         ⊎_elim
@@ -107,7 +107,7 @@ module _ (d : Graph) (chosen redo again : ℕ → Bool) where
 
   -- WHAT IS CLOSED AGAIN ISN'T REDONE
   mutual
-    kind_apart : (kind : Kind) (n : ℕ) → Inside kind n → (q : ℕ) → holds kind q ≡ true → again q ≡ true → redo q ≡ false
+    pub kind_apart : (kind : Kind) (n : ℕ) → Inside kind n → (q : ℕ) → holds kind q ≡ true → again q ≡ true → redo q ≡ false
     kind_apart Leaf n t q h e = absurd (true≢false (sym h))
     kind_apart (Scope g) n t q h e = graph_apart g g (redo n) t q h e
     kind_apart (Choice bs) n t q h e = any_apart bs (redo n) t q h e
@@ -130,7 +130,7 @@ module _ (d : Graph) (chosen redo again : ℕ → Bool) where
         (two (nat_eq n q))
 
   -- nothing in a loop is closed again
-  none_again : (g : Graph) (up : Bool) → ((q : ℕ) → has g q ≡ true → chosen q ≡ false) → Tree up g g → (q : ℕ) → has g q ≡ true → again q ≡ false
+  pub none_again : (g : Graph) (up : Bool) → ((q : ℕ) → has g q ≡ true → chosen q ≡ false) → Tree up g g → (q : ℕ) → has g q ≡ true → again q ≡ false
   none_again g up none t q h =
       not_true (again q) (λ e.
         ⊎_elim
@@ -139,7 +139,7 @@ module _ (d : Graph) (chosen redo again : ℕ → Bool) where
         (two up))
 
   -- THE SPLIT
-  not_moving : (q : ℕ) → (Moves q → ⊥) → kept redo again q ≡ true
+  pub not_moving : (q : ℕ) → (Moves q → ⊥) → kept redo again q ≡ true
   not_moving q h = is_kept (redo q) (again q) (not_true (redo q) (λ e. h (inl e))) (not_true (again q) (λ e. h (inr e)))
 
   mutual

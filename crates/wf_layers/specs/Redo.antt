@@ -1,8 +1,6 @@
 -- What a resubmission from a set of actions redoes, and what it closes again.
-use Rattle.std.specs.Prelude.{◌≡◌, ◌≢◌, ℕ, Bool, true, false, List, [], Some, ◌⊎◌}
-use Rattle.wf_layers.specs.Definition.{Need, Pace, Kind, Leaf, Scope, Choice, Foreach, Until, Branches, no_branch, branch, Graph, done, add, holds, has, plain, IsBefore}
-use Rattle.wf_layers.specs.Address.{Address, address, Table}
-use Rattle.wf_layers.specs.Source.{Source}
+use Rattle.std.specs.Prelude.{◌≡◌, ℕ, Bool, true, false, List, ◌⊎◌}
+use Rattle.wf_layers.specs.Definition.{Need, Pace, Kind, Leaf, Scope, Choice, Foreach, Until, Branches, no_branch, branch, Graph, done, add, holds, has, IsBefore}
 use Rattle.wf_layers.specs.Machine.{In}
 
 module _ (d : Graph) (chosen : ℕ → Bool) where
@@ -43,7 +41,3 @@ module _ (d : Graph) (chosen : ℕ → Bool) where
 pub record IsRedo (d : Graph) (chosen redo again : ℕ → Bool) : Type 0 where
   pub tree : RedoOf d chosen redo again false d d
   pub outside : (n : ℕ) → has d n ≡ false → again n ≡ false
-
--- Each chosen action ran in the old table: it has a row there that isn't a Skipped one.
-abbrev pub ChosenRan : {Row Begun Decision Verdict : Type 0} → Graph → Source Row Begun Decision Verdict → (ℕ → Bool) → Table Row → Type 0
-ChosenRan d a chosen r = (n : ℕ) → chosen n ≡ true → has d n ≡ true → r (address n []) ≢ Some a.skipped

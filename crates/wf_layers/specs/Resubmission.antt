@@ -4,6 +4,7 @@ use Rattle.wf_layers.specs.Definition.{Kind, Leaf, Scope, Choice, Foreach, Until
 use Rattle.wf_layers.specs.Address.{Address, address, Table, same_at, is_within, SeenIn}
 use Rattle.wf_layers.specs.Source.{Source, Sound, gate}
 use Rattle.wf_layers.specs.Meaning.{meaning}
+use Rattle.wf_layers.specs.Redo.{IsRedo}
 use Rattle.wf_layers.specs.Machine.{Opening, State, Event, Run, IsOver, in_others}
 
 -- What is neither redone nor closed again is kept.
@@ -106,6 +107,13 @@ module _ {Row Begun Decision Verdict : Type 0} where
   pub record IsResubmission (d : Graph) (depth : ℕ → ℕ) (a b : Source Row Begun Decision Verdict) (redo again : ℕ → Bool) (recall : Address → Decision) : Type 0 where
     pub split : IsSplit d redo again
     pub passed : Passed a again (meaning a depth d) d
+    pub recalls : (n : ℕ) → again n ≡ true → recall (address n []) ≡ a.decide (address n []) (meaning a depth d)
+    pub closes : (x : Address) (p : Decision) (c : ℕ) (v : Option Verdict) (t : Table Row) → again x.name ≡ true → b.close x p c v t ≡ a.close x p c v t
+
+  -- The same from a set of chosen actions: what is redone and closed again is theirs, and each of them ran, that is, its row in the old table isn't a Skipped one.
+  pub record IsSetResubmission (d : Graph) (depth : ℕ → ℕ) (a b : Source Row Begun Decision Verdict) (chosen redo again : ℕ → Bool) (recall : Address → Decision) : Type 0 where
+    pub redone : IsRedo d chosen redo again
+    pub ran : (n : ℕ) → chosen n ≡ true → meaning a depth d (address n []) ≡ Some a.skipped → ⊥
     pub recalls : (n : ℕ) → again n ≡ true → recall (address n []) ≡ a.decide (address n []) (meaning a depth d)
     pub closes : (x : Address) (p : Decision) (c : ℕ) (v : Option Verdict) (t : Table Row) → again x.name ≡ true → b.close x p c v t ≡ a.close x p c v t
 

@@ -8,7 +8,7 @@ ghost use Rattle.wf_layers.specs.Definition.{Closed, Graph, IsDepth, Turns};
 ghost use Rattle.wf_layers.specs.Laws.{AllRowsAtTheEnd, FactsOfStates, IsFresh, IsInstance, MeaningObeysTheRule, PartIsUnique, RowsAreTheMeanings, RowsAreUnique, RowsWhereCalledFor, VariablesInOrder};
 ghost use Rattle.wf_layers.specs.Meaning.{meaning};
 ghost use Rattle.wf_layers.specs.Redo.{IsRedo};
-ghost use Rattle.wf_layers.specs.Resubmission.{IsResubmission, IsSplit, MayBeResubmittedAgain, OldAnswersGiveTheOldRows, OthersKept, ResubmissionIsFresh, ResumedAtTheEnd, ResumedRows};
+ghost use Rattle.wf_layers.specs.Resubmission.{IsResubmission, IsSetResubmission, IsSplit, MayBeResubmittedAgain, OldAnswersGiveTheOldRows, OthersKept, ResubmissionIsFresh, ResumedAtTheEnd, ResumedRows};
 ghost use Rattle.wf_layers.specs.Source.{Sound, Source};
 
 /// The layered meaning obeys the local rule at every address.
@@ -94,5 +94,15 @@ pub fn variables_in_order<Row, Begun, Decision, Verdict>()
 /// From a set of chosen actions: all inside a redone action is redone, all inside a kept one is kept, and nothing kept or closed again stands after what is redone or closed again.
 pub fn order_of_a_resubmission()
     ensures { (d : Graph) (chosen redo again : ℕ → Bool) → IsRedo d chosen redo again → IsSplit d redo again }
+{
+}
+
+/// From a set of chosen actions that ran, in no loop, all that the laws of resubmission ask of the order is there.
+pub fn a_set_is_resubmitted<Row, Begun, Decision, Verdict>()
+    ensures {
+        (d : Graph) (depth : ℕ → ℕ) (a b : Source Row Begun Decision Verdict) (chosen redo again : ℕ → Bool) (recall : Address → Decision)
+        → IsDepth d depth → Sound a (SeenIn d) d 0 → IsFresh a → IsSetResubmission d depth a b chosen redo again recall
+        → IsResubmission d depth a b redo again recall × OthersKept d a redo again recall
+    }
 {
 }
