@@ -440,7 +440,7 @@ module _ {Row Begun Decision Verdict : Type 0} (m : Source Row Begun Decision Ve
 
   module _ (closed : (IsClosed m d so f sol)) (out : (SpecialOut m d so f sol)) where
     -- Each kind of event keeps it
-    step_keeps : (s : State Row Begun Decision Verdict) (e : Event) (s' : State Row Begun Decision Verdict) → (Keeps m d so f sol) s → Step d m s e s' → (Keeps m d so f sol) s'
+    pub step_keeps : (s : State Row Begun Decision Verdict) (e : Event) (s' : State Row Begun Decision Verdict) → (Keeps m d so f sol) s → Step d m s e s' → (Keeps m d so f sol) s'
     step_keeps s (Start n i) s' k (after, de, pass, to) = subst (Keeps m d so f sol) (sym to) (start_keeps closed s k de.is_there.graph i n after de.is_there.is_open de.is_there.is_in (plain_decided closed s k de.is_there.graph i n after Leaf de.is_there.is_open de.is_there.is_in de.no_row de.not_open) de.ended pass)
     step_keeps s (Try n i) s' k (w, e, lt, to) = subst (Keeps m d so f sol) (sym to) (try_keeps closed s k n i w e lt)
     step_keeps s (End n i) s' k (w, e, all, to) = subst (Keeps m d so f sol) (sym to) (end_keeps closed s k n i w e)

@@ -19,3 +19,6 @@ pub mod Resumed
 pub mod Variables
 pub mod Redo
 pub mod Chosen
+pub mod Bound
+pub mod Ends
+pub mod Bounded

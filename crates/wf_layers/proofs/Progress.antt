@@ -12,7 +12,7 @@ use Rattle.wf_layers.specs.Laws.{IsInstance, RowsAreTheMeanings, AllRowsAtTheEnd
 use Rattle.wf_layers.proofs.Meaning.{meaning_solves}
 use Rattle.wf_layers.specs.Facts.{OpenFact}
 use Rattle.wf_layers.proofs.Open.{kind_there, fact_of}
-use Rattle.wf_layers.proofs.Keeps.{Keeps, IsClosed}
+use Rattle.wf_layers.proofs.Keeps.{Keeps, IsClosed, SpecialOut}
 use Rattle.wf_layers.proofs.Events.{ended_settled, fresh_keeps, run_keeps}
 
 -- CLOSED DEFINITIONS
@@ -209,11 +209,14 @@ module _ {Row Begun Decision Verdict : Type 0} (d : Graph) (m : Source Row Begun
   plain' : (n : ℕ) → (m.pinned n || m.reclosed n) ≡ false
   plain' n = ap (λ b. b || m.reclosed n) (is.own n).0 ∙ (is.own n).1
 
+  pub nothing_special : SpecialOut m d is.local (meaning m depth d) sol
+  nothing_special o g i n after kind og st q h sp = absurd (true≢false (sym sp ∙ plain' q))
+
   -- what each reached state keeps
   pub kept_state : (es : List Event) (s : State Row Begun Decision Verdict) → Run d m fresh es s → Keeps m d is.local (meaning m depth d) sol s
   kept_state es s r =
       run_keeps m d is.local (meaning m depth d) sol (closed_is m d is.local (meaning m depth d) sol is.closed)
-      (λ o g i n after kind og st q h sp. absurd (true≢false (sym sp ∙ plain' q)))
+      nothing_special
       fresh es s (fresh_keeps m d is.local (meaning m depth d) sol plain') r
 
   pub rows_are_the_meanings : RowsAreTheMeanings d m depth

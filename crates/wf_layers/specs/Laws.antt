@@ -1,5 +1,5 @@
 -- The laws of order independence, as facts of a definition, a source and its meaning.
-use Rattle.std.specs.Prelude.{◌≡◌, ℕ, Bool, true, false, List, [], Some}
+use Rattle.std.specs.Prelude.{◌≡◌, ℕ, Bool, true, false, List, [], Some, ◌≤◌, length}
 use Rattle.wf_layers.specs.Definition.{Graph, IsDepth, Closed, Turns}
 use Rattle.wf_layers.specs.Address.{Address, SeenIn, is_within}
 use Rattle.wf_layers.specs.Source.{Source, Sound}
@@ -9,6 +9,7 @@ use Rattle.wf_layers.specs.Rule.{look, Obeys}
 use Rattle.wf_layers.specs.Part.{IsPart}
 use Rattle.wf_layers.specs.Called.{IsCalled}
 use Rattle.wf_layers.specs.Variables.{SeesFinished, SeenAreThere}
+use Rattle.wf_layers.specs.Bound.{total}
 use Rattle.wf_layers.specs.Facts.{Facts}
 use Rattle.wf_layers.specs.Machine.{State, fresh, has_ended, Event, Run, IsOver}
 
@@ -64,3 +65,7 @@ module _ {Row Begun Decision Verdict : Type 0} where
   -- In each state that a run reaches: as an action is decided, the finished accesses that it is ordered with, or exclusive, are those that it sees, and all that it sees is there.
   abbrev pub VariablesInOrder : Graph → Source Row Begun Decision Verdict → (ℕ → ℕ) → Type 0
   VariablesInOrder d m depth = (es : List Event) (s : State Row Begun Decision Verdict) → Run d m fresh es s → SeesFinished d m s × SeenAreThere d m (meaning m depth d) s
+
+  -- A run has at most as many events as the meaning's rows give the definition, so each run ends.
+  abbrev pub EventsAreBounded : Graph → Source Row Begun Decision Verdict → (ℕ → ℕ) → Type 0
+  EventsAreBounded d m depth = (es : List Event) (s : State Row Begun Decision Verdict) → Run d m fresh es s → length es ≤ total m (meaning m depth d) d []

@@ -8,6 +8,7 @@ pub mod Machine
 pub mod Called
 pub mod Facts
 pub mod Variables
+pub mod Bound
 pub mod Laws
 pub mod Redo
 pub mod Resubmission
