@@ -1,18 +1,16 @@
 -- A run has at most so many events as its rows give it: what they come to so far.
-use Rattle.std.proofs.Common.{◌≡◌, ℕ, zero, suc, ◌+◌, ◌<◌, ◌≤◌, Bool, true, false, not, ◌&&◌, ◌||◌, cond, max, List, [], ◌∷◌, ◌++◌, Option, Some, None, ◌⊎◌, inl, inr, ⊎_elim, refl, sym, ap, ap₂, ◌∙◌, subst, arith, nat_eq, eq-eqb, eqb-true, ne_eqb, true≢false, length, length-append, nat_lt, ltb-true, ltb-false}
+use Rattle.std.proofs.Common.{◌≡◌, ℕ, zero, suc, ◌+◌, ◌<◌, ◌≤◌, Bool, true, false, ◌||◌, cond, List, [], ◌∷◌, ◌++◌, Option, Some, None, ⊎_elim, refl, sym, ap, ◌∙◌, subst, arith, nat_eq, eqb-true, true≢false, length}
 use Rattle.std.proofs.lemmas.Bool.{eqb-false}
 use Rattle.std.proofs.lemmas.Option.{none-some}
-use Rattle.wf_layers.specs.Definition.{Status, Need, Names, Pace, InTurn, AtMost, Kind, Leaf, Scope, Choice, Foreach, Until, Branches, no_branch, branch, Graph, done, add, is_one, less_one, branch_at, holds, has, has_any, shows, plain, plain_any, has_own, needs_in, needs_of, needs_any, kind_in, kind_of, kind_any, IsBefore, IsDepth, ClosedIn, ClosedAny, Closed, Goes, TurnsIn, TurnsAny, Turns}
-use Rattle.wf_layers.specs.Address.{Address, address, Table, same_at, starts, is_own, is_in, is_within, is_among, owner, Lower, earlier_in, earlier_any, together, IsEarlier, SeenIn}
-use Rattle.wf_layers.specs.Source.{Source, is_listed, is_met, all_met, gate, leaf, Agrees, AgreesIn, AgreesInside, GateLocal, StartLocal, FinishLocal, CloseLocal, DecideLocal, TestLocal, SoundIn, SoundAny, Sound}
-use Rattle.wf_layers.specs.Meaning.{only, layers, turns, sides, loop, rounds, last, deepest, rank, skip, skip_all, run, run_any, layer, meaning}
-use Rattle.wf_layers.specs.Rule.{look_in, look_any, look, Obeys}
-use Rattle.wf_layers.proofs.Basics.{two, and_in, and_of, front, back, fork, apart, not_true, same_self, same_self_at, starts_self, starts_outer, index_once, when, unless, only_same, cond_same, in_within, rest_within, other_within, own_in, held_in, inner_not_own, rank_below, falls_rank, none_inside, any_within, among_here, among_there, beside_not, longer, some_turn, sides_out, sides_at, rounds_same}
-use Rattle.wf_layers.proofs.Layers.{out_layer, out_layers, off_layer, before_layers, after_layers, body, other_turn, turns_out, turns_at, gate_same, leaf_same}
-
-use Rattle.wf_layers.specs.Machine.{Running, Opening, State, fresh, In, here, there, IsOpen, top, scope, chosen, turn, round, has_ended, is_ended, all_ended, unfinished, or_else, place, one, without, opened, Event, Start, Try, End, Skip, Open, Begin, Test, Close, IsContainer, in_others, skip_others, passed_over, MayBegin, MayTest, MayClose, closing, IsThere, IsDecided, Step, Run, IsOver}
-use Rattle.wf_layers.proofs.Tables.{same_at_is, same_starts, own_is, own_self, Within, one_is, one_within, place_split, place_none, place_agrees, place_fills, place_within, own_placed, without_split, opened_split, either_or, or_true, held, later', skip_in, skip_all_in, shows_holds, any_plain, plain_has, holds_in, any_in, has_in, inner_name, inner_of, branch_none, taken_has, taken_within}
-use Rattle.wf_layers.proofs.Places.{Stands, within_of, or_right, or_none, stands, taken_sound, taken_kind, taken_needs, taken_look, taken_joined, taken_joins}
+use Rattle.wf_layers.specs.Definition.{Need, Kind, Leaf, Scope, Choice, Foreach, Until, Branches, no_branch, branch, Graph, done, add, is_one, less_one, branch_at, holds, has, has_any, kind_in, kind_of, kind_any, IsBefore}
+use Rattle.wf_layers.specs.Address.{Address, address, Table, same_at, starts, is_own, is_in, is_within, is_among, SeenIn}
+use Rattle.wf_layers.specs.Source.{Source, SoundIn, SoundAny, Sound}
+use Rattle.wf_layers.specs.Meaning.{rounds}
+use Rattle.wf_layers.specs.Rule.{Obeys}
+use Rattle.wf_layers.proofs.Basics.{two, and_in, and_of, not_true, same_self, starts_outer, index_once, when, unless, in_within, rest_within, own_in, held_in, among_here, among_there}
+use Rattle.wf_layers.specs.Machine.{Opening, In, here, there, IsOpen, top, scope, chosen, turn, round}
+use Rattle.wf_layers.proofs.Tables.{same_at_is, later', taken_has, taken_within}
+use Rattle.wf_layers.proofs.Places.{within_of, or_right, or_none, stands}
 use Rattle.wf_layers.specs.Bound.{sum, total_in, total_any, total}
 use Rattle.wf_layers.proofs.Open.{OpenFacts, open_sub, placed_in}
 
@@ -33,11 +31,11 @@ sum_gains zero b gain h k lt more at = absurd (omega arith)
 sum_gains (suc c) b gain h k lt more at =
     ⊎_elim
     (λ t. let s = eqb-true b c t in
-      let x = sum_more c c h k (omega arith) (λ j l. more j (omega arith) (λ e. omega (arith, l, e, s))) in
-      let y = subst (λ z. h z + gain ≤ k z) s at in omega (arith, x, y))
+    let x = sum_more c c h k (omega arith) (λ j l. more j (omega arith) (λ e. omega (arith, l, e, s))) in
+    let y = subst (λ z. h z + gain ≤ k z) s at in omega (arith, x, y))
     (λ u. let ne = eqb-false b c u in
-      let x = sum_gains c b gain h k (omega (arith, ne)) (λ j l. more j (omega arith)) at in
-      let y = more c (omega arith) (λ e. omega (arith, e, ne)) in omega (arith, x, y))
+    let x = sum_gains c b gain h k (omega (arith, ne)) (λ j l. more j (omega arith)) at in
+    let y = more c (omega arith) (λ e. omega (arith, e, ne)) in omega (arith, x, y))
     (two (nat_eq b c))
 
 pub outer' : (g : Graph) (i : List ℕ) (j : ℕ) (y : Address) → is_within g (i ++ j ∷ []) y ≡ true → is_within g i y ≡ true
@@ -64,12 +62,12 @@ begun_most most (suc j) p le h = reach most 0 j p (λ q l. h q (omega arith)) (o
     reach (suc a) k j p h le lt =
         ⊎_elim
         (λ same. let s = eqb-true k j same in
-          ⊎_elim
-          (λ t. let e = when (p k) (suc k) (rounds a (suc k) p) t in omega (arith, e, s))
-          (λ u. let e = unless (p k) (suc k) (rounds a (suc k) p) u in let r = above a (suc k) p in omega (arith, e, s, r))
-          (two (p k)))
+        ⊎_elim
+        (λ t. let e = when (p k) (suc k) (rounds a (suc k) p) t in omega (arith, e, s))
+        (λ u. let e = unless (p k) (suc k) (rounds a (suc k) p) u in let r = above a (suc k) p in omega (arith, e, s, r))
+        (two (p k)))
         (λ ne. let x : k < j = omega (arith, eqb-false k j ne) in
-          let e = unless (p k) (suc k) (rounds a (suc k) p) (h k x) in let r = reach a (suc k) j p h x (omega arith) in omega (arith, e, r))
+        let e = unless (p k) (suc k) (rounds a (suc k) p) (h k x) in let r = reach a (suc k) j p h x (omega arith) in omega (arith, e, r))
         (two (nat_eq k j))
 
 module _ {Row Begun Decision Verdict : Type 0} (m : Source Row Begun Decision Verdict) (f : Table Row) where
@@ -165,25 +163,26 @@ module _ {Row Begun Decision Verdict : Type 0} (m : Source Row Begun Decision Ve
     any_gains Sees l k (branch a rest) g i so e h at =
         ⊎_elim
         (λ t. let same : Some a ≡ Some g = sym (when (is_one k) (Some a) _ t) ∙ e in let is : a ≡ g = cc in
-          let x = subst (λ z. so_far o b z i + gain ≤ so_far u c z i) (sym is) at in
-          let z = more_any o u b c up rest i (λ y w. not_here y (λ q. true≢false (sym (and_in (has_any rest y.name) (starts i y.at) w).0 ∙ ap (λ v. has_any rest v) (sym (eqb-true n0 y.name q)) ∙ so.0 n0 (subst (λ v. has v n0 ≡ true) (sym is) h)))) in
-          omega (arith, x, z))
+        let x = subst (λ z. so_far o b z i + gain ≤ so_far u c z i) (sym is) at in
+        let z = more_any o u b c up rest i (λ y w. not_here y (λ q. true≢false (sym (and_in (has_any rest y.name) (starts i y.at) w).0 ∙ ap (λ v. has_any rest v) (sym (eqb-true n0 y.name q)) ∙ so.0 n0 (subst (λ v. has v n0 ≡ true) (sym is) h)))) in
+        omega (arith, x, z))
         (λ t. let e' = sym (unless (is_one k) (Some a) _ t) ∙ e in
-          let x = any_gains Sees l (less_one k) rest g i so.2 e' h at in
-          let z = more o u b c up a i (λ y w. not_here y (λ q. true≢false (sym (taken_has g rest (less_one k) e' n0 h) ∙ so.0 n0 (subst (λ v. has a v ≡ true) (sym (eqb-true n0 y.name q)) (and_in (has a y.name) (starts i y.at) w).0)))) in
-          omega (arith, x, z))
+        let x = any_gains Sees l (less_one k) rest g i so.2 e' h at in
+        let z = more o u b c up a i (λ y w. not_here y (λ q. true≢false (sym (taken_has g rest (less_one k) e' n0 h) ∙ so.0 n0 (subst (λ v. has a v ≡ true) (sym (eqb-true n0 y.name q)) (and_in (has a y.name) (starts i y.at) w).0)))) in
+        omega (arith, x, z))
         (two (is_one k))
 
     -- at an open container with this opening
     opened_gains : (x : Address) (h k : Opening Decision Verdict → ℕ) (s t : ℕ) (w : Opening Decision Verdict) → o x ≡ Some w → u x ≡ o x → h w + gain ≤ k w → counted (o x) h s + gain ≤ counted (u x) k t
     opened_gains x h k s t w e same at =
         subst (λ z. counted (o x) h s + gain ≤ counted z k t) (sym (same ∙ e)) (subst (λ z. counted z h s + gain ≤ k w) (sym e) at)
+
     -- other iterations of a loop don't hold the address
     other_iteration : (h : Graph) (i : List ℕ) (j q : ℕ) → is_within h (i ++ j ∷ []) (address n0 i0) ≡ true → (q ≡ j → ⊥) → so_far o b h (i ++ q ∷ []) ≤ so_far u c h (i ++ q ∷ [])
     other_iteration h i j q w0 ne =
         more o u b c up h (i ++ q ∷ []) (λ y w. only_here y (not_true (is_own n0 i0 y) (λ e.
-          let at = same_at_is i0 y.at (and_in (nat_eq n0 y.name) (same_at i0 y.at) e).1 in
-          ne (index_once i q j y.at (and_in (has h y.name) (starts (i ++ q ∷ []) y.at) w).1 (subst (λ z. starts (i ++ j ∷ []) z ≡ true) at (and_in (has h n0) (starts (i ++ j ∷ []) i0) w0).1)))))
+        let at = same_at_is i0 y.at (and_in (nat_eq n0 y.name) (same_at i0 y.at) e).1 in
+        ne (index_once i q j y.at (and_in (has h y.name) (starts (i ++ q ∷ []) y.at) w).1 (subst (λ z. starts (i ++ j ∷ []) z ≡ true) at (and_in (has h n0) (starts (i ++ j ∷ []) i0) w0).1)))))
 
     -- from an open graph to the whole definition
     open_gains : (d : Graph) (so : Sound m (SeenIn d) d 0) (sol : Obeys m d f) (g : Graph) (i : List ℕ) → IsOpen m.taken d o g i → is_within g i (address n0 i0) ≡ true → so_far o b g i + gain ≤ so_far u c g i → so_far o b d [] + gain ≤ so_far u c d []
@@ -194,7 +193,7 @@ module _ {Row Begun Decision Verdict : Type 0} (m : Source Row Begun Decision Ve
         let h0 = (and_in (has h n0) (starts i i0) w0).0 in
         open_gains d so sol g i og (within_of m (IsBefore d) (SeenIn d) (length i) g n after (Scope h) pl i (address n0 i0) in0)
         (graph_gains (SeenIn d) (length i) g i n after (Scope h) sub.sound st (or_right m (IsBefore d) (SeenIn d) (nat_eq n n0) (has h n0) h0)
-          (opened_gains (address n i) (λ w. suc (so_far o b h i)) (λ w. suc (so_far u c h i)) _ _ w e (not_here (address n i) (λ q. apart_names (Scope h) n n0 pl.apart_own h0 q)) (omega (arith, at))))
+        (opened_gains (address n i) (λ w. suc (so_far o b h i)) (λ w. suc (so_far u c h i)) _ _ w e (not_here (address n i) (λ q. apart_names (Scope h) n n0 pl.apart_own h0 q)) (omega (arith, at))))
     open_gains d so sol _ i (chosen {g = g} {b = br} {n = n} {after = after} {bs = bs} {w = w} og st e is) = λ w0 at.
         let sub = open_sub m d so f sol o g i og in let pl = placed_in m d so f sol (length i) g n after (Choice bs) sub st in
         let wa = taken_within br bs (m.taken w.decision) is i (address n0 i0) w0 in
@@ -203,7 +202,7 @@ module _ {Row Begun Decision Verdict : Type 0} (m : Source Row Begun Decision Ve
         let a = any_gains (SeenIn d) (length i) (m.taken w.decision) bs br i pl.sound.2 is (and_in (has br n0) (starts i i0) w0).0 at in
         open_gains d so sol g i og (within_of m (IsBefore d) (SeenIn d) (length i) g n after (Choice bs) pl i (address n0 i0) in0)
         (graph_gains (SeenIn d) (length i) g i n after (Choice bs) sub.sound st (or_right m (IsBefore d) (SeenIn d) (nat_eq n n0) (has_any bs n0) h0)
-          (opened_gains (address n i) (λ w. suc (so_far_any o b bs i)) (λ w. suc (so_far_any u c bs i)) _ _ w e (not_here (address n i) (λ q. apart_names (Choice bs) n n0 pl.apart_own h0 q)) (omega (arith, a))))
+        (opened_gains (address n i) (λ w. suc (so_far_any o b bs i)) (λ w. suc (so_far_any u c bs i)) _ _ w e (not_here (address n i) (λ q. apart_names (Choice bs) n n0 pl.apart_own h0 q)) (omega (arith, a))))
     open_gains d so sol _ _ (turn {g = g} {h = h} {i = i} {n = n} {after = after} {pace = pace} {w = w} j og st e lt) = λ w0 at.
         let sub = open_sub m d so f sol o g i og in let pl = placed_in m d so f sol (length i) g n after (Foreach pace h) sub st in
         let wo = outer' h i j (address n0 i0) w0 in
@@ -212,7 +211,7 @@ module _ {Row Begun Decision Verdict : Type 0} (m : Source Row Begun Decision Ve
         let x = sum_gains w.next j gain (λ j. suc (so_far o b h (i ++ j ∷ []))) (λ j. suc (so_far u c h (i ++ j ∷ []))) lt (λ q l ne. let z = other_iteration h i j q w0 ne in omega (arith, z)) (omega (arith, at)) in
         open_gains d so sol g i og (within_of m (IsBefore d) (SeenIn d) (length i) g n after (Foreach pace h) pl i (address n0 i0) in0)
         (graph_gains (SeenIn d) (length i) g i n after (Foreach pace h) sub.sound st (or_right m (IsBefore d) (SeenIn d) (nat_eq n n0) (has h n0) h0)
-          (opened_gains (address n i) (λ w. suc (sum w.next (λ j. suc (so_far o b h (i ++ j ∷ []))))) (λ w. suc (sum w.next (λ j. suc (so_far u c h (i ++ j ∷ []))))) _ _ w e (not_here (address n i) (λ q. apart_names (Foreach pace h) n n0 pl.apart_own h0 q)) (omega (arith, x))))
+        (opened_gains (address n i) (λ w. suc (sum w.next (λ j. suc (so_far o b h (i ++ j ∷ []))))) (λ w. suc (sum w.next (λ j. suc (so_far u c h (i ++ j ∷ []))))) _ _ w e (not_here (address n i) (λ q. apart_names (Foreach pace h) n n0 pl.apart_own h0 q)) (omega (arith, x))))
     open_gains d so sol _ _ (round {g = g} {h = h} {i = i} {n = n} {most = most} {after = after} {w = w} j og st e lt) = λ w0 at.
         let sub = open_sub m d so f sol o g i og in let pl = placed_in m d so f sol (length i) g n after (Until most h) sub st in
         let wo = outer' h i j (address n0 i0) w0 in
@@ -221,7 +220,7 @@ module _ {Row Begun Decision Verdict : Type 0} (m : Source Row Begun Decision Ve
         let x = sum_gains w.next j gain (λ j. suc (so_far o b h (i ++ j ∷ []))) (λ j. suc (so_far u c h (i ++ j ∷ []))) lt (λ q l ne. let z = other_iteration h i j q w0 ne in omega (arith, z)) (omega (arith, at)) in
         open_gains d so sol g i og (within_of m (IsBefore d) (SeenIn d) (length i) g n after (Until most h) pl i (address n0 i0) in0)
         (graph_gains (SeenIn d) (length i) g i n after (Until most h) sub.sound st (or_right m (IsBefore d) (SeenIn d) (nat_eq n n0) (has h n0) h0)
-          (opened_gains (address n i) (λ w. suc (sum w.next (λ j. suc (so_far o b h (i ++ j ∷ []))) + tested w.next w.test)) (λ w. suc (sum w.next (λ j. suc (so_far u c h (i ++ j ∷ []))) + tested w.next w.test)) _ _ w e (not_here (address n i) (λ q. apart_names (Until most h) n n0 pl.apart_own h0 q)) (omega (arith, x))))
+        (opened_gains (address n i) (λ w. suc (sum w.next (λ j. suc (so_far o b h (i ++ j ∷ []))) + tested w.next w.test)) (λ w. suc (sum w.next (λ j. suc (so_far u c h (i ++ j ∷ []))) + tested w.next w.test)) _ _ w e (not_here (address n i) (λ q. apart_names (Until most h) n n0 pl.apart_own h0 q)) (omega (arith, x))))
 
     -- at the event's own action
     pub event_gains : (d : Graph) (so : Sound m (SeenIn d) d 0) (sol : Obeys m d f) (g : Graph) (after : List Need) (kind : Kind) → IsOpen m.taken d o g i0 → In g n0 after kind → so_far_in o b kind n0 i0 + gain ≤ so_far_in u c kind n0 i0 → so_far o b d [] + gain ≤ so_far u c d []
@@ -259,15 +258,15 @@ module _ {Row Begun Decision Verdict : Type 0} (m : Source Row Begun Decision Ve
       bounded_in (Choice bs) n l i own kinds so' = counted_bound (address n i) (λ w. suc (so_far_any o b bs i)) (total_in m f (Choice bs) n i) (λ w e. let x = bounded_any bs l i kinds so'.2 in omega (arith, x))
       bounded_in (Foreach pace g) n l i own kinds so' =
           counted_bound (address n i) (λ w. suc (sum w.next (λ j. suc (so_far o b g (i ++ j ∷ []))))) (total_in m f (Foreach pace g) n i) (λ w e.
-            let fact = (facts n i w (Foreach pace g) e own).1 in let num = ap m.items fact.0 in
-            let x = sum_more w.next (m.items (m.decide (address n i) f)) (λ j. suc (so_far o b g (i ++ j ∷ []))) (λ j. suc (total m f g (i ++ j ∷ []))) (omega (arith, num, fact.1)) (λ j lt. let z = bounded g (suc l) (i ++ j ∷ []) kinds so'.2 in omega (arith, z)) in
-            omega (arith, x))
+          let fact = (facts n i w (Foreach pace g) e own).1 in let num = ap m.items fact.0 in
+          let x = sum_more w.next (m.items (m.decide (address n i) f)) (λ j. suc (so_far o b g (i ++ j ∷ []))) (λ j. suc (total m f g (i ++ j ∷ []))) (omega (arith, num, fact.1)) (λ j lt. let z = bounded g (suc l) (i ++ j ∷ []) kinds so'.2 in omega (arith, z)) in
+          omega (arith, x))
       bounded_in (Until most g) n l i own kinds so' =
           counted_bound (address n i) (λ w. suc (sum w.next (λ j. suc (so_far o b g (i ++ j ∷ []))) + tested w.next w.test)) (total_in m f (Until most g) n i) (λ w e.
-            let fact = (facts n i w (Until most g) e own).1 in
-            let x = sum_more w.next (rounds most 0 (λ j. m.ends (m.test (address n i) j f))) (λ j. suc (suc (so_far o b g (i ++ j ∷ [])))) (λ j. suc (suc (total m f g (i ++ j ∷ [])))) (begun_most most w.next (λ j. m.ends (m.test (address n i) j f)) fact.0 (λ j lt. (fact.1 j lt).0)) (λ j lt. let z = bounded g (suc l) (i ++ j ∷ []) kinds so'.3 in omega (arith, z)) in
-            let y = sum_and w.next (λ j. so_far o b g (i ++ j ∷ [])) in let z = tested_bound w.next w.test in
-            omega (arith, x, y, z))
+          let fact = (facts n i w (Until most g) e own).1 in
+          let x = sum_more w.next (rounds most 0 (λ j. m.ends (m.test (address n i) j f))) (λ j. suc (suc (so_far o b g (i ++ j ∷ [])))) (λ j. suc (suc (total m f g (i ++ j ∷ [])))) (begun_most most w.next (λ j. m.ends (m.test (address n i) j f)) fact.0 (λ j lt. (fact.1 j lt).0)) (λ j lt. let z = bounded g (suc l) (i ++ j ∷ []) kinds so'.3 in omega (arith, z)) in
+          let y = sum_and w.next (λ j. so_far o b g (i ++ j ∷ [])) in let z = tested_bound w.next w.test in
+          omega (arith, x, y, z))
 
       pub bounded_any : (bs : Branches) (l : ℕ) (i : List ℕ) → ((q : ℕ) → has_any bs q ≡ true → kind_of d q ≡ kind_any bs q) → SoundAny m (SeenIn d) bs l → so_far_any o b bs i ≤ total_any m f bs i
       bounded_any no_branch l i kinds so' = omega arith

@@ -1,5 +1,5 @@
 -- A run has at most as many events as the meaning's rows give the definition.
-use Rattle.std.proofs.Common.{◌≡◌, ℕ, ◌||◌, true, List, [], Some, refl, sym, ap, ◌∙◌, true≢false}
+use Rattle.std.proofs.Common.{ℕ, [], refl}
 use Rattle.std.proofs.lemmas.Option.{none-some}
 use Rattle.wf_layers.specs.Definition.{Graph}
 use Rattle.wf_layers.specs.Source.{Source}

@@ -1,19 +1,16 @@
 -- From a set of chosen actions that ran: what is closed again ran too, and branches that weren't taken are kept.
-use Rattle.std.proofs.Common.{◌≡◌, ℕ, zero, suc, ◌+◌, ◌<◌, ◌≤◌, Bool, true, false, not, ◌&&◌, ◌||◌, cond, max, List, [], ◌∷◌, ◌++◌, Option, Some, None, ◌⊎◌, inl, inr, ⊎_elim, refl, sym, ap, ap₂, ◌∙◌, subst, arith, nat_eq, eq-eqb, eqb-true, ne_eqb, true≢false, length, length-append, nat_lt, ltb-true, ltb-false}
-use Rattle.std.proofs.lemmas.Bool.{eqb-false}
+use Rattle.std.proofs.Common.{◌≡◌, ℕ, Bool, true, false, ◌&&◌, ◌||◌, cond, List, [], Option, Some, None, inr, ⊎_elim, refl, sym, ap, ◌∙◌, subst, nat_eq, eqb-true, true≢false}
 use Rattle.std.proofs.lemmas.Option.{none-some}
-use Rattle.wf_layers.specs.Definition.{Status, Need, Names, Pace, InTurn, AtMost, Kind, Leaf, Scope, Choice, Foreach, Until, Branches, no_branch, branch, Graph, done, add, is_one, less_one, branch_at, holds, has, has_any, shows, plain, plain_any, has_own, needs_in, needs_of, needs_any, kind_in, kind_of, kind_any, IsBefore, next, more, IsDepth, ClosedIn, ClosedAny, Closed, Goes, TurnsIn, TurnsAny, Turns}
-use Rattle.wf_layers.specs.Address.{Address, address, Table, same_at, starts, is_own, is_in, is_within, is_among, owner, Lower, earlier_in, earlier_any, together, IsEarlier, SeenIn}
-use Rattle.wf_layers.specs.Source.{Source, is_listed, is_met, all_met, gate, leaf, Agrees, AgreesIn, AgreesInside, GateLocal, StartLocal, FinishLocal, CloseLocal, DecideLocal, TestLocal, SoundIn, SoundAny, Sound}
-use Rattle.wf_layers.specs.Meaning.{only, layers, turns, sides, loop, rounds, last, deepest, rank, skip, skip_all, run, run_any, layer, meaning}
+use Rattle.wf_layers.specs.Definition.{Need, Kind, Leaf, Scope, Choice, Foreach, Until, Branches, no_branch, branch, Graph, done, add, is_one, less_one, holds, has, has_any, shows, plain, plain_any, kind_in, kind_of, kind_any, IsDepth}
+use Rattle.wf_layers.specs.Address.{Address, address, Table, is_own, is_in, is_within, is_among, SeenIn}
+use Rattle.wf_layers.specs.Source.{Source, gate, SoundIn, SoundAny, Sound}
+use Rattle.wf_layers.specs.Meaning.{only, skip, skip_all, meaning}
 use Rattle.wf_layers.specs.Rule.{look_in, look_any, look, Obeys}
-use Rattle.wf_layers.proofs.Basics.{two, and_in, and_of, front, back, fork, apart, not_true, same_self, same_self_at, starts_self, starts_outer, index_once, when, unless, only_same, cond_same, in_within, rest_within, other_within, own_in, held_in, inner_not_own, rank_below, falls_rank, none_inside, any_within, among_here, among_there, beside_not, longer, some_turn, sides_out, sides_at, rounds_same}
-use Rattle.wf_layers.proofs.Layers.{out_layer, out_layers, off_layer, before_layers, after_layers, body, other_turn, turns_out, turns_at, gate_same, leaf_same}
-
-use Rattle.wf_layers.specs.Machine.{Running, Opening, State, fresh, In, here, there, IsOpen, top, scope, chosen, turn, round, has_ended, is_ended, all_ended, unfinished, or_else, place, one, without, opened, Event, Start, Try, End, Skip, Open, Begin, Test, Close, IsContainer, in_others, skip_others, passed_over, MayBegin, MayTest, MayClose, closing, IsThere, IsDecided, Step, Run, IsOver}
-use Rattle.wf_layers.proofs.Tables.{same_at_is, same_starts, own_is, own_self, Within, one_is, one_within, place_split, place_none, place_agrees, place_fills, place_within, own_placed, without_split, opened_split, either_or, or_true, held, later', skip_in, skip_all_in, shows_holds, any_plain, plain_has, holds_in, any_in, has_in, inner_name, inner_of, branch_none, taken_has, taken_within}
+use Rattle.wf_layers.proofs.Basics.{two, and_in, and_of, apart, not_true, same_self, when, unless, in_within, rest_within, held_in, inner_not_own, among_here, among_there}
+use Rattle.wf_layers.specs.Machine.{in_others}
+use Rattle.wf_layers.proofs.Tables.{either_or, or_true, held, later'}
 use Rattle.wf_layers.specs.Laws.{IsFresh}
-use Rattle.wf_layers.specs.Redo.{HoldsChosen, Touched, IsHit, RedoIn, RedoAny, RedoOf, IsRedo}
+use Rattle.wf_layers.specs.Redo.{HoldsChosen, RedoIn, RedoAny, RedoOf}
 use Rattle.wf_layers.specs.Resubmission.{kept, PassedIn, PassedAny, Passed, IsResubmission, IsSetResubmission, OthersKept}
 use Rattle.wf_layers.proofs.Meaning.{meaning_solves}
 use Rattle.wf_layers.proofs.Redo.{kind_redone, kind_apart, kind_touched, walk_touched, none_again, not_moving, redo_splits}
@@ -34,9 +31,11 @@ module _ {Row Begun Decision Verdict : Type 0} (a : Source Row Begun Decision Ve
 
     none_passed : (g : Graph) → ((q : ℕ) → has g q ≡ true → again q ≡ false) → Passed a again r g
     none_passed done none = tt
-    none_passed (add n after kind rest) none =
-        ((λ e. absurd (true≢false (sym e ∙ none n (ap (λ x. x || holds kind n || has rest n) (same_self n))))),
-         none_passed_in kind (λ q h. none q (held n kind rest q h)), none_passed rest (λ q h. none q (later' n kind rest q h)))
+    none_passed (add n after kind rest) none = (
+      (λ e. absurd (true≢false (sym e ∙ none n (ap (λ x. x || holds kind n || has rest n) (same_self n))))),
+      none_passed_in kind (λ q h. none q (held n kind rest q h)),
+      none_passed rest (λ q h. none q (later' n kind rest q h)),
+    )
 
 module _ {Row Begun Decision Verdict : Type 0} (a : Source Row Begun Decision Verdict) (fa : IsFresh a) (d : Graph) (chosen redo again : ℕ → Bool) (r : Table Row) (ran : (n : ℕ) → chosen n ≡ true → r (address n []) ≡ Some a.skipped → ⊥) where
   -- a chosen action is in no loop
@@ -66,13 +65,13 @@ module _ {Row Begun Decision Verdict : Type 0} (a : Source Row Begun Decision Ve
   skipped_none : (b : Graph) (up : Bool) → RedoOf d chosen redo again up b b → ((x : Address) → is_within b [] x ≡ true → r x ≡ skip_all a b [] x) → Passes' b
   skipped_none b up t skips q h =
       not_true (chosen q) (λ c.
-        ran q c (skips (address q []) (and_of (has b q) true h refl) ∙ when (plain b q && true) (Some a.skipped) None (and_of (plain b q) true (chosen_plain b b up t q h c) refl)))
+      ran q c (skips (address q []) (and_of (has b q) true h refl) ∙ when (plain b q && true) (Some a.skipped) None (and_of (plain b q) true (chosen_plain b b up t q h c) refl)))
 
   -- and in a container that didn't run
   failed_none : (n : ℕ) (kind : Kind) → RedoIn d chosen redo again kind n → ((x : Address) → is_in n kind [] x ≡ true → r x ≡ skip a n kind [] x) → HoldsChosen d chosen kind → ⊥
   failed_none n kind t skips c =
       ran c.0 c.2 (skips (address c.0 []) (and_of (nat_eq n c.0 || holds kind c.0) true (or_right' (nat_eq n c.0) (holds kind c.0) c.1) refl)
-        ∙ when ((nat_eq n c.0 || shows kind c.0) && true) (Some a.skipped) None (and_of (nat_eq n c.0 || shows kind c.0) true (or_right' (nat_eq n c.0) (shows kind c.0) (chosen_shows kind n t c.0 c.1 c.2)) refl))
+      ∙ when ((nat_eq n c.0 || shows kind c.0) && true) (Some a.skipped) None (and_of (nat_eq n c.0 || shows kind c.0) true (or_right' (nat_eq n c.0) (shows kind c.0) (chosen_shows kind n t c.0 c.1 c.2)) refl))
     where
       or_right' : (p q : Bool) → q ≡ true → (p || q) ≡ true
       or_right' true q e = refl
@@ -82,10 +81,10 @@ module _ {Row Begun Decision Verdict : Type 0} (a : Source Row Begun Decision Ve
   failed_again : (n : ℕ) (kind : Kind) → RedoIn d chosen redo again kind n → (HoldsChosen d chosen kind → ⊥) → (q : ℕ) → holds kind q ≡ true → again q ≡ false
   failed_again n kind t none q h =
       not_true (again q) (λ e.
-        ⊎_elim
-        (λ x. true≢false (sym (kind_redone d chosen redo again kind n x t q h) ∙ kind_apart d chosen redo again kind n t q h e))
-        (λ x. none (kind_touched d chosen redo again kind n x t q h (inr e)))
-        (two (redo n)))
+      ⊎_elim
+      (λ x. true≢false (sym (kind_redone d chosen redo again kind n x t q h) ∙ kind_apart d chosen redo again kind n t q h e))
+      (λ x. none (kind_touched d chosen redo again kind n x t q h (inr e)))
+      (two (redo n)))
 
   abbrev Followed : Graph → Type 0
   Followed g = (x : Address) → is_within g [] x ≡ true → r x ≡ look a g [] r x
@@ -120,22 +119,24 @@ module _ {Row Begun Decision Verdict : Type 0} (a : Source Row Begun Decision Ve
 
     any_passed : (bs : Branches) (up : Bool) (c l : ℕ) (Sees : Address → Address → Type 0) → SoundAny a Sees bs l → RedoAny d chosen redo again up bs → ((x : Address) → is_among bs [] x ≡ true → r x ≡ look_any a bs c [] r x) → PassedAny a again r bs
     any_passed no_branch up c l Sees so t f = tt
-    any_passed (branch b rest) up c l Sees so t f =
-        (⊎_elim
+    any_passed (branch b rest) up c l Sees so t f = (
+      ⊎_elim
           (λ o. graph_passed b b up l Sees so.1 t.0 (λ x w. f x (among_here b rest [] x w) ∙ when (is_within b [] x) _ _ w ∙ when (is_one c) _ _ o))
           (λ o. none_passed a again r b (none_again d chosen redo again b up (skipped_none b up t.0 (λ x w. f x (among_here b rest [] x w) ∙ when (is_within b [] x) _ _ w ∙ unless (is_one c) _ _ o)) t.0))
           (two (is_one c)),
-         any_passed rest up (less_one c) l Sees so.2 t.1 (λ x w. f x (among_there b rest [] x w) ∙ unless (is_within b [] x) _ _ (apart (has b x.name) (has_any rest x.name) true (so.0 x.name) w)))
+      any_passed rest up (less_one c) l Sees so.2 t.1 (λ x w. f x (among_there b rest [] x w) ∙ unless (is_within b [] x) _ _ (apart (has b x.name) (has_any rest x.name) true (so.0 x.name) w)),
+    )
 
     graph_passed : (g w : Graph) (up : Bool) (l : ℕ) (Sees : Address → Address → Type 0) → Sound a Sees g l → RedoOf d chosen redo again up g w → Followed g → Passed a again r g
     graph_passed done w up l Sees so t f = tt
-    graph_passed (add n after kind rest) w up l Sees so t f =
-        (gate_of n after kind w up (t.2, t.4) rule,
-         ⊎_elim
-         (λ g. kind_passed kind n l Sees so.1 so.3 t.4 (ran_in n after kind w up (t.2, t.4) rule g))
-         (λ g. none_passed_in a again r kind (failed_again n kind t.4 (none_in n after kind w up (t.2, t.4) rule g)))
-         (two (gate a after n [] r)),
-         graph_passed rest w up l Sees so.4 t.5 (λ x v. f x (rest_within n after kind rest [] x v) ∙ unless (is_in n kind [] x) _ _ (apart (nat_eq n x.name || holds kind x.name) (has rest x.name) true (so.2 x.name) v)))
+    graph_passed (add n after kind rest) w up l Sees so t f = (
+      gate_of n after kind w up (t.2, t.4) rule,
+      ⊎_elim
+          (λ g. kind_passed kind n l Sees so.1 so.3 t.4 (ran_in n after kind w up (t.2, t.4) rule g))
+          (λ g. none_passed_in a again r kind (failed_again n kind t.4 (none_in n after kind w up (t.2, t.4) rule g)))
+          (two (gate a after n [] r)),
+      graph_passed rest w up l Sees so.4 t.5 (λ x v. f x (rest_within n after kind rest [] x v) ∙ unless (is_in n kind [] x) _ _ (apart (nat_eq n x.name || holds kind x.name) (has rest x.name) true (so.2 x.name) v)),
+    )
       where
         rule : (x : Address) → is_in n kind [] x ≡ true → r x ≡ cond (gate a after n [] r) (look_in a kind n [] r x) (skip a n kind [] x)
         rule x h = f x (in_within n after kind rest [] x h) ∙ when (is_in n kind [] x) _ (look a rest [] r x) h ∙ fresh_rule n after kind x
@@ -146,11 +147,11 @@ module _ {Row Begun Decision Verdict : Type 0} (a : Source Row Begun Decision Ve
   branches_kept (branch b rest) up c l Sees u so t f y h =
       ⊎_elim
       (λ w. ⊎_elim
-        (λ o. absurd (true≢false (sym (sym (when (is_within b [] y) (cond (is_one c) false true) _ w ∙ when (is_one c) false true o) ∙ h))))
-        (λ o.
-          let none = skipped_none b up t.0 (λ x w. f x (among_here b rest [] x w) ∙ when (is_within b [] x) _ _ w ∙ unless (is_one c) _ _ o) in
-          not_moving d chosen redo again y.name (λ mv. let k = walk_touched d chosen redo again b b up u (λ x b k st. st) t.0 y.name (and_in (has b y.name) true w).0 mv in true≢false (sym k.2 ∙ none k.0 k.1)))
-        (two (is_one c)))
+      (λ o. absurd (true≢false (sym (sym (when (is_within b [] y) (cond (is_one c) false true) _ w ∙ when (is_one c) false true o) ∙ h))))
+      (λ o.
+      let none = skipped_none b up t.0 (λ x w. f x (among_here b rest [] x w) ∙ when (is_within b [] x) _ _ w ∙ unless (is_one c) _ _ o) in
+      not_moving d chosen redo again y.name (λ mv. let k = walk_touched d chosen redo again b b up u (λ x b k st. st) t.0 y.name (and_in (has b y.name) true w).0 mv in true≢false (sym k.2 ∙ none k.0 k.1)))
+      (two (is_one c)))
       (λ w. branches_kept rest up (less_one c) l Sees u so.2 t.1 (λ x v. f x (among_there b rest [] x v) ∙ unless (is_within b [] x) _ _ (apart (has b x.name) (has_any rest x.name) true (so.0 x.name) v)) y (sym (unless (is_within b [] y) (cond (is_one c) false true) _ w) ∙ h))
       (two (is_within b [] y))
 
@@ -167,9 +168,9 @@ module _ {Row Begun Decision Verdict : Type 0} (a : Source Row Begun Decision Ve
     any_others (branch b rest) up c l Sees so t f q bs e k =
         ⊎_elim
         (λ h. ⊎_elim
-          (λ o. graph_others b b up l Sees so.1 t.0 (λ x w. f x (among_here b rest [] x w) ∙ when (is_within b [] x) _ _ w ∙ when (is_one c) _ _ o) q bs e (sym (when (has b q) (kind_of b q) (kind_any rest q) h) ∙ k))
-          (λ o. absurd (true≢false (sym e ∙ none_again d chosen redo again b up (skipped_none b up t.0 (λ x w. f x (among_here b rest [] x w) ∙ when (is_within b [] x) _ _ w ∙ unless (is_one c) _ _ o)) t.0 q h)))
-          (two (is_one c)))
+        (λ o. graph_others b b up l Sees so.1 t.0 (λ x w. f x (among_here b rest [] x w) ∙ when (is_within b [] x) _ _ w ∙ when (is_one c) _ _ o) q bs e (sym (when (has b q) (kind_of b q) (kind_any rest q) h) ∙ k))
+        (λ o. absurd (true≢false (sym e ∙ none_again d chosen redo again b up (skipped_none b up t.0 (λ x w. f x (among_here b rest [] x w) ∙ when (is_within b [] x) _ _ w ∙ unless (is_one c) _ _ o)) t.0 q h)))
+        (two (is_one c)))
         (λ h. any_others rest up (less_one c) l Sees so.2 t.1 (λ x w. f x (among_there b rest [] x w) ∙ unless (is_within b [] x) _ _ (apart (has b x.name) (has_any rest x.name) true (so.0 x.name) w)) q bs e (sym (unless (has b q) (kind_of b q) (kind_any rest q) h) ∙ k))
         (two (has b q))
 
@@ -178,17 +179,17 @@ module _ {Row Begun Decision Verdict : Type 0} (a : Source Row Begun Decision Ve
     graph_others (add n after kind rest) w up l Sees so t f q bs e k =
         ⊎_elim
         (λ s.
-          let same = eqb-true n q s in
-          let v : Some kind ≡ Some (Choice bs) = sym (when (nat_eq n q) (Some kind) _ s) ∙ k in let is : kind ≡ Choice bs = cc in
-          own_others same is)
+        let same = eqb-true n q s in
+        let v : Some kind ≡ Some (Choice bs) = sym (when (nat_eq n q) (Some kind) _ s) ∙ k in let is : kind ≡ Choice bs = cc in
+        own_others same is)
         (λ s. let k' = sym (unless (nat_eq n q) (Some kind) _ s) ∙ k in
-          ⊎_elim
-          (λ h. ⊎_elim
-            (λ g. kind_others kind n l Sees so.1 so.3 t.4 (ran_in n after kind w up (t.2, t.4) rule g) q bs e (sym (when (holds kind q) (kind_in kind q) (kind_of rest q) h) ∙ k') h)
-            (λ g. absurd (true≢false (sym e ∙ failed_again n kind t.4 (none_in n after kind w up (t.2, t.4) rule g) q h)))
-            (two (gate a after n [] r)))
-          (λ h. graph_others rest w up l Sees so.4 t.5 (λ x v. f x (rest_within n after kind rest [] x v) ∙ unless (is_in n kind [] x) _ _ (apart (nat_eq n x.name || holds kind x.name) (has rest x.name) true (so.2 x.name) v)) q bs e (sym (unless (holds kind q) (kind_in kind q) (kind_of rest q) h) ∙ k'))
-          (two (holds kind q)))
+        ⊎_elim
+        (λ h. ⊎_elim
+        (λ g. kind_others kind n l Sees so.1 so.3 t.4 (ran_in n after kind w up (t.2, t.4) rule g) q bs e (sym (when (holds kind q) (kind_in kind q) (kind_of rest q) h) ∙ k') h)
+        (λ g. absurd (true≢false (sym e ∙ failed_again n kind t.4 (none_in n after kind w up (t.2, t.4) rule g) q h)))
+        (two (gate a after n [] r)))
+        (λ h. graph_others rest w up l Sees so.4 t.5 (λ x v. f x (rest_within n after kind rest [] x v) ∙ unless (is_in n kind [] x) _ _ (apart (nat_eq n x.name || holds kind x.name) (has rest x.name) true (so.2 x.name) v)) q bs e (sym (unless (holds kind q) (kind_in kind q) (kind_of rest q) h) ∙ k'))
+        (two (holds kind q)))
         (two (nat_eq n q))
       where
         rule : (x : Address) → is_in n kind [] x ≡ true → r x ≡ cond (gate a after n [] r) (look_in a kind n [] r x) (skip a n kind [] x)
@@ -200,8 +201,8 @@ module _ {Row Begun Decision Verdict : Type 0} (a : Source Row Begun Decision Ve
             (subst (λ z. SoundIn a Sees z n l) is so.3).2
             (subst (λ x. RedoIn d chosen redo again (Choice bs) x) same (subst (λ z. RedoIn d chosen redo again z n) is t.4))
             (λ x v.
-              subst (λ z. FollowedIn z q) is (subst (λ z. FollowedIn kind z) same (ran_in n after kind w up (t.2, t.4) rule (gate_of n after kind w up (t.2, t.4) rule (subst (λ x. again x ≡ true) (sym same) e)))) x (held_in q (Choice bs) [] x v)
-              ∙ inner_rule' (Choice bs) q _ _ (is_among bs [] x) x (subst (λ x. holds (Choice bs) x ≡ false) same (subst (λ z. holds z n ≡ false) is so.1)) v v)
+            subst (λ z. FollowedIn z q) is (subst (λ z. FollowedIn kind z) same (ran_in n after kind w up (t.2, t.4) rule (gate_of n after kind w up (t.2, t.4) rule (subst (λ x. again x ≡ true) (sym same) e)))) x (held_in q (Choice bs) [] x v)
+            ∙ inner_rule' (Choice bs) q _ _ (is_among bs [] x) x (subst (λ x. holds (Choice bs) x ≡ false) same (subst (λ z. holds z n ≡ false) is so.1)) v v)
             y h
 
 module _ {Row Begun Decision Verdict : Type 0} (d : Graph) (depth : ℕ → ℕ) (a b : Source Row Begun Decision Verdict) (chosen redo again : ℕ → Bool) (recall : Address → Decision) (falls : IsDepth d depth) (sa : Sound a (SeenIn d) d 0) (fa : IsFresh a) (rs : IsSetResubmission d depth a b chosen redo again recall) where

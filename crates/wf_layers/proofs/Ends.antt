@@ -1,21 +1,16 @@
 -- Each event counts, so a run has at most so many.
-use Rattle.std.proofs.Common.{◌≡◌, ℕ, zero, suc, ◌+◌, ◌<◌, ◌≤◌, ◌-◌, Bool, true, false, not, ◌&&◌, ◌||◌, cond, max, List, [], ◌∷◌, ◌++◌, Option, Some, None, ◌⊎◌, inl, inr, ⊎_elim, refl, sym, ap, ap₂, ◌∙◌, subst, arith, nat_eq, eq-eqb, eqb-true, ne_eqb, true≢false, length, length-append, nat_lt, ltb-true, ltb-false}
-use Rattle.std.proofs.lemmas.Bool.{eqb-false}
-use Rattle.std.proofs.lemmas.Option.{none-some}
-use Rattle.wf_layers.specs.Definition.{Status, Need, Names, Pace, InTurn, AtMost, Kind, Leaf, Scope, Choice, Foreach, Until, Branches, no_branch, branch, Graph, done, add, is_one, less_one, branch_at, holds, has, has_any, shows, plain, plain_any, has_own, needs_in, needs_of, needs_any, kind_in, kind_of, kind_any, IsBefore, IsDepth, ClosedIn, ClosedAny, Closed, Goes, TurnsIn, TurnsAny, Turns}
-use Rattle.wf_layers.specs.Address.{Address, address, Table, same_at, starts, is_own, is_in, is_within, is_among, owner, Lower, earlier_in, earlier_any, together, IsEarlier, SeenIn}
-use Rattle.wf_layers.specs.Source.{Source, is_listed, is_met, all_met, gate, leaf, Agrees, AgreesIn, AgreesInside, GateLocal, StartLocal, FinishLocal, CloseLocal, DecideLocal, TestLocal, SoundIn, SoundAny, Sound}
-use Rattle.wf_layers.specs.Meaning.{only, layers, turns, sides, loop, rounds, last, deepest, rank, skip, skip_all, run, run_any, layer, meaning}
-use Rattle.wf_layers.specs.Rule.{look_in, look_any, look, Obeys}
-use Rattle.wf_layers.proofs.Basics.{two, and_in, and_of, front, back, fork, apart, not_true, same_self, same_self_at, starts_self, starts_outer, index_once, when, unless, only_same, cond_same, in_within, rest_within, other_within, own_in, held_in, inner_not_own, rank_below, falls_rank, none_inside, any_within, among_here, among_there, beside_not, longer, some_turn, sides_out, sides_at, rounds_same}
-use Rattle.wf_layers.proofs.Layers.{out_layer, out_layers, off_layer, before_layers, after_layers, body, other_turn, turns_out, turns_at, gate_same, leaf_same}
-
-use Rattle.wf_layers.specs.Machine.{Running, Opening, State, fresh, In, here, there, IsOpen, top, scope, chosen, turn, round, has_ended, is_ended, all_ended, unfinished, or_else, place, one, without, opened, Event, Start, Try, End, Skip, Open, Begin, Test, Close, IsContainer, in_others, skip_others, passed_over, MayBegin, MayTest, MayClose, closing, IsThere, IsDecided, Step, Run, IsOver}
-use Rattle.wf_layers.proofs.Tables.{same_at_is, same_starts, own_is, own_self, Within, one_is, one_within, place_split, place_none, place_agrees, place_fills, place_within, own_placed, without_split, opened_split, either_or, or_true, held, later', skip_in, skip_all_in, shows_holds, any_plain, plain_has, holds_in, any_in, has_in, inner_name, inner_of, branch_none, taken_has, taken_within}
-use Rattle.wf_layers.proofs.Places.{Stands, within_of, or_right, or_none, stands, taken_sound, taken_kind, taken_needs, taken_look, taken_joined, taken_joins}
-use Rattle.wf_layers.specs.Bound.{sum, total_in, total_any, total}
+use Rattle.std.proofs.Common.{◌≡◌, ℕ, zero, suc, ◌+◌, ◌≤◌, ◌-◌, Bool, true, false, ◌&&◌, ◌||◌, cond, List, [], ◌∷◌, ◌++◌, Option, Some, None, ◌⊎◌, inl, inr, ⊎_elim, refl, sym, ap, ◌∙◌, subst, arith, nat_eq, eqb-true, true≢false, length}
+use Rattle.wf_layers.specs.Definition.{Need, Pace, InTurn, AtMost, Kind, Leaf, Scope, Choice, Foreach, Until, Graph, less_one, holds, has, shows, kind_in, kind_of}
+use Rattle.wf_layers.specs.Address.{Address, address, Table, same_at, starts, is_own, SeenIn}
+use Rattle.wf_layers.specs.Source.{Source, SoundIn, Sound}
+use Rattle.wf_layers.specs.Meaning.{rounds, skip}
+use Rattle.wf_layers.specs.Rule.{Obeys}
+use Rattle.wf_layers.proofs.Basics.{two, and_in, and_of, not_true, same_self, same_self_at, when, unless}
+use Rattle.wf_layers.specs.Machine.{Running, Opening, State, In, IsOpen, has_ended, or_else, place, one, without, opened, Event, Start, Try, End, Skip, Open, Begin, Test, Close, IsContainer, passed_over, MayBegin, MayTest, closing, Step, Run}
+use Rattle.wf_layers.proofs.Tables.{own_is, own_self, without_split, or_true}
+use Rattle.wf_layers.specs.Bound.{sum, total_in, total}
 use Rattle.wf_layers.proofs.Limit.{Grows, place_grows}
-use Rattle.wf_layers.proofs.Open.{Sub, Placed, OpenFacts, open_sub, placed_in, kind_there}
+use Rattle.wf_layers.proofs.Open.{Sub, Placed, open_sub, placed_in, kind_there}
 use Rattle.wf_layers.proofs.Keeps.{Keeps, IsClosed, SpecialOut}
 use Rattle.wf_layers.proofs.Events.{step_keeps}
 use Rattle.wf_layers.proofs.Bound.{sum_more, begun_most, tested, counted, so_far_in, so_far_any, so_far, more, event_gains, sum_and, tested_bound, bounded_any, bounded}
@@ -64,13 +59,13 @@ module _ {Row Begun Decision Verdict : Type 0} (m : Source Row Begun Decision Ve
     owed_falls less (y ∷ ys) =
         ⊎_elim
         (λ t.
-          let x = subst (λ (z : Address). remaining z (r' z) + 1 ≤ remaining z (r z)) (own_is n i y t) less in
-          let ih = (owed_falls less ys).0 in
-          (omega (arith, x, ih), λ a. omega (arith, x, ih)))
+        let x = subst (λ (z : Address). remaining z (r' z) + 1 ≤ remaining z (r z)) (own_is n i y t) less in
+        let ih = (owed_falls less ys).0 in
+        (omega (arith, x, ih), λ a. omega (arith, x, ih)))
         (λ u.
-          let s = ap (λ z. remaining y z) (same y u) in
-          let ih = owed_falls less ys in let le = ih.0 in
-          (omega (arith, s, le), λ a. let z = ih.1 (⊎_elim (λ e. absurd (true≢false (sym (subst (λ (z : Address). is_own n i z ≡ true) (sym e) (own_self n i)) ∙ u))) (λ h. h) a) in omega (arith, s, z)))
+        let s = ap (λ z. remaining y z) (same y u) in
+        let ih = owed_falls less ys in let le = ih.0 in
+        (omega (arith, s, le), λ a. let z = ih.1 (⊎_elim (λ e. absurd (true≢false (sym (subst (λ (z : Address). is_own n i z ≡ true) (sym e) (own_self n i)) ∙ u))) (λ h. h) a) in omega (arith, s, z)))
         (two (is_own n i y))
 
 -- EACH EVENT COUNTS
@@ -171,7 +166,7 @@ module _ {Row Begun Decision Verdict : Type 0} (m : Source Row Begun Decision Ve
 
       inner : (h : Graph) (j : List ℕ) → has h n ≡ false → so_far m f s.opens b h j ≤ so_far m f u b h j
       inner h j nh = more m f s.opens u b b (λ y z. z) h j (λ y q. unless (is_own n i y) _ _ (not_true (is_own n i y) (λ z.
-        true≢false (sym (and_in (has h y.name) (starts j y.at) q).0 ∙ ap (λ p. has h p) (sym (eqb-true n y.name (and_in (nat_eq n y.name) (same_at i y.at) z).0)) ∙ nh))))
+          true≢false (sym (and_in (has h y.name) (starts j y.at) q).0 ∙ ap (λ p. has h p) (sym (eqb-true n y.name (and_in (nat_eq n y.name) (same_at i y.at) z).0)) ∙ nh))))
 
       loop_gains : (pace : Pace) (h : Graph) → has h n ≡ false → so_far_in m f s.opens b (Foreach pace h) n i + 1 ≤ so_far_in m f u b (Foreach pace h) n i
       loop_gains pace h nh =
@@ -216,7 +211,7 @@ module _ {Row Begun Decision Verdict : Type 0} (m : Source Row Begun Decision Ve
 
       inner : (h : Graph) (j : List ℕ) → has h n ≡ false → so_far m f s.opens b h j ≤ so_far m f u b h j
       inner h j nh = more m f s.opens u b b (λ y z. z) h j (λ y q. unless (is_own n i y) _ _ (not_true (is_own n i y) (λ z.
-        true≢false (sym (and_in (has h y.name) (starts j y.at) q).0 ∙ ap (λ p. has h p) (sym (eqb-true n y.name (and_in (nat_eq n y.name) (same_at i y.at) z).0)) ∙ nh))))
+          true≢false (sym (and_in (has h y.name) (starts j y.at) q).0 ∙ ap (λ p. has h p) (sym (eqb-true n y.name (and_in (nat_eq n y.name) (same_at i y.at) z).0)) ∙ nh))))
 
       go : (kind : Kind) → holds kind n ≡ false → MayTest m kind i w s.rows j → so_far_in m f s.opens b kind n i + 1 ≤ so_far_in m f u b kind n i
       go Leaf nh may = absurd may
@@ -249,9 +244,9 @@ module _ {Row Begun Decision Verdict : Type 0} (m : Source Row Begun Decision Ve
   step_gains s (Start n i) s' k (after, de, pass, to) =
       subst (λ z. sum_of s + gain_of s (Start n i) ≤ sum_of z) (sym to)
       (event_gains m f s.opens s.opens (begun s.rows s.running) (begun s.rows run) up n i (λ y h. refl) (gain_of s (Start n i)) d so sol de.is_there.graph after Leaf de.is_there.is_open de.is_there.is_in
-        (let x = zero_in s.opens (begun s.rows s.running) Leaf n i de.not_open (not_begun s (address n i) de.no_row de.not_running) in
-          let y = full_in s.opens (begun s.rows run) Leaf n i de.not_open now in
-          let z = ap (λ b. m.tries (address n i) b) begins in omega (arith, x, y, z)))
+      (let x = zero_in s.opens (begun s.rows s.running) Leaf n i de.not_open (not_begun s (address n i) de.no_row de.not_running) in
+      let y = full_in s.opens (begun s.rows run) Leaf n i de.not_open now in
+      let z = ap (λ b. m.tries (address n i) b) begins in omega (arith, x, y, z)))
     where
       w : Running Begun
       w = record { begun = m.start (address n i) s.rows; tries = 0 }
@@ -273,14 +268,14 @@ module _ {Row Begun Decision Verdict : Type 0} (m : Source Row Begun Decision Ve
   step_gains s (Try n i) s' k (w, e, lt, to) =
       subst (λ z. sum_of s + 0 ≤ sum_of z) (sym to)
       (nothing_opens s (record { rows = s.rows; running = run; opens = s.opens }) (λ y. refl)
-        (begun_rows s.rows s.rows s.running run (λ y h. h) (λ y h. kept_running s.rows run y (place_grows (one n i (record { begun = w.begun; tries = suc w.tries })) s.running y h))))
+      (begun_rows s.rows s.rows s.running run (λ y h. h) (λ y h. kept_running s.rows run y (place_grows (one n i (record { begun = w.begun; tries = suc w.tries })) s.running y h))))
     where
       run : Table (Running Begun)
       run = place (one n i (record { begun = w.begun; tries = suc w.tries })) s.running
   step_gains s (End n i) s' k (w, e, all, to) =
       subst (λ z. sum_of s + 0 ≤ sum_of z) (sym to)
       (nothing_opens s (record { rows = place new s.rows; running = without n i s.running; opens = s.opens }) (λ y. refl)
-        (begun_rows s.rows (place new s.rows) s.running (without n i s.running) (place_grows new s.rows) keep))
+      (begun_rows s.rows (place new s.rows) s.running (without n i s.running) (place_grows new s.rows) keep))
     where
       new : Table Row
       new = one n i (m.finish (address n i) w.begun s.rows)
@@ -294,9 +289,9 @@ module _ {Row Begun Decision Verdict : Type 0} (m : Source Row Begun Decision Ve
   step_gains s (Skip n i) s' k (after, kind, de, fails, to) =
       subst (λ z. sum_of s + 1 ≤ sum_of z) (sym to)
       (event_gains m f s.opens s.opens (begun s.rows s.running) (begun (place new s.rows) s.running) up n i (λ y h. refl) 1 d so sol de.is_there.graph after kind de.is_there.is_open de.is_there.is_in
-        (let x = zero_in s.opens (begun s.rows s.running) kind n i de.not_open (not_begun s (address n i) de.no_row de.not_running) in
-          let y = full_in s.opens (begun (place new s.rows) s.running) kind n i de.not_open now in
-          let z = total_pos kind n i in omega (arith, x, y, z)))
+      (let x = zero_in s.opens (begun s.rows s.running) kind n i de.not_open (not_begun s (address n i) de.no_row de.not_running) in
+      let y = full_in s.opens (begun (place new s.rows) s.running) kind n i de.not_open now in
+      let z = total_pos kind n i in omega (arith, x, y, z)))
     where
       new : Table Row
       new = skip m n kind i
@@ -310,8 +305,8 @@ module _ {Row Begun Decision Verdict : Type 0} (m : Source Row Begun Decision Ve
   step_gains s (Open n i) s' k (after, kind, c, de, pass, to) =
       subst (λ z. sum_of s + 1 ≤ sum_of z) (sym to)
       (event_gains m f s.opens u (begun s.rows s.running) (begun (place new s.rows) s.running) up n i (λ y h. unless (is_own n i y) (Some w) (s.opens y) h) 1 d so sol de.is_there.graph after kind de.is_there.is_open de.is_there.is_in
-        (let x = zero_in s.opens (begun s.rows s.running) kind n i de.not_open (not_begun s (address n i) de.no_row de.not_running) in
-          let y = open_pos u (begun (place new s.rows) s.running) kind n i w c (when (is_own n i (address n i)) (Some w) (s.opens (address n i)) (own_self n i)) in omega (arith, x, y)))
+      (let x = zero_in s.opens (begun s.rows s.running) kind n i de.not_open (not_begun s (address n i) de.no_row de.not_running) in
+      let y = open_pos u (begun (place new s.rows) s.running) kind n i w c (when (is_own n i (address n i)) (Some w) (s.opens (address n i)) (own_self n i)) in omega (arith, x, y)))
     where
       w : Opening Decision Verdict
       w = record { decision = m.decide (address n i) s.rows; next = 0; test = None }
@@ -327,22 +322,22 @@ module _ {Row Begun Decision Verdict : Type 0} (m : Source Row Begun Decision Ve
   step_gains s (Begin n i) s' k (after, kind, w, th, e, may, to) =
       subst (λ z. sum_of s + 1 ≤ sum_of z) (sym to)
       (event_gains m f s.opens (opened n i (Some v) s.opens) (begun s.rows s.running) (begun s.rows s.running) (λ y h. h) n i (λ y h. unless (is_own n i y) (Some v) (s.opens y) h) 1 d so sol th.graph after kind th.is_open th.is_in
-        (begin_gains s th.graph i n after kind w th.is_open th.is_in e (begun s.rows s.running) may))
+      (begin_gains s th.graph i n after kind w th.is_open th.is_in e (begun s.rows s.running) may))
     where
       v : Opening Decision Verdict
       v = record { decision = w.decision; next = suc w.next; test = None }
   step_gains s (Test n i) s' k (after, kind, w, j, th, e, may, to) =
       subst (λ z. sum_of s + 1 ≤ sum_of z) (sym to)
       (event_gains m f s.opens (opened n i (Some v) s.opens) (begun s.rows s.running) (begun s.rows s.running) (λ y h. h) n i (λ y h. unless (is_own n i y) (Some v) (s.opens y) h) 1 d so sol th.graph after kind th.is_open th.is_in
-        (test_gains s th.graph i n after kind w j th.is_open th.is_in e (begun s.rows s.running) may))
+      (test_gains s th.graph i n after kind w j th.is_open th.is_in e (begun s.rows s.running) may))
     where
       v : Opening Decision Verdict
       v = record { decision = w.decision; next = w.next; test = Some (m.test (address n i) j s.rows) }
   step_gains s (Close n i) s' k (after, kind, w, th, e, may, to) =
       subst (λ z. sum_of s + 1 ≤ sum_of z) (sym to)
       (event_gains m f s.opens u (begun s.rows s.running) (begun (place new s.rows) s.running) up n i (λ y h. unless (is_own n i y) None (s.opens y) h) 1 d so sol th.graph after kind th.is_open th.is_in
-        (let x = open_less s k th.graph i n after kind w th.is_open th.is_in e (begun s.rows s.running) in
-          let y = full_in u (begun (place new s.rows) s.running) kind n i (when (is_own n i (address n i)) None (s.opens (address n i)) (own_self n i)) now in omega (arith, x, y)))
+      (let x = open_less s k th.graph i n after kind w th.is_open th.is_in e (begun s.rows s.running) in
+      let y = full_in u (begun (place new s.rows) s.running) kind n i (when (is_own n i (address n i)) None (s.opens (address n i)) (own_self n i)) now in omega (arith, x, y)))
     where
       u : Table (Opening Decision Verdict)
       u = opened n i None s.opens
@@ -375,10 +370,10 @@ module _ {Row Begun Decision Verdict : Type 0} (m : Source Row Begun Decision Ve
     leaves = address n i ∷ remove m n i a.leaves;
     all_there = λ x q h. ⊎_elim (λ t. inl (own_is n i x t)) (λ u. inr (among_others m n i x a.leaves u (a.all_there x q (sym (off x u) ∙ h)))) (two (is_own n i x));
     counts =
-      let g = step_gains s (Start n i) (record { rows = s.rows; running = run; opens = s.opens }) k (after, de, pass, refl) in
-      let o = owed_removed m n i s.running run off a.leaves in
-      let y = a.counts in
-      let z = ap (λ z. remaining m (address n i) z) here' in omega (arith, g, o, y, z);
+        let g = step_gains s (Start n i) (record { rows = s.rows; running = run; opens = s.opens }) k (after, de, pass, refl) in
+        let o = owed_removed m n i s.running run off a.leaves in
+        let y = a.counts in
+        let z = ap (λ z. remaining m (address n i) z) here' in omega (arith, g, o, y, z);
   })
     where
       w : Running Begun
@@ -396,10 +391,10 @@ module _ {Row Begun Decision Verdict : Type 0} (m : Source Row Begun Decision Ve
     leaves = a.leaves;
     all_there = λ x q h. ⊎_elim (λ t. a.all_there x w (ap s.running (sym (own_is n i x t)) ∙ e)) (λ u. a.all_there x q (sym (off x u) ∙ h)) (two (is_own n i x));
     counts =
-      let g = step_gains s (Try n i) (record { rows = s.rows; running = run; opens = s.opens }) k (w, e, lt, refl) in
-      let z = ap (λ z. remaining m (address n i) z) here' in let z' = ap (λ z. remaining m (address n i) z) e in
-      let o = (owed_falls m n i s.running run off (omega (arith, z, z', lt)) a.leaves).1 (a.all_there (address n i) w e) in
-      let y = a.counts in omega (arith, g, o, y);
+        let g = step_gains s (Try n i) (record { rows = s.rows; running = run; opens = s.opens }) k (w, e, lt, refl) in
+        let z = ap (λ z. remaining m (address n i) z) here' in let z' = ap (λ z. remaining m (address n i) z) e in
+        let o = (owed_falls m n i s.running run off (omega (arith, z, z', lt)) a.leaves).1 (a.all_there (address n i) w e) in
+        let y = a.counts in omega (arith, g, o, y);
   })
     where
       v : Running Begun
@@ -417,10 +412,10 @@ module _ {Row Begun Decision Verdict : Type 0} (m : Source Row Begun Decision Ve
     leaves = a.leaves;
     all_there = λ x q h. a.all_there x q (without_split n i s.running x q h);
     counts =
-      let g = step_gains s (End n i) (record { rows = place (one n i (m.finish (address n i) w.begun s.rows)) s.rows; running = without n i s.running; opens = s.opens }) k (w, e, all, refl) in
-      let z = ap (λ z. remaining m (address n i) z) (when (is_own n i (address n i)) None (s.running (address n i)) (own_self n i)) in let z' = ap (λ z. remaining m (address n i) z) e in
-      let o = (owed_falls m n i s.running (without n i s.running) (λ y u. unless (is_own n i y) None (s.running y) u) (omega (arith, z, z', all)) a.leaves).1 (a.all_there (address n i) w e) in
-      let y = a.counts in omega (arith, g, o, y);
+        let g = step_gains s (End n i) (record { rows = place (one n i (m.finish (address n i) w.begun s.rows)) s.rows; running = without n i s.running; opens = s.opens }) k (w, e, all, refl) in
+        let z = ap (λ z. remaining m (address n i) z) (when (is_own n i (address n i)) None (s.running (address n i)) (own_self n i)) in let z' = ap (λ z. remaining m (address n i) z) e in
+        let o = (owed_falls m n i s.running (without n i s.running) (λ y u. unless (is_own n i y) None (s.running y) u) (omega (arith, z, z', all)) a.leaves).1 (a.all_there (address n i) w e) in
+        let y = a.counts in omega (arith, g, o, y);
   })
   step_account s (Skip n i) s' events k st a = other_account s s' events (ap (λ z. z.running) st.4) (step_gains s (Skip n i) s' k st) a
   step_account s (Open n i) s' events k st a = other_account s s' events (ap (λ z. z.running) st.5) (step_gains s (Open n i) s' k st) a

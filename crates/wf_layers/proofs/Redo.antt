@@ -1,17 +1,11 @@
 -- What is redone, closed again and kept, from a set of chosen actions.
-use Rattle.std.proofs.Common.{◌≡◌, ℕ, zero, suc, ◌+◌, ◌<◌, ◌≤◌, Bool, true, false, not, ◌&&◌, ◌||◌, cond, max, List, [], ◌∷◌, ◌++◌, Option, Some, None, ◌⊎◌, inl, inr, ⊎_elim, refl, sym, ap, ap₂, ◌∙◌, subst, arith, nat_eq, eq-eqb, eqb-true, ne_eqb, true≢false, length, length-append, nat_lt, ltb-true, ltb-false}
-use Rattle.std.proofs.lemmas.Bool.{eqb-false}
+use Rattle.std.proofs.Common.{◌≡◌, ℕ, Bool, true, false, ◌||◌, List, [], ◌∷◌, ◌++◌, Option, Some, None, ◌⊎◌, inl, inr, ⊎_elim, refl, sym, ap, ◌∙◌, subst, nat_eq, eqb-true, true≢false}
 use Rattle.std.proofs.lemmas.Option.{none-some}
-use Rattle.wf_layers.specs.Definition.{Status, Need, Names, Pace, InTurn, AtMost, Kind, Leaf, Scope, Choice, Foreach, Until, Branches, no_branch, branch, Graph, done, add, is_one, less_one, branch_at, holds, has, has_any, shows, plain, plain_any, has_own, needs_in, needs_of, needs_any, kind_in, kind_of, kind_any, IsBefore, next, more, IsDepth, ClosedIn, ClosedAny, Closed, Goes, TurnsIn, TurnsAny, Turns}
-use Rattle.wf_layers.specs.Address.{Address, address, Table, same_at, starts, is_own, is_in, is_within, is_among, owner, Lower, earlier_in, earlier_any, together, IsEarlier, SeenIn}
-use Rattle.wf_layers.specs.Source.{Source, is_listed, is_met, all_met, gate, leaf, Agrees, AgreesIn, AgreesInside, GateLocal, StartLocal, FinishLocal, CloseLocal, DecideLocal, TestLocal, SoundIn, SoundAny, Sound}
-use Rattle.wf_layers.specs.Meaning.{only, layers, turns, sides, loop, rounds, last, deepest, rank, skip, skip_all, run, run_any, layer, meaning}
-use Rattle.wf_layers.specs.Rule.{look_in, look_any, look, Obeys}
-use Rattle.wf_layers.proofs.Basics.{two, and_in, and_of, front, back, fork, apart, not_true, same_self, same_self_at, starts_self, starts_outer, index_once, when, unless, only_same, cond_same, in_within, rest_within, other_within, own_in, held_in, inner_not_own, rank_below, falls_rank, none_inside, any_within, among_here, among_there, beside_not, longer, some_turn, sides_out, sides_at, rounds_same}
-use Rattle.wf_layers.proofs.Layers.{out_layer, out_layers, off_layer, before_layers, after_layers, body, other_turn, turns_out, turns_at, gate_same, leaf_same}
-
-use Rattle.wf_layers.specs.Machine.{Running, Opening, State, fresh, In, here, there, IsOpen, top, scope, chosen, turn, round, has_ended, is_ended, all_ended, unfinished, or_else, place, one, without, opened, Event, Start, Try, End, Skip, Open, Begin, Test, Close, IsContainer, in_others, skip_others, passed_over, MayBegin, MayTest, MayClose, closing, IsThere, IsDecided, Step, Run, IsOver}
-use Rattle.wf_layers.proofs.Tables.{same_at_is, same_starts, own_is, own_self, Within, one_is, one_within, place_split, place_none, place_agrees, place_fills, place_within, own_placed, without_split, opened_split, either_or, or_true, held, later', skip_in, skip_all_in, shows_holds, any_plain, plain_has, holds_in, any_in, has_in, inner_name, inner_of, branch_none, taken_has, taken_within}
+use Rattle.wf_layers.specs.Definition.{Need, Kind, Leaf, Scope, Choice, Foreach, Until, Branches, no_branch, branch, Graph, done, add, holds, has, has_any, IsBefore, next, more}
+use Rattle.wf_layers.specs.Address.{Address, starts, is_in, owner, Lower, earlier_in, earlier_any, together}
+use Rattle.wf_layers.proofs.Basics.{two, and_in, not_true, same_self, when, unless}
+use Rattle.wf_layers.specs.Machine.{In, here, there}
+use Rattle.wf_layers.proofs.Tables.{or_true, held, later'}
 use Rattle.wf_layers.specs.Redo.{HoldsChosen, Touched, IsHit, RedoIn, RedoAny, RedoOf, IsRedo}
 use Rattle.wf_layers.specs.Resubmission.{kept, SplitIn, SplitAny, Split, IsSplit}
 use Rattle.wf_layers.proofs.Resubmission.{kept_not, kept_other, is_kept}
@@ -47,9 +41,9 @@ module _ (d : Graph) (chosen redo again : ℕ → Bool) where
         ⊎_elim
         (λ e. subst (λ x. redo x ≡ true) (eqb-true n q e) (t.1 (inl u)))
         (λ e. ⊎_elim
-          (λ k. kind_redone kind n (t.1 (inl u)) t.4 q k)
-          (λ k. graph_redone rest w up u t.5 q (sym (ap (λ x. x || holds kind q || has rest q) e ∙ ap (λ x. x || has rest q) k) ∙ h))
-          (two (holds kind q)))
+        (λ k. kind_redone kind n (t.1 (inl u)) t.4 q k)
+        (λ k. graph_redone rest w up u t.5 q (sym (ap (λ x. x || holds kind q || has rest q) e ∙ ap (λ x. x || has rest q) k) ∙ h))
+        (two (holds kind q)))
         (two (nat_eq n q))
 
   -- WHAT MOVES INSIDE AN ACTION THAT ISN'T REDONE TOUCHES A CHOSEN ONE THERE
@@ -83,12 +77,12 @@ module _ (d : Graph) (chosen redo again : ℕ → Bool) where
         ⊎_elim
         (λ e. own_moves (subst Moves (sym (eqb-true n q e)) mv))
         (λ e. ⊎_elim
-          (λ k. ⊎_elim
-            (λ r. own_moves (inl r))
-            (λ r. let c = kind_touched kind n r t.4 q k mv in (c.0, (in_has w n after kind st).1 c.0 c.1, c.2))
-            (two (redo n)))
-          (λ k. walk_touched rest w up u (λ c b l z. into c b l (there z)) t.5 q (sym (ap (λ x. x || holds kind q || has rest q) e ∙ ap (λ x. x || has rest q) k) ∙ h) mv)
-          (two (holds kind q)))
+        (λ k. ⊎_elim
+        (λ r. own_moves (inl r))
+        (λ r. let c = kind_touched kind n r t.4 q k mv in (c.0, (in_has w n after kind st).1 c.0 c.1, c.2))
+        (two (redo n)))
+        (λ k. walk_touched rest w up u (λ c b l z. into c b l (there z)) t.5 q (sym (ap (λ x. x || holds kind q || has rest q) e ∙ ap (λ x. x || has rest q) k) ∙ h) mv)
+        (two (holds kind q)))
         (two (nat_eq n q))
       where
         st : In w n after kind
@@ -99,9 +93,9 @@ module _ (d : Graph) (chosen redo again : ℕ → Bool) where
             ⊎_elim
             (λ x. absurd (true≢false (sym x ∙ u)))
             (λ x. ⊎_elim
-              (λ y. (n, (in_has w n after kind st).0, y))
-              (λ y. touched_has w y.0 y.1 y.2 y.3 y.5)
-              x)
+            (λ y. (n, (in_has w n after kind st).0, y))
+            (λ y. touched_has w y.0 y.1 y.2 y.3 y.5)
+            x)
             (t.0 r)
         own_moves (inr r) = let c = (t.2 r).1 in (c.0, (in_has w n after kind st).1 c.0 c.1, c.2)
 
@@ -124,19 +118,19 @@ module _ (d : Graph) (chosen redo again : ℕ → Bool) where
         ⊎_elim
         (λ s. subst (λ x. redo x ≡ false) (eqb-true n q s) (t.2 (subst (λ x. again x ≡ true) (sym (eqb-true n q s)) e)).0)
         (λ s. ⊎_elim
-          (λ k. kind_apart kind n t.4 q k e)
-          (λ k. graph_apart rest w up t.5 q (sym (ap (λ x. x || holds kind q || has rest q) s ∙ ap (λ x. x || has rest q) k) ∙ h) e)
-          (two (holds kind q)))
+        (λ k. kind_apart kind n t.4 q k e)
+        (λ k. graph_apart rest w up t.5 q (sym (ap (λ x. x || holds kind q || has rest q) s ∙ ap (λ x. x || has rest q) k) ∙ h) e)
+        (two (holds kind q)))
         (two (nat_eq n q))
 
   -- nothing in a loop is closed again
   pub none_again : (g : Graph) (up : Bool) → ((q : ℕ) → has g q ≡ true → chosen q ≡ false) → Tree up g g → (q : ℕ) → has g q ≡ true → again q ≡ false
   none_again g up none t q h =
       not_true (again q) (λ e.
-        ⊎_elim
-        (λ u. true≢false (sym (graph_redone g g up u t q h) ∙ graph_apart g g up t q h e))
-        (λ u. let c = walk_touched g g up u (λ x b k st. st) t q h (inr e) in true≢false (sym c.2 ∙ none c.0 c.1))
-        (two up))
+      ⊎_elim
+      (λ u. true≢false (sym (graph_redone g g up u t q h) ∙ graph_apart g g up t q h e))
+      (λ u. let c = walk_touched g g up u (λ x b k st. st) t q h (inr e) in true≢false (sym c.2 ∙ none c.0 c.1))
+      (two up))
 
   -- THE SPLIT
   pub not_moving : (q : ℕ) → (Moves q → ⊥) → kept redo again q ≡ true
@@ -156,13 +150,15 @@ module _ (d : Graph) (chosen redo again : ℕ → Bool) where
 
     graph_split : (g w : Graph) (up : Bool) → Tree up g w → Split redo again g
     graph_split done w up t = tt
-    graph_split (add n after kind rest) w up t =
-        ((λ r q h. kind_redone kind n r t.4 q h),
-         (λ k q h. not_moving q (λ mv.
-           let nr = kept_not (redo n) (again n) k in
-           let c = kind_touched kind n nr t.4 q h mv in
-           true≢false (sym (t.3 nr c) ∙ kept_other (redo n) (again n) k))),
-         kind_split kind n t.4 (λ e. (t.2 e).1), graph_split rest w up t.5)
+    graph_split (add n after kind rest) w up t = (
+      (λ r q h. kind_redone kind n r t.4 q h),
+      (λ k q h. not_moving q (λ mv.
+          let nr = kept_not (redo n) (again n) k in
+          let c = kind_touched kind n nr t.4 q h mv in
+          true≢false (sym (t.3 nr c) ∙ kept_other (redo n) (again n) k))),
+      kind_split kind n t.4 (λ e. (t.2 e).1),
+      graph_split rest w up t.5,
+    )
 
   -- NOTHING KEPT STANDS AFTER WHAT MOVES
   owner_in : (g : Graph) (i : List ℕ) (y : Address) (c : ℕ) → owner g i y ≡ Some c → (before : List Need) × (kind : Kind) × In g c before kind × (is_in c kind i y ≡ true)
@@ -170,7 +166,7 @@ module _ (d : Graph) (chosen redo again : ℕ → Bool) where
   owner_in (add n after kind rest) i y c e =
       ⊎_elim
       (λ t. let s : Some n ≡ Some c = sym (when (is_in n kind i y) (Some n) (owner rest i y) t) ∙ e in let s' : n ≡ c = cc in
-        subst (λ x. (before : List Need) × (k : Kind) × In (add n after kind rest) x before k × (is_in x k i y ≡ true)) s' (after, kind, here, t))
+      subst (λ x. (before : List Need) × (k : Kind) × In (add n after kind rest) x before k × (is_in x k i y ≡ true)) s' (after, kind, here, t))
       (λ u. let r = owner_in rest i y c (sym (unless (is_in n kind i y) (Some n) (owner rest i y) u) ∙ e) in (r.0, r.1, there r.2, r.3))
       (two (is_in n kind i y))
 
@@ -271,5 +267,5 @@ module _ (d : Graph) (chosen redo again : ℕ → Bool) where
     tree = graph_split d d false is.tree;
     apart = λ n e. ⊎_elim (λ h. graph_apart d d false is.tree n h e) (λ h. absurd (true≢false (sym e ∙ is.outside n h))) (two (has d n));
     after = λ z y nr see. not_moving y.name (λ mv.
-      true≢false (sym (⊎_elim (λ l. lower_moves d false [] y z is.tree l mv) (λ j. graph_moves d d false is.tree [] y z j mv) see.1) ∙ nr));
+        true≢false (sym (⊎_elim (λ l. lower_moves d false [] y z is.tree l mv) (λ j. graph_moves d d false is.tree [] y z j mv) see.1) ∙ nr));
   }

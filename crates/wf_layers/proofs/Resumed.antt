@@ -12,12 +12,13 @@ use Rattle.wf_layers.specs.Machine.{Opening, State, In, here, there, IsOpen, top
 use Rattle.wf_layers.proofs.Tables.{same_at_is}
 use Rattle.wf_layers.specs.Facts.{OpenFact}
 use Rattle.wf_layers.specs.Laws.{IsFresh}
-use Rattle.wf_layers.specs.Resubmission.{kept, SplitIn, SplitAny, Split, IsSplit, pin, PassedIn, PassedAny, Passed, IsResubmission, reopened, resumed, OthersKept, ResumedRows, ResumedAtTheEnd}
+use Rattle.wf_layers.specs.Resubmission.{kept, SplitIn, SplitAny, Split, IsSplit, pin, PassedIn, PassedAny, Passed, IsResubmission, reopened, resumed, OthersKept, ResumedRows, ResumedAtTheEnd, ResumedEnds}
 use Rattle.wf_layers.proofs.Meaning.{meaning_solves}
 use Rattle.wf_layers.proofs.Places.{or_right}
 use Rattle.wf_layers.proofs.Open.{OpenFacts, kind_there}
 use Rattle.wf_layers.proofs.Keeps.{Keeps, SpecialOut}
 use Rattle.wf_layers.proofs.Events.{own_row, run_keeps, rows_are, ended_settled}
+use Rattle.wf_layers.proofs.Ends.{run_bounded}
 use Rattle.wf_layers.proofs.Progress.{closed_is, all_ended_over}
 use Rattle.wf_layers.proofs.Resubmission.{kept_not, kept_other, is_kept, pin_sound, kept_same, resubmission_is_fresh}
 
@@ -227,3 +228,9 @@ module _ {Row Begun Decision Verdict : Type 0} (a b : Source Row Begun Decision 
   resumed_at_the_end closed t es s run o =
       let cl = closed_is m d so f sol closed in let k = run_keeps m d so f sol cl out s0 es s first_keeps run in
       ended_settled m d so f sol s k d [] top (all_ended_over m d so f sol closed depth falls s k o t)
+
+  -- and each such run ends
+  pub resumed_ends : Closed d d → ResumedEnds d depth a b redo again recall
+  resumed_ends closed es s run =
+      let cl = closed_is m d so f sol closed in
+      run_bounded m d so f sol cl out s0 first_keeps (λ x w e. none-some w e) es s (run_keeps m d so f sol cl out s0 es s first_keeps run) run

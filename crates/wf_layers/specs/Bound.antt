@@ -1,6 +1,6 @@
 -- How many events a run has at most.
 use Rattle.std.specs.Prelude.{ℕ, zero, suc, ◌+◌, List, [], ◌∷◌, ◌++◌}
-use Rattle.wf_layers.specs.Definition.{Need, Pace, Kind, Leaf, Scope, Choice, Foreach, Until, Branches, no_branch, branch, Graph, done, add}
+use Rattle.wf_layers.specs.Definition.{Kind, Leaf, Scope, Choice, Foreach, Until, Branches, no_branch, branch, Graph, done, add}
 use Rattle.wf_layers.specs.Address.{address, Table}
 use Rattle.wf_layers.specs.Source.{Source}
 use Rattle.wf_layers.specs.Meaning.{rounds}

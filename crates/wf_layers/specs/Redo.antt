@@ -1,6 +1,6 @@
 -- What a resubmission from a set of actions redoes, and what it closes again.
 use Rattle.std.specs.Prelude.{◌≡◌, ℕ, Bool, true, false, List, ◌⊎◌}
-use Rattle.wf_layers.specs.Definition.{Need, Pace, Kind, Leaf, Scope, Choice, Foreach, Until, Branches, no_branch, branch, Graph, done, add, holds, has, IsBefore}
+use Rattle.wf_layers.specs.Definition.{Need, Kind, Leaf, Scope, Choice, Foreach, Until, Branches, no_branch, branch, Graph, done, add, holds, has, IsBefore}
 use Rattle.wf_layers.specs.Machine.{In}
 
 module _ (d : Graph) (chosen : ℕ → Bool) where

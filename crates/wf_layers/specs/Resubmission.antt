@@ -1,9 +1,10 @@
 -- Resubmission: rows kept from an old table, what is redone and what is closed again, and an environment with one layer more.
-use Rattle.std.specs.Prelude.{◌≡◌, ℕ, Bool, true, false, ◌&&◌, ◌||◌, cond, not, List, [], Option, Some, None}
+use Rattle.std.specs.Prelude.{◌≡◌, ℕ, Bool, true, false, ◌&&◌, ◌||◌, cond, not, List, [], Option, Some, None, ◌≤◌, length}
 use Rattle.wf_layers.specs.Definition.{Kind, Leaf, Scope, Choice, Foreach, Until, Branches, no_branch, branch, Graph, done, add, has, holds, kind_of}
 use Rattle.wf_layers.specs.Address.{Address, address, Table, same_at, is_within, SeenIn}
 use Rattle.wf_layers.specs.Source.{Source, Sound, gate}
 use Rattle.wf_layers.specs.Meaning.{meaning}
+use Rattle.wf_layers.specs.Bound.{total}
 use Rattle.wf_layers.specs.Redo.{IsRedo}
 use Rattle.wf_layers.specs.Machine.{Opening, State, Event, Run, IsOver, in_others}
 
@@ -146,6 +147,12 @@ module _ {Row Begun Decision Verdict : Type 0} where
   ResumedAtTheEnd d depth a b redo again recall =
       (es : List Event) (s : State Row Begun Decision Verdict) → Run d (pin a b redo again (meaning a depth d) recall) (resumed d redo again (meaning a depth d) recall) es s
       → IsOver d (pin a b redo again (meaning a depth d) recall) s → (x : Address) → is_within d [] x ≡ true → s.rows x ≡ meaning (pin a b redo again (meaning a depth d) recall) depth d x
+
+  -- Each such run has at most as many events as the resubmitted rows give the definition.
+  abbrev pub ResumedEnds : Graph → (ℕ → ℕ) → Source Row Begun Decision Verdict → Source Row Begun Decision Verdict → (ℕ → Bool) → (ℕ → Bool) → (Address → Decision) → Type 0
+  ResumedEnds d depth a b redo again recall =
+      (es : List Event) (s : State Row Begun Decision Verdict) → Run d (pin a b redo again (meaning a depth d) recall) (resumed d redo again (meaning a depth d) recall) es s
+      → length es ≤ total (pin a b redo again (meaning a depth d) recall) (meaning (pin a b redo again (meaning a depth d) recall) depth d) d []
 
   -- What is redone has the same answers in both environments.
   pub record SameAnswers (a b : Source Row Begun Decision Verdict) (redo : ℕ → Bool) : Type 0 where
