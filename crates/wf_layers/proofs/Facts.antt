@@ -1,0 +1,55 @@
+-- The facts of each state that a run reaches.
+use Rattle.std.proofs.Common.{ℕ, ◌||◌, Some, refl, sym, ap, ◌∙◌, length}
+use Rattle.std.proofs.lemmas.Option.{none-some}
+use Rattle.wf_layers.specs.Definition.{Choice, Graph, IsBefore}
+use Rattle.wf_layers.specs.Address.{Table, is_among, SeenIn}
+use Rattle.wf_layers.specs.Source.{Source, gate}
+use Rattle.wf_layers.specs.Meaning.{skip, meaning}
+use Rattle.wf_layers.specs.Rule.{look_any}
+use Rattle.wf_layers.proofs.Basics.{unless, held_in}
+use Rattle.wf_layers.specs.Machine.{fresh}
+use Rattle.wf_layers.proofs.Places.{within_of}
+use Rattle.wf_layers.specs.Laws.{IsInstance, FactsOfStates}
+use Rattle.wf_layers.proofs.Others.{others_among, look_others}
+use Rattle.wf_layers.proofs.Open.{open_sub, placed_in, kind_there, fact_of, obey_in, inner_rule, follows}
+use Rattle.wf_layers.proofs.Keeps.{Keeps}
+use Rattle.wf_layers.proofs.Limit.{run_limited}
+use Rattle.wf_layers.proofs.Progress.{sol, kept_state}
+
+module _ {Row Begun Decision Verdict : Type 0} (d : Graph) (m : Source Row Begun Decision Verdict) (depth : ℕ → ℕ) (is : IsInstance d m depth) where
+  -- the facts of each state that a run reaches
+  pub facts_of_states : FactsOfStates d m depth
+  facts_of_states es s r = record {
+    rows = k.placed.by;
+    running = λ x w e. let h = k.held x w e in (h.as_begun, h.so_far, h.gives f (λ y see. refl) ∙ ap (λ b. Some (m.finish x b f)) h.as_begun);
+    before_row = k.behind;
+    before_running = k.run_behind;
+    before_open = λ x w e. k.open_behind x.name x.at w e;
+    whole = k.subtree;
+    opens = λ n i w kind e q. (k.facts n i w kind e q).1;
+    limit = run_limited m d is.local f (sol d m depth is) fresh es s (λ n i w most h e q. absurd (none-some w e)) r;
+    others = λ n i after bs w th e y h.
+        let g = th.graph in
+        let pl = placed_in m d is.local f (sol d m depth is) (length i) g n after (Choice bs) (open_sub m d is.local f (sol d m depth is) s.opens g i th.is_open) th.is_in in
+        let fact = fact_of m d is.local f (sol d m depth is) s.rows s.opens k.facts g i n after (Choice bs) w th.is_open th.is_in e in
+        let w' = others_among bs (m.taken w.decision) i y h in
+        fact.1.1 y h
+        ∙ obey_in m d is.local f (sol d m depth is) g i n after (Choice bs) pl (follows m d is.local f (sol d m depth is) s.rows s.opens k.facts g i th.is_open) fact.0 y (held_in n (Choice bs) i y w')
+        ∙ inner_rule m d is.local f (sol d m depth is) (Choice bs) n i _ _ (is_among bs i y) y pl.apart_own w' w'
+        ∙ ap (λ q. look_any m bs (m.taken q) i f y) (sym fact.1.0)
+        ∙ look_others m bs (m.taken w.decision) i f y h;
+    skipped = λ n i after kind r th e fails y t.
+        let g = th.graph in
+        let pl = placed_in m d is.local f (sol d m depth is) (length i) g n after kind (open_sub m d is.local f (sol d m depth is) s.opens g i th.is_open) th.is_in in
+        k.subtree n i r kind e (kind_there m d is.local f (sol d m depth is) s.opens g i n after kind th.is_open th.is_in).0 y t
+        ∙ follows m d is.local f (sol d m depth is) s.rows s.opens k.facts g i th.is_open y (within_of m (IsBefore d) (SeenIn d) (length i) g n after kind pl i y t)
+        ∙ pl.looked i f y t
+        ∙ unless (m.pinned n) (m.old y) _ (is.own n).0
+        ∙ unless (m.reclosed n || gate m after n i f) _ (skip m n kind i y) (ap (λ b. b || gate m after n i f) (is.own n).1 ∙ fails);
+  }
+    where
+      f : Table Row
+      f = meaning m depth d
+
+      k : Keeps m d is.local (meaning m depth d) (sol d m depth is) s
+      k = kept_state d m depth is es s r
