@@ -1,0 +1,4 @@
+pub mod Graphs
+pub mod Waiting
+pub mod Instance
+pub mod Rows
