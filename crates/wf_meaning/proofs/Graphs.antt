@@ -1,9 +1,9 @@
 -- The graph of a list of actions: which action has a number, and what it waits for.
-use Rattle.std.proofs.Common.{◌≡◌, ℕ, zero, suc, ◌+◌, ◌<◌, ◌≤◌, Bool, true, false, ◌&&◌, ◌||◌, cond, List, [], ◌∷◌, Option, Some, None, is_some, slice_get, ◌⊎◌, inl, inr, ⊎_elim, refl, sym, ap, ◌∙◌, subst, arith, nat_eq, eq-eqb, eqb-true, true≢false}
+use Rattle.std.proofs.Common.{◌≡◌, ℕ, zero, suc, ◌+◌, ◌<◌, true, false, ◌||◌, cond, List, [], ◌∷◌, Option, Some, None, is_some, slice_get, ⊎_elim, refl, sym, ap, ◌∙◌, subst, arith, nat_eq, eq-eqb, eqb-true, true≢false}
 use Rattle.std.proofs.lemmas.Bool.{ne_eqb}
-use Rattle.wf_layers.specs.Definition.{Need, Leaf, has, has_own, needs_of}
-use Rattle.wf_layers.specs.Address.{Address, address, owner}
-use Rattle.wf_layers.proofs.Basics.{two, same_self}
+use Rattle.wf_layers.specs.Definition.{Need, has, has_own, needs_of}
+use Rattle.wf_layers.specs.Address.{address, owner}
+use Rattle.wf_layers.proofs.Basics.{two}
 use Rattle.wf_meaning.specs.Definition.{ActionTree}
 use Rattle.wf_meaning.specs.Flat.{graph_from}
 

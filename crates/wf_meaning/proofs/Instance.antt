@@ -1,8 +1,8 @@
 -- A graph all of whose actions end meets the premises of the laws of order.
-use Rattle.std.proofs.Common.{◌≡◌, ℕ, zero, suc, ◌<◌, Bool, true, false, ◌&&◌, ◌||◌, cond, List, [], ◌∷◌, length, Option, Some, None, is_some, slice_get, ◌⊎◌, inl, inr, ⊎_elim, refl, sym, ap, ◌∙◌, subst, arith, nat_eq, eqb-true, true≢false}
-use Rattle.wf_layers.specs.Definition.{Need, Names, Leaf, Graph, has, IsBefore, next, IsDepth, Closed, Turns, needs_of}
-use Rattle.wf_layers.specs.Address.{Address, address, SeenIn, owner, Lower}
-use Rattle.wf_layers.specs.Source.{Source, Sound}
+use Rattle.std.proofs.Common.{◌≡◌, ℕ, zero, suc, ◌<◌, true, false, ◌&&◌, ◌||◌, List, [], ◌∷◌, length, Option, Some, None, is_some, slice_get, ◌⊎◌, inl, inr, refl, sym, ap, ◌∙◌, subst, arith, nat_eq, eqb-true, true≢false}
+use Rattle.wf_layers.specs.Definition.{Names, has, IsBefore, next, IsDepth, Closed, Turns, needs_of}
+use Rattle.wf_layers.specs.Address.{address, SeenIn, owner, Lower}
+use Rattle.wf_layers.specs.Source.{Sound}
 use Rattle.wf_layers.specs.Laws.{IsInstance}
 use Rattle.wf_layers.proofs.Basics.{two, same_self, and_of}
 use Rattle.wf_meaning.specs.Definition.{ActionTree}
@@ -59,8 +59,7 @@ module _ (actions : List ActionTree) (all : all_end actions ≡ true) where
   sound_from : (n : ℕ) (rest : List ActionTree) → ((m : ℕ) (a : ActionTree) → numbered n rest m ≡ Some a → slice_get actions m ≡ Some a) → Sound (source actions) (SeenIn (graph_of actions)) (graph_from n rest) 0
   sound_from n [] stands = tt
   sound_from n (a ∷ more) stands =
-      let is : slice_get actions n ≡ Some a = stands n a (rw (same_self n)) in
-      (
+      let is : slice_get actions n ≡ Some a = stands n a (rw (same_self n)) in (
         ((λ i none p names. at_no_index n p i none (seen n p a is names)), λ i none t u same. refl),
         refl,
         (λ m e. fresh_name n more m e),
@@ -74,8 +73,7 @@ module _ (actions : List ActionTree) (all : all_end actions ≡ true) where
   closed_from : (n : ℕ) (rest : List ActionTree) → ((m : ℕ) (a : ActionTree) → numbered n rest m ≡ Some a → slice_get actions m ≡ Some a) → Closed (graph_from n rest) (graph_of actions)
   closed_from n [] stands = tt
   closed_from n (a ∷ more) stands =
-      let is : slice_get actions n ≡ Some a = stands n a (rw (same_self n)) in
-      (
+      let is : slice_get actions n ≡ Some a = stands n a (rw (same_self n)) in (
         (λ p names. has_own_is 0 actions p ∙ there p (waited_there n p a is names)),
         tt,
         closed_from (suc n) more (λ m b e. stands m b (numbered_later n a more m b e)),

@@ -1,15 +1,15 @@
 -- Where each action waits for success alone, each has its Compose row, and the graph Succeeded.
-use Rattle.std.proofs.Common.{◌≡◌, ℕ, zero, suc, ◌<◌, ◌≤◌, Bool, true, false, not, ◌&&◌, ◌||◌, cond, List, [], ◌∷◌, length, map, Option, Some, None, is_some, slice_get, ◌⊎◌, inl, inr, ⊎_elim, refl, sym, ap, ◌∙◌, subst, arith, nat_eq, eqb-true, true≢false}
+use Rattle.std.proofs.Common.{◌≡◌, ℕ, zero, suc, ◌<◌, Bool, true, false, not, ◌&&◌, ◌||◌, cond, List, [], ◌∷◌, length, map, Option, Some, None, is_some, slice_get, inl, inr, ⊎_elim, refl, sym, ap, ◌∙◌, subst, arith, nat_eq, eqb-true, true≢false}
 use Rattle.std.specs.List.{list_any, list_all}
 use Rattle.wf_val.specs.ValueTree.{ValueTree}
 use Rattle.wf_layers.specs.Definition.{Status, Succeeded, Failed, Skipped, TimedOut, Cancelled, Need, Names}
-use Rattle.wf_layers.specs.Address.{Address, Table, address}
+use Rattle.wf_layers.specs.Address.{Table, address}
 use Rattle.wf_layers.specs.Source.{is_listed, all_met}
 use Rattle.wf_layers.specs.Rule.{look}
 use Rattle.wf_layers.proofs.Basics.{two, same_self, and_in, and_of}
 use Rattle.wf_layers.proofs.Laws.{meaning_obeys_the_rule}
 use Rattle.wf_meaning.specs.Definition.{ActionTree}
-use Rattle.wf_meaning.specs.Record.{Row, RowTree}
+use Rattle.wf_meaning.specs.Record.{Row}
 use Rattle.wf_meaning.specs.Rounds.{places, all_end, depth_of}
 use Rattle.wf_meaning.specs.Flat.{graph_from, graph_of, source, composed, inputs_of}
 use Rattle.wf_meaning.specs.Laws.{is_succeeded_alone, all_wait_for_success, composed_at}

@@ -1,10 +1,10 @@
 -- Rounds of waiting, and the depths that they give.
-use Rattle.std.proofs.Common.{◌≡◌, ℕ, zero, suc, ◌+◌, ◌<◌, ◌≤◌, max, Bool, true, false, not, ◌&&◌, ◌||◌, cond, List, [], ◌∷◌, length, Option, Some, None, is_some, slice_get, ◌⊎◌, inl, inr, ⊎_elim, refl, sym, ap, ◌∙◌, subst, arith, true≢false}
+use Rattle.std.proofs.Common.{◌≡◌, ℕ, zero, suc, ◌+◌, ◌<◌, Bool, true, false, not, ◌||◌, List, [], ◌∷◌, length, Option, Some, None, is_some, slice_get, inl, inr, refl, sym, subst, arith, true≢false}
 use Rattle.std.specs.List.{list_any, list_all}
 use Rattle.wf_layers.specs.Definition.{Need, Names}
-use Rattle.wf_layers.proofs.Basics.{two, and_in}
+use Rattle.wf_layers.proofs.Basics.{and_in}
 use Rattle.wf_meaning.specs.Definition.{ActionTree}
-use Rattle.wf_meaning.specs.Rounds.{waits_for, is_waiting, places, all_end, greatest, greatest_of, depth_within, depth_of}
+use Rattle.wf_meaning.specs.Rounds.{waits_for, is_waiting, places, all_end, greatest, greatest_of, depth_within}
 
 pub or_none : (a b : Bool) → (a || b) ≡ false → (a ≡ false) × (b ≡ false)
 or_none true b e = absurd (true≢false e)

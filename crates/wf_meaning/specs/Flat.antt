@@ -1,7 +1,7 @@
 -- A definition without containers, as the laws of order see it: its graph of leaves, and the source of their rows.
 use Rattle.std.specs.Prelude.{ℕ, suc, Bool, true, false, List, [], ◌∷◌, Option, None, Some, slice_get, codes}
 use Rattle.wf_val.specs.ValueTree.{ValueTree, null, object, no_members}
-use Rattle.wf_layers.specs.Definition.{Status, Succeeded, Skipped, Leaf, Graph, done, add}
+use Rattle.wf_layers.specs.Definition.{Succeeded, Skipped, Leaf, Graph, done, add}
 use Rattle.wf_layers.specs.Source.{Source}
 use Rattle.wf_meaning.specs.Definition.{ActionTree}
 use Rattle.wf_meaning.specs.Record.{Row}

@@ -1,7 +1,7 @@
 -- What holds of the meaning of a definition all of whose actions end.
-use Rattle.std.specs.Prelude.{◌≡◌, ℕ, Bool, true, false, ◌&&◌, List, [], ◌∷◌, map}
+use Rattle.std.specs.Prelude.{Bool, true, false, List, [], ◌∷◌}
 use Rattle.std.specs.List.{list_all}
-use Rattle.wf_layers.specs.Definition.{Status, Succeeded, Need}
+use Rattle.wf_layers.specs.Definition.{Status, Succeeded}
 use Rattle.wf_meaning.specs.Definition.{ActionTree}
 use Rattle.wf_meaning.specs.Record.{RowTree}
 use Rattle.wf_meaning.specs.Flat.{composed}

@@ -1,6 +1,6 @@
 -- What a definition means: the record that a run of it leaves.
 use Rattle.std.specs.Prelude.{ℕ, suc, List, [], ◌∷◌, Option, None, Some, codes}
-use Rattle.wf_val.specs.ValueTree.{ValueTree, null, object, Member, members}
+use Rattle.wf_val.specs.ValueTree.{ValueTree, null, object, members}
 use Rattle.wf_val.specs.declared.address.Address.{Address}
 use Rattle.wf_layers.specs.Address.{Table, address}
 use Rattle.wf_layers.specs.Meaning as layered

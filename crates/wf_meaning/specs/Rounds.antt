@@ -1,6 +1,6 @@
 -- When the actions of a graph end, counted in rounds: in each round those actions end that wait only for actions which
 -- ended in earlier rounds. Where `runAfter` goes in a circle, the actions of the circle never end.
-use Rattle.std.specs.Prelude.{ℕ, zero, suc, Bool, true, false, not, List, [], ◌∷◌, length, Option, None, Some, slice_get, max}
+use Rattle.std.specs.Prelude.{ℕ, zero, suc, Bool, true, not, List, [], ◌∷◌, length, Option, None, Some, slice_get, max}
 use Rattle.std.specs.List.{list_all, list_any}
 use Rattle.wf_layers.specs.Definition.{Need}
 use Rattle.wf_meaning.specs.Definition.{ActionTree}

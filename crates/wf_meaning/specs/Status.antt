@@ -1,5 +1,5 @@
 -- The status of a graph, from its actions and their rows.
-use Rattle.std.specs.Prelude.{ℕ, zero, suc, Bool, true, false, not, ◌&&◌, List, [], ◌∷◌, length, Option, None, Some, if◌then◌else◌, nat_eq, slice_get}
+use Rattle.std.specs.Prelude.{ℕ, zero, suc, Bool, true, false, not, ◌&&◌, List, [], length, Option, None, Some, if◌then◌else◌, nat_eq, slice_get}
 use Rattle.std.specs.List.{list_any}
 use Rattle.wf_layers.specs.Definition.{Status, Succeeded, Failed, Skipped, TimedOut, Cancelled}
 use Rattle.wf_layers.specs.Address.{Table, address}

@@ -14,6 +14,14 @@ const HELLO_RECORD: &str = concat!(
     "\n# run r1 steps 2 peak 1\n"
 );
 
+// Written out of the order of the names, so the rows of the record are in another order.
+const TWO: &str = r#"{"actions":{"B":{"type":"Compose","inputs":1},"A":{"type":"Compose","inputs":2,"runAfter":{"B":["Succeeded"]}}}}"#;
+
+const TWO_RECORD: &str = concat!(
+    r#"{"definition":"f9cc2b6812616ddb52468ea2a04e3b13d5915caceb5165f7e312e7cc9b95b2a0","error":null,"form":1,"outputs":{},"parameters":{},"response":null,"rows":[{"at":[],"attempts":0,"code":"OK","error":null,"inputs":2,"name":"A","outputs":2,"status":"Succeeded","tracked":{}},{"at":[],"attempts":0,"code":"OK","error":null,"inputs":1,"name":"B","outputs":1,"status":"Succeeded","tracked":{}}],"run":"r1","status":"Succeeded","trigger":{"name":null,"outputs":null}}"#,
+    "\n# run r1 steps 4 peak 1\n"
+);
+
 const EMPTY_RECORD: &str = concat!(
     r#"{"definition":"c8c216942e19a084a0dd295b5382d3cca41361ebfc583ea4359d4242928e10ce","error":null,"form":1,"outputs":{},"parameters":{},"response":null,"rows":[],"run":"r1","status":"Succeeded","trigger":{"name":null,"outputs":null}}"#,
     "\n# run r1 steps 0 peak 0\n"
@@ -72,6 +80,12 @@ fn a_run_prints_its_record(rt: HostRuntime) -> Result<(), Fail> {
                 status: 0,
                 text: EMPTY_RECORD,
             },
+            Row {
+                definition: TWO,
+                inputs: INPUTS,
+                status: 0,
+                text: TWO_RECORD,
+            },
         ],
     )
 }
@@ -110,6 +124,46 @@ fn a_definition_is_refused_for_its_cause(rt: HostRuntime) -> Result<(), Fail> {
                 inputs: INPUTS,
                 status: 1,
                 text: "definition NotWhole \"/actions/A/inputs\"\n",
+            },
+        ],
+    )
+}
+
+// A circle, a name that isn't there, the action itself, and lists of other statuses.
+#[test]
+fn a_run_after_outside_the_form_is_refused(rt: HostRuntime) -> Result<(), Fail> {
+    check_rows(
+        &rt,
+        &[
+            Row {
+                definition: r#"{"actions":{"A":{"type":"Compose","inputs":1,"runAfter":{"B":["Succeeded"]}},"B":{"type":"Compose","inputs":1,"runAfter":{"A":["Succeeded"]}}}}"#,
+                inputs: INPUTS,
+                status: 1,
+                text: "definition NotYet\n",
+            },
+            Row {
+                definition: r#"{"actions":{"A":{"type":"Compose","inputs":1,"runAfter":{"C":["Succeeded"]}},"B":{"type":"Compose","inputs":1}}}"#,
+                inputs: INPUTS,
+                status: 1,
+                text: "definition NotYet\n",
+            },
+            Row {
+                definition: r#"{"actions":{"A":{"type":"Compose","inputs":1,"runAfter":{"A":["Succeeded"]}}}}"#,
+                inputs: INPUTS,
+                status: 1,
+                text: "definition NotYet\n",
+            },
+            Row {
+                definition: r#"{"actions":{"A":{"type":"Compose","inputs":1,"runAfter":{"B":["Failed"]}},"B":{"type":"Compose","inputs":1}}}"#,
+                inputs: INPUTS,
+                status: 1,
+                text: "definition NotYet\n",
+            },
+            Row {
+                definition: r#"{"actions":{"A":{"type":"Compose","inputs":1,"runAfter":{"B":["Succeeded","Failed"]}},"B":{"type":"Compose","inputs":1}}}"#,
+                inputs: INPUTS,
+                status: 1,
+                text: "definition NotYet\n",
             },
         ],
     )

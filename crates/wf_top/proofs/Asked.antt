@@ -1,18 +1,17 @@
 -- A command asks for no file but those that its words name.
-use Rattle.std.proofs.Common.{◌≡◌, ◌<◌, ℕ, zero, suc, Bool, true, false, cond, List, [], ◌∷◌, length, Option, None, Some, Result, Ok, Err, inl, inr, refl, subst, sym, arith}
+use Rattle.std.proofs.Common.{◌≡◌, ◌<◌, ℕ, List, [], length, Option, None, Some, Result, Ok, Err, inl, inr, refl, subst, sym, arith}
 use Rattle.std.specs.Prelude.{Contains}
 use Rattle.std.specs.Option.{option_map}
 use Rattle.std.proofs.lemmas.Grind.{common_steps}
 use Rattle.std.proofs.lemmas.List.Elements.{Contains-get_or}
 use Rattle.wf_outside.specs.Outside.{Held}
 use Rattle.wf_top.specs.Plan.{Plan, Says, Reads, ComesTo, AsksAmong}
-use Rattle.wf_top.specs.Definition.{DefinitionTree, InputsTree}
+use Rattle.wf_meaning.specs.Definition.{DefinitionTree, InputsTree}
 use Rattle.wf_top.specs.Plain.{definition_of, inputs_of}
 use Rattle.wf_top.specs.Commands.{plan, plan_of, command_of, word, form_of, run_definition, run_inputs}
 use Rattle.wf_top.specs.Served.{FailedAt}
 use Rattle.wf_top.specs.declared.words.Command.{Command}
 use Rattle.wf_top.specs.declared.words.Command.TheVariants.{Run}
-use Rattle.wf_top.specs.declared.said.Verdict.{Verdict}
 use Rattle.wf_top.specs.declared.form.FormFault.{FormFault}
 
 asked : (held : Held) (words : List (List ℕ)) (plan : Plan) (name : List ℕ) → AsksAmong words plan → ComesTo held plan name → Contains words name

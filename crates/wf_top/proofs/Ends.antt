@@ -1,18 +1,18 @@
 -- What the endings of `run` say of its files.
-use Rattle.std.proofs.Common.{◌≡◌, ◌⊎◌, ℕ, List, Option, None, Some, Result, Ok, Err, inl, inr, refl, ap, sym, ◌∙◌, arith}
+use Rattle.std.proofs.Common.{◌≡◌, ℕ, List, Option, None, Some, Result, Ok, Err, inl, inr, refl, ap, ◌∙◌, arith}
 use Rattle.std.specs.Prelude.{codes}
 use Rattle.std.specs.Option.{IfSome, option_map, option_and_then}
 use Rattle.std.specs.Io.KnownBytes.{Appends}
-use Rattle.wf_outside.specs.Outside.{Held, IsCalm, Rose}
-use Rattle.wf_top.specs.Definition.{DefinitionTree, InputsTree}
+use Rattle.wf_outside.specs.Outside.{Held, IsCalm}
+use Rattle.wf_meaning.specs.Definition.{DefinitionTree, InputsTree}
 use Rattle.wf_top.specs.Plain.{definition_of, inputs_of}
 use Rattle.wf_top.specs.Plan.{Plan, Reads, EndsWith, MayGive, ending, within}
 use Rattle.wf_top.specs.Commands.{command_of, fault_line, form_of, plan, plan_of, run, run_definition, run_inputs, run_text, word}
 use Rattle.wf_top.specs.Ran.{Gives, Holds, IsWhole, PassesAll, Ran, RefusedDefinition, RefusedInputs}
-use Rattle.wf_top.specs.Served.{Comes, Ending, IsSaid, Misused, Serves, Speaks, Spent, Unread, Writes, number, out_of_memory, said_of, say, status_of, text_of}
+use Rattle.wf_top.specs.Served.{Comes, Ending, IsSaid, Misused, Serves, Speaks, Spent, Unread, Writes, number, said_of, say, status_of, text_of}
 use Rattle.wf_top.specs.declared.form.FormFault.{FormFault}
 use Rattle.wf_top.specs.declared.said.Verdict.{Verdict}
-use Rattle.wf_top.specs.declared.said.Verdict.TheVariants.{Done, Definition, Inputs}
+use Rattle.wf_top.specs.declared.said.Verdict.TheVariants.{Done}
 use Rattle.wf_top.specs.declared.words.Command.{Command}
 use Rattle.wf_top.specs.declared.words.Command.TheVariants.{Run}
 use Rattle.wf_top.specs.declared.TheConstants.{DEFINITION_LIMIT, INPUTS_LIMIT}

@@ -1,8 +1,8 @@
 -- A read, and then the rest of the plan.
-use Rattle.std.proofs.Common.{◌≡◌, ℕ, List, Option, Result, Ok, Err, inl, inr, subst, sym, ◌∙◌}
+use Rattle.std.proofs.Common.{◌≡◌, ℕ, List, Option, Result, Ok, Err, inl, inr, subst}
 use Rattle.std.specs.Result.{IfOk, IfErr}
 use Rattle.wf_outside.specs.Outside.{Held}
-use Rattle.wf_top.specs.Plan.{Plan, Says, Reads, MayGive, EndsWith}
+use Rattle.wf_top.specs.Plan.{Plan, Says, Reads, MayGive}
 use Rattle.wf_top.specs.Served.{Ending, Misused, Speaks, Unread, Spent, Reaches, ending_of}
 use Rattle.wf_top.specs.declared.load.Stop.{Stop}
 use Rattle.wf_top.specs.declared.load.Stop.TheVariants.{CannotRead, Memory}

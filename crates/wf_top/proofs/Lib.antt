@@ -3,4 +3,7 @@ pub mod Endings
 pub mod Following
 pub mod Written
 pub mod Literals
+pub mod Places
+pub mod Succeeding
 pub mod Ends
+pub mod Marks

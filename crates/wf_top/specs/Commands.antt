@@ -6,10 +6,10 @@ use Rattle.wf_val.specs.ValueTree.{ValueTree, text}
 use Rattle.wf_json.specs.Json.{json}
 use Rattle.wf_json.specs.Read.{read_value}
 use Rattle.wf_json.specs.declared.fault.JsonFault.{JsonFault}
-use Rattle.wf_top.specs.Definition.{DefinitionTree, InputsTree}
+use Rattle.wf_meaning.specs.Definition.{DefinitionTree, InputsTree}
 use Rattle.wf_top.specs.Plain.{definition_of, inputs_of}
 use Rattle.wf_top.specs.Record.{record_line, summary_line}
-use Rattle.wf_top.specs.Meaning.{meaning}
+use Rattle.wf_meaning.specs.Meaning.{meaning}
 use Rattle.wf_top.specs.Plan.{Plan, Says, Reads}
 use Rattle.wf_top.specs.declared.words.Command.{Command}
 use Rattle.wf_top.specs.declared.words.Command.TheVariants.{Run}

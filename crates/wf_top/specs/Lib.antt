@@ -1,9 +1,9 @@
 pub mod Commands
-pub mod Definition
-pub mod Meaning
+pub mod Marks
 pub mod Plain
 pub mod Plan
 pub mod Ran
 pub mod Record
 pub mod Seen
+pub mod SeenAction
 pub mod Served

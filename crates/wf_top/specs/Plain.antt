@@ -1,14 +1,16 @@
 -- Which values are definitions and inputs of the plain form, the one that this program runs so far.
 -- Members that aren't named here are ignored.
-use Rattle.std.specs.Prelude.{ℕ, ◌^◌, List, [], ◌∷◌, length, Bool, true, false, not, ◌&&◌, ◌==◌, Option, None, Some, is_none, if◌then◌else◌, nat_le, codes}
+use Rattle.std.specs.Prelude.{ℕ, suc, ◌^◌, List, [], ◌∷◌, length, Bool, true, false, not, ◌&&◌, ◌==◌, Option, None, Some, is_none, if◌then◌else◌, nat_le, bytes_eq, codes}
 use Rattle.std.specs.List.{list_all}
 use Rattle.std.specs.Option.{option_map, option_map_or, option_and_then}
 use Rattle.std.specs.Str.{chars, str_eq_ignore_ascii_case}
 use Rattle.sha2.specs.Sha256.{sha256}
-use Rattle.wf_val.specs.ValueTree.{ValueTree, null, boolean, number, text, list, object, ValueTrees, no_values, value_then, MemberTrees, no_members, member_then, Member, pairs, depth, weight}
-use Rattle.wf_val.specs.Get.{get, is_object}
+use Rattle.wf_val.specs.ValueTree.{ValueTree, null, boolean, number, text, list, object, items, ValueTrees, no_values, value_then, MemberTrees, no_members, member_then, Member, pairs, depth, weight}
+use Rattle.wf_val.specs.Get.{get, item, is_object}
 use Rattle.wf_json.specs.Json.{json}
-use Rattle.wf_top.specs.Definition.{ActionTree, DefinitionTree, InputsTree}
+use Rattle.wf_layers.specs.Definition.{Succeeded, Need}
+use Rattle.wf_meaning.specs.Rounds.{all_end}
+use Rattle.wf_meaning.specs.Definition.{ActionTree, DefinitionTree, InputsTree}
 use Rattle.wf_top.specs.declared.TheConstants.{MOST_ACTIONS, ACTION_NAME_LIMIT, RUN_NAME_LIMIT}
 
 -- A byte of a text that isn't a control character: those are U+0000 to U+001F and U+007F, one byte each in UTF-8, where
@@ -34,10 +36,10 @@ abbrev pub is_text : Option ValueTree → Bool
 is_text (Some (text s)) = true
 is_text t = false
 
--- the member is a type of this name; letter case doesn't count in ASCII
-abbrev pub is_type : List ℕ → Option ValueTree → Bool
-is_type name (Some (text s)) = str_eq_ignore_ascii_case s name
-is_type name t = false
+-- the value is this word; letter case doesn't count in ASCII
+abbrev pub is_word : List ℕ → Option ValueTree → Bool
+is_word word (Some (text s)) = str_eq_ignore_ascii_case s word
+is_word word t = false
 
 -- The bounds of a value of an expression.
 abbrev pub fits : ValueTree → Bool
@@ -70,27 +72,61 @@ abbrev pub plain_inputs : Option ValueTree → Option ValueTree
 plain_inputs None = None
 plain_inputs (Some t) = if fits t && is_literal t then Some t else None
 
--- A plain action is of type Compose, waits for no other, and tracks nothing; its inputs are judged apart.
+-- the place of a name among members, counted from 0
+abbrev pub place_in : List ℕ → List Member → Option ℕ
+place_in name [] = None
+place_in name (m ∷ ms) = if bytes_eq name m.0 then Some 0 else option_map suc (place_in name ms)
+
+abbrev pub is_one : ValueTree → Bool
+is_one (list ts) = length (items ts) == 1
+is_one t = false
+
+-- the list of statuses `["Succeeded"]`
+abbrev pub lists_success : ValueTree → Bool
+lists_success t = is_one t && is_word (codes "Succeeded") (item 0 t)
+
+-- to wait for the success of the action of this number
+abbrev pub success : ℕ → Need
+success n = record { name = n; listed = Succeeded ∷ [] }
+
+-- what an entry of `runAfter` waits for, which is one of these members
+abbrev pub need_of : List Member → Member → Option Need
+need_of all entry = if lists_success entry.1 then option_map success (place_in entry.0 all) else None
+
+-- what the entries of `runAfter` wait for, where each of them is plain
+abbrev pub needs_of : List Member → List Member → Option (List Need)
+needs_of all [] = Some []
+needs_of all (entry ∷ entries) = option_and_then (λ need. option_map (λ more. need ∷ more) (needs_of all entries)) (need_of all entry)
+
+-- what an action waits for whose `runAfter` this is
+abbrev pub after_of : List Member → Option ValueTree → Option (List Need)
+after_of all value = option_and_then (needs_of all) (members_in value)
+
+-- A plain action is of type Compose and tracks nothing; its `runAfter` and its `inputs` are judged apart.
 abbrev pub is_plain_action : Member → Bool
 is_plain_action m =
-    is_name ACTION_NAME_LIMIT m.0 && is_type (codes "Compose") (get (codes "type") m.1)
-    && is_absent_or_empty (get (codes "runAfter") m.1) && is_none (get (codes "trackedProperties") m.1)
+    is_name ACTION_NAME_LIMIT m.0 && is_word (codes "Compose") (get (codes "type") m.1)
+    && is_none (get (codes "trackedProperties") m.1)
 
--- the action that a member is
-abbrev pub action_of : Member → Option ActionTree
-action_of m =
+-- the action that a member is, among all members
+abbrev pub action_of : List Member → Member → Option ActionTree
+action_of all m =
     if is_plain_action m
-    then option_map (λ inputs. record { name = m.0; after = []; inputs = inputs }) (plain_inputs (get (codes "inputs") m.1))
+    then option_and_then (λ after. option_map (λ inputs. record { name = m.0; after = after; inputs = inputs }) (plain_inputs (get (codes "inputs") m.1))) (after_of all (get (codes "runAfter") m.1))
     else None
 
 -- the actions of these members, where each of them is plain
-abbrev pub actions_of : List Member → Option (List ActionTree)
-actions_of [] = Some []
-actions_of (m ∷ ms) = option_and_then (λ action. option_map (λ more. action ∷ more) (actions_of ms)) (action_of m)
+abbrev pub actions_of : List Member → List Member → Option (List ActionTree)
+actions_of all [] = Some []
+actions_of all (m ∷ ms) = option_and_then (λ action. option_map (λ more. action ∷ more) (actions_of all ms)) (action_of all m)
+
+-- actions that all end, since no `runAfter` goes in a circle
+abbrev pub ending_actions : List ActionTree → Option (List ActionTree)
+ending_actions actions = if all_end actions then Some actions else None
 
 -- so many members are actions of a plain definition
 abbrev pub few_actions : List Member → Option (List ActionTree)
-few_actions ms = if nat_le (length ms) MOST_ACTIONS then actions_of ms else None
+few_actions ms = if nat_le (length ms) MOST_ACTIONS then option_and_then ending_actions (actions_of ms ms) else None
 
 -- the actions of a definition whose member `actions` this is
 abbrev pub plain_actions : Option ValueTree → Option (List ActionTree)

@@ -1,9 +1,9 @@
 -- How `run` ends, in terms of what its files hold.
-use Rattle.std.specs.Prelude.{◌≡◌, ◌⊎◌, ℕ, List, Option, Some, Result, Ok, Err, IsSomeAnd, codes}
+use Rattle.std.specs.Prelude.{◌≡◌, ◌⊎◌, ℕ, List, Option, Some, Result, Ok, Err, codes}
 use Rattle.std.specs.Io.KnownBytes.{Appends}
 use Rattle.wf_val.specs.ValueTree.{ValueTree}
 use Rattle.wf_outside.specs.Outside.{Held}
-use Rattle.wf_top.specs.Definition.{DefinitionTree, InputsTree}
+use Rattle.wf_meaning.specs.Definition.{DefinitionTree, InputsTree}
 use Rattle.wf_top.specs.Plain.{definition_of, inputs_of}
 use Rattle.wf_top.specs.Plan.{MayGive, within}
 use Rattle.wf_top.specs.Commands.{command_of, fault_line, form_of, run_text, word}

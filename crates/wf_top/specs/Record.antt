@@ -1,37 +1,11 @@
--- What is recorded of a run: its rows, its record, and the line and the summary line that are printed of it.
-use Rattle.std.specs.Prelude.{ℕ, ◌+◌, ℤ, pos, List, [], ◌∷◌, ◌++◌, Bool, true, false, not, map, sum_by, if◌then◌else◌, codes, decimal}
+-- What is printed of a run's record: its line, and the summary line.
+use Rattle.std.specs.Prelude.{ℕ, pos, List, [], ◌∷◌, ◌++◌, Bool, true, false, not, map, sum_by, if◌then◌else◌, codes, decimal}
 use Rattle.std.specs.List.{list_any}
 use Rattle.hex.specs.Hex.{encode_lower}
-use Rattle.wf_val.specs.ValueTree.{ValueTree, null, number, text, list, object, trees, Member, members}
-use Rattle.wf_val.specs.declared.address.Address.{Address}
+use Rattle.wf_val.specs.ValueTree.{ValueTree, number, text, list, object, trees, members}
 use Rattle.wf_json.specs.Json.{json}
-use Rattle.wf_top.specs.declared.record.Status.{Status}
-use Rattle.wf_top.specs.declared.record.Status.TheVariants.{Succeeded, Failed, Skipped, TimedOut, Cancelled}
-
--- What is known of an action that has ended, at an address: its status and code, what it took in and gave out, the
--- fault if there was one, its tracked properties and the number of its attempts.
-pub record RowTree : Type 0 where
-  pub address : Address
-  pub status : Status
-  pub code : List ℕ
-  pub inputs : ValueTree
-  pub outputs : ValueTree
-  pub error : ValueTree
-  pub tracked : ValueTree
-  pub attempts : ℕ
-
--- What a run leaves: its name, its definition's digest, what it was started with, how it ended, and its rows in the
--- order of their addresses.
-pub record RecordTree : Type 0 where
-  pub run : List ℕ
-  pub digest : List ℕ
-  pub trigger : ValueTree
-  pub parameters : ValueTree
-  pub status : Status
-  pub error : ValueTree
-  pub response : ValueTree
-  pub outputs : ValueTree
-  pub rows : List RowTree
+use Rattle.wf_layers.specs.Definition.{Status, Succeeded, Failed, Skipped, TimedOut, Cancelled}
+use Rattle.wf_meaning.specs.Record.{RowTree, RecordTree}
 
 abbrev pub status_name : Status → List ℕ
 status_name Succeeded = codes "Succeeded"
@@ -47,14 +21,14 @@ index_value n = number (pos n)
 abbrev pub row_value : RowTree → ValueTree
 row_value r = object (members (
     (codes "at", list (trees (map index_value r.address.at)))
-    ∷ (codes "attempts", number (pos r.attempts))
-    ∷ (codes "code", text r.code)
-    ∷ (codes "error", r.error)
-    ∷ (codes "inputs", r.inputs)
+    ∷ (codes "attempts", number (pos r.row.attempts))
+    ∷ (codes "code", text r.row.code)
+    ∷ (codes "error", r.row.error)
+    ∷ (codes "inputs", r.row.inputs)
     ∷ (codes "name", text r.address.name)
-    ∷ (codes "outputs", r.outputs)
-    ∷ (codes "status", text (status_name r.status))
-    ∷ (codes "tracked", r.tracked)
+    ∷ (codes "outputs", r.row.outputs)
+    ∷ (codes "status", text (status_name r.row.status))
+    ∷ (codes "tracked", r.row.tracked)
     ∷ []))
 
 -- A record as a value. `form` is the number of this form of records, and the digest is in lower-case hexadecimal digits.
@@ -82,11 +56,11 @@ is_skipped s = false
 
 -- An action that runs is started and ended; one that is skipped takes one step.
 abbrev pub steps_of : List RowTree → ℕ
-steps_of rows = sum_by (λ row. if is_skipped row.status then 1 else 2) rows
+steps_of rows = sum_by (λ row. if is_skipped row.row.status then 1 else 2) rows
 
 -- Actions run one after the other, so at most one is running at a time.
 abbrev pub peak_of : List RowTree → ℕ
-peak_of rows = if list_any (λ row. not (is_skipped row.status)) rows then 1 else 0
+peak_of rows = if list_any (λ row. not (is_skipped row.row.status)) rows then 1 else 0
 
 -- the line below the record's, on how the run went
 unfoldable pub summary_line : RecordTree → List ℕ

@@ -6,8 +6,9 @@ ghost use Rattle.wf_top.specs.Plain.{definition_of, inputs_of};
 ghost use Rattle.wf_top.specs.Seen.{definition_tree, inputs_tree};
 ghost use Rattle.wf_top.specs.declared.form.FormFault.TheVariants.{Memory};
 
-use crate::definition::{Definition, read_definition};
+use crate::definition::Definition;
 use crate::inputs::{Inputs, read_inputs};
+use crate::plain::read_definition;
 use std::alloc::{AllocError, AllocFailed, Global};
 use wf_json::JsonFault;
 use wf_val::{Text, Val};

@@ -6,7 +6,7 @@ ghost use Rattle.wf_top.specs.Plain.{hands_in_no_more, inputs_of, is_text, run_n
 ghost use Rattle.wf_top.specs.Seen.{inputs_tree};
 
 use crate::RUN_NAME_LIMIT;
-use crate::definition::is_name;
+use crate::plain::is_name;
 use std::alloc::{AllocError, Global};
 use wf_val::{Text, Val};
 

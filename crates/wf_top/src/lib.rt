@@ -8,10 +8,14 @@
 //! no stream itself; that is left to the objects which it is lent.
 #![tactic(auto)]
 
+mod action;
+mod after;
 mod definition;
+mod ending;
 mod form;
 mod inputs;
 mod load;
+mod plain;
 mod put;
 mod record;
 mod run;
@@ -28,8 +32,8 @@ const DEFINITION_LIMIT: u64 = 4_194_304;
 /// The greatest length of an inputs file, in bytes: 64 MiB.
 const INPUTS_LIMIT: u64 = 67_108_864;
 
-/// How many actions a definition may have so far.
-const MOST_ACTIONS: usize = 1;
+/// How many actions a definition may have.
+const MOST_ACTIONS: usize = 500;
 
 /// The greatest length of an action's name, in characters.
 const ACTION_NAME_LIMIT: usize = 80;

@@ -4,7 +4,7 @@ ghost use Rattle.wf_val.specs.Get.{name_of};
 ghost use Rattle.wf_val.specs.NameOrder.{put_named};
 ghost use Rattle.wf_val.specs.Seen.{tree};
 ghost use Rattle.wf_top.specs.Record.{record_value, row_value, status_name};
-ghost use Rattle.wf_top.specs.Seen.{record_tree, row_tree};
+ghost use Rattle.wf_top.specs.Seen.{record_tree, row_tree, status_tree};
 
 use std::alloc::{AllocError, Global};
 use wf_val::{Fields, Text, Val, Vals};
@@ -22,7 +22,7 @@ pub enum Status {
 impl Status {
     /// The word that stands for it in a record.
     pub fn name(self) -> &'static str
-        ensures { result.now ≡ status_name self }
+        ensures { result.now ≡ status_name (status_tree self) }
     {
         match self {
             Status::Succeeded => "Succeeded",

@@ -2,11 +2,14 @@
 ghost use Rattle.std.specs.Prelude.{◌≡◌, ◌++◌, map, IfOk};
 ghost use Rattle.wf_val.specs.Seen.{tree};
 ghost use Rattle.wf_top.specs.Commands.{run_text};
-ghost use Rattle.wf_top.specs.Meaning.{composed, graph_rows, graph_status, is_failure, meaning, no_trigger};
+ghost use Rattle.wf_meaning.specs.Laws.{composed_at};
+ghost use Rattle.wf_meaning.specs.Meaning.{meaning, no_trigger};
 ghost use Rattle.wf_top.specs.Record.{is_skipped, peak_of, record_line, steps_of, summary_line};
-ghost use Rattle.wf_top.specs.Seen.{action_tree, definition_tree, inputs_tree, record_tree, row_tree};
+ghost use Rattle.wf_top.specs.Seen.{definition_tree, inputs_tree, record_tree, row_tree, status_tree};
+ghost use Rattle.wf_top.specs.SeenAction.{action_tree};
 
-use crate::definition::{Action, Definition};
+use crate::action::Action;
+use crate::definition::Definition;
 use crate::inputs::Inputs;
 use crate::record::{Record, Row, Status, with};
 use std::alloc::{AllocError, Global};
@@ -14,7 +17,7 @@ use wf_val::{Fields, Text, Val};
 
 // The row of a Compose action, which takes its inputs in and gives them out.
 fn composed(alloc: Global, action: Action) -> Result<Row, AllocError>
-    ensures { IfOk result (λ row. row_tree row ≡ composed (action_tree action)) }
+    ensures { IfOk result (λ row. row_tree row ≡ composed_at (action_tree action)) }
 {
     Ok(Row {
         name: action.name,
@@ -29,33 +32,13 @@ fn composed(alloc: Global, action: Action) -> Result<Row, AllocError>
 }
 
 fn rows_of(alloc: Global, actions: Vec<Action>) -> Result<Vec<Row>, AllocError>
-    ensures { IfOk result (λ rows. map row_tree rows.items ≡ graph_rows (map action_tree actions.items)) }
+    ensures { IfOk result (λ rows. map row_tree rows.items ≡ map composed_at (map action_tree actions.items)) }
 {
     let mut rows = Vec::new(alloc);
     for action in actions {
         rows.push(composed(alloc, action)?)?;
     }
     Ok(rows)
-}
-
-fn is_failure(status: Status) -> bool
-    ensures { result ≡ is_failure status }
-{
-    match status {
-        Status::Succeeded | Status::Skipped => false,
-        Status::Failed | Status::TimedOut | Status::Cancelled => true,
-    }
-}
-
-fn graph_status(rows: &[Row]) -> Status
-    ensures { result ≡ graph_status (map row_tree rows.now) }
-{
-    for row in rows {
-        if is_failure(row.status) {
-            return Status::Failed;
-        }
-    }
-    Status::Succeeded
 }
 
 // The trigger of a run that none started.
@@ -67,27 +50,26 @@ fn no_trigger(alloc: Global) -> Result<Val, AllocError>
     Ok(Val::Obj(fields))
 }
 
-// The record that a run of the definition leaves.
-#[tactic(auto, unfolding(crate::specs::Meaning::meaning))]
+// The record that a run of the definition leaves. All actions end, and each waits for the success of others, so each runs, and the
+// run succeeds.
 fn record_of(alloc: Global, definition: Definition, inputs: Inputs) -> Result<Record, AllocError>
     ensures { IfOk result (λ finished. record_tree finished ≡ meaning (definition_tree definition) (inputs_tree inputs)) }
 {
-    let rows = rows_of(alloc, definition.actions)?;
     Ok(Record {
         run: inputs.run,
         digest: definition.digest,
         trigger: no_trigger(alloc)?,
         parameters: Val::Obj(Fields::new(alloc)),
-        status: graph_status(&rows),
+        status: Status::Succeeded,
         error: Val::Null,
         response: Val::Null,
         outputs: Val::Obj(Fields::new(alloc)),
-        rows,
+        rows: rows_of(alloc, definition.actions)?,
     })
 }
 
 fn is_skipped(status: Status) -> bool
-    ensures { result ≡ is_skipped status }
+    ensures { result ≡ is_skipped (status_tree status) }
 {
     match status {
         Status::Skipped => true,

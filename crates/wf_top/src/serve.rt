@@ -3,7 +3,7 @@ ghost use Rattle.std.specs.Prelude.{◌≡◌, ◌≢◌, ◌⊎◌, ◌<◌, �
 ghost use Rattle.std.specs.Io.KnownBytes.{Appends};
 ghost use Rattle.wf_outside.specs.Outside.{IsCalm, Rose};
 ghost use Rattle.wf_top.specs.Commands.{command_of, plan, fault_line, plan_of, run, run_definition, run_text};
-ghost use Rattle.wf_top.specs.Definition.{DefinitionTree, InputsTree};
+ghost use Rattle.wf_meaning.specs.Definition.{DefinitionTree, InputsTree};
 ghost use Rattle.wf_top.specs.Ran.{IsWhole, PassesAll, Ran, RefusedDefinition, RefusedInputs};
 ghost use Rattle.wf_top.specs.Seen.{definition_tree};
 ghost use Rattle.wf_top.specs.Served.{FailedAt, Follows, IsSaid, Serves, cannot_read, say};

@@ -2,7 +2,7 @@ use Rattle.std.proofs.Common.{◌≡◌, ◌*◌, ◌+◌, drop, map}
 use Rattle.wf_val.specs.Seen.{tree, member}
 use Rattle.wf_val.specs.ValueTree.{node_count, trees, trees_count, members, members_count}
 use Rattle.wf_top.specs.Plain.{are_literal, have_literals}
-use Rattle.wf_top.proofs.definition.+is_literal.Given as goal
+use Rattle.wf_top.proofs.plain.+is_literal.Given as goal
 
 abbrev pub decreases-is_literal : goal.decreases-is_literal
 decreases-is_literal l = 2 * node_count (tree l.value.now)

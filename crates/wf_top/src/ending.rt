@@ -1,0 +1,67 @@
+// Whether all actions of a graph end, where each waits for those that its `runAfter` names.
+ghost use Rattle.std.specs.Prelude.{◌≡◌, ◌<◌, ℕ, Some, false, true, length, map, slice_get, IfNone, IfOk, IfSome};
+ghost use Rattle.std.specs.List.{list_all};
+ghost use Rattle.wf_meaning.specs.Rounds.{all_end};
+ghost use Rattle.wf_top.specs.Marks.{is_marked, is_ready};
+ghost use Rattle.wf_top.specs.SeenAction.{action_tree};
+
+use crate::action::Action;
+use std::alloc::{AllocError, Global};
+
+fn is_marked(marks: &[bool], place: usize) -> bool
+    ensures { result ≡ is_marked marks.now place }
+{
+    match marks.get(place) {
+        Some(mark) => *mark,
+        None => false,
+    }
+}
+
+// Whether each of these places is marked.
+fn all_marked(marks: &[bool], places: &[usize]) -> bool
+    ensures { result ≡ list_all (is_marked marks.now) places.now }
+{
+    for place in places {
+        if !is_marked(marks, *place) {
+            return false;
+        }
+    }
+    true
+}
+
+// Whether each action is marked that this one waits for.
+#[tactic(auto, using(crate::proofs::Marks::marked_names))]
+fn is_ready(marks: &[bool], action: &Action) -> bool
+    ensures { result ≡ is_ready marks.now (Some (action_tree action.now)) }
+{
+    all_marked(marks, &action.after)
+}
+
+// The first action that isn't marked though all that it waits for is.
+fn next_ready(actions: &[Action], marks: &[bool]) -> Option<usize>
+    requires { length marks.now ≡ length actions.now }
+    ensures within { IfSome result (λ n. n < length marks.now) }
+    ensures ready { IfSome result (λ n. is_ready marks.now (slice_get (map action_tree actions.now) n) ≡ true) }
+    ensures unmarked { IfSome result (λ n. is_marked marks.now n ≡ false) }
+    ensures stuck { IfNone result ((n : ℕ) → n < length marks.now → is_marked marks.now n ≡ false → is_ready marks.now (slice_get (map action_tree actions.now) n) ≡ false) }
+{
+    for (place, action) in actions.iter().enumerate() {
+        if !is_marked(marks, place) && is_ready(marks, action) {
+            return Some(place);
+        }
+    }
+    None
+}
+
+/// Whether all actions end: they are marked one after the other, each when all that it waits for is marked.
+pub fn all_end(alloc: Global, actions: &[Action]) -> Result<bool, AllocError>
+    ensures { IfOk result (λ all. all ≡ all_end (map action_tree actions.now)) }
+{
+    let mut marks = vec![in alloc; false; actions.len()]?;
+    let mut count = 0;
+    while let Some(place) = next_ready(actions, &marks) {
+        marks[place] = true;
+        count += 1;
+    }
+    Ok(count == actions.len())
+}

@@ -1,0 +1,206 @@
+// Which values are definitions of the plain form, the one that this program runs so far.
+ghost use Rattle.std.specs.Prelude.{◌≡◌, true, length, map, IfOk, IfSome};
+ghost use Rattle.std.specs.List.{list_all};
+ghost use Rattle.std.specs.Option.{option_map};
+ghost use Rattle.std.specs.Str.{chars};
+ghost use Rattle.sha2.specs.Sha256.{sha256};
+ghost use Rattle.wf_json.specs.Json.{json};
+ghost use Rattle.wf_val.specs.Get.{name_of};
+ghost use Rattle.wf_val.specs.NameOrder.{IsInNameOrder};
+ghost use Rattle.wf_val.specs.Seen.{tree, member};
+ghost use Rattle.wf_val.specs.ValueTree.{members, trees};
+ghost use Rattle.wf_top.specs.Plain.{are_literal, definition_of, few_actions, have_literals, is_absent_or_empty, is_bare, is_literal, is_literal_text, is_name, is_printable, is_word, members_in, plain_actions, plain_inputs};
+ghost use Rattle.wf_meaning.specs.Rounds.{all_end};
+ghost use Rattle.wf_top.specs.Seen.{definition_tree};
+ghost use Rattle.wf_top.specs.SeenAction.{action_tree};
+
+use crate::MOST_ACTIONS;
+use crate::action::{Action, actions_of};
+use crate::definition::Definition;
+use crate::ending::all_end;
+use sha2::{Digest, Sha256};
+use std::alloc::{AllocError, Global};
+use wf_val::{Fields, Text, Val, Vals};
+
+fn is_printable(byte: u8) -> bool
+    ensures { result ≡ is_printable byte }
+{
+    byte >= b' ' && byte != 0x7f
+}
+
+// How many characters a text has.
+fn char_count(text: &str) -> usize
+    ensures { result ≡ length (chars text.now) }
+{
+    text.chars().count()
+}
+
+// Whether a text has no control character. Those are bytes of their own in UTF-8.
+fn is_all_printable(text: &str) -> bool
+    ensures { result ≡ list_all is_printable text.now }
+{
+    for byte in text.as_bytes() {
+        if !is_printable(*byte) {
+            return false;
+        }
+    }
+    true
+}
+
+/// Whether a text has 1 to `most` characters and no control character (those below U+0020, and U+007F).
+pub fn is_name(text: &Text, most: usize) -> bool
+    ensures { result ≡ is_name most text.now }
+{
+    let name = text.as_str();
+    let count = char_count(name);
+    1 <= count && count <= most && is_all_printable(name)
+}
+
+/// The members of an object; an absent one has none.
+#[tactic(auto, using(wf_val::proofs::ValueTreeLemmas::listed))]
+pub fn members_in<'a>(value: Option<&'a Val>) -> Option<&'a [(Text, Val)]>
+    ensures members { option_map (λ members. map member members.now) result ≡ members_in (option_map (λ v. tree v.now) value.entry) }
+    ensures in_order { IfSome result (λ members. IsInNameOrder name_of (map member members.now)) }
+{
+    match value {
+        None => Some(&[]),
+        Some(Val::Obj(fields)) => Some(fields.as_slice()),
+        Some(_) => None,
+    }
+}
+
+fn is_absent_or_empty(value: Option<&Val>) -> bool
+    ensures { result ≡ is_absent_or_empty (option_map (λ v. tree v.now) value.entry) }
+{
+    match members_in(value) {
+        Some(members) => members.is_empty(),
+        None => false,
+    }
+}
+
+/// Whether a value is this word; letter case doesn't count in ASCII.
+pub fn is_word(value: Option<&Val>, word: &str) -> bool
+    ensures { result ≡ is_word word.now (option_map (λ v. tree v.now) value.entry) }
+{
+    match value {
+        Some(Val::Text(text)) => text.as_str().eq_ignore_ascii_case(word),
+        _ => false,
+    }
+}
+
+// Whether a text stands for itself, having no `@`.
+fn is_literal_text(text: &str) -> bool
+    ensures { result ≡ is_literal_text text.now }
+{
+    for byte in text.as_bytes() {
+        if *byte == b'@' {
+            return false;
+        }
+    }
+    true
+}
+
+// Whether each text in a value stands for itself.
+#[cycle(is_literal)]
+fn is_literal(value: &Val) -> bool
+    ensures { result ≡ is_literal (tree value.now) }
+{
+    match value {
+        Val::Null | Val::Bool(_) | Val::Int(_) => true,
+        Val::Text(text) => is_literal_text(text.as_str()),
+        Val::List(items) => are_literal(items),
+        Val::Obj(fields) => have_literals(fields),
+    }
+}
+
+#[cycle(is_literal)]
+fn are_literal(items: &Vals) -> bool
+    ensures { result ≡ are_literal (trees items.now) }
+{
+    for item in items.as_slice() {
+        if !is_literal(item) {
+            return false;
+        }
+    }
+    true
+}
+
+#[cycle(is_literal)]
+fn have_literals(fields: &Fields) -> bool
+    ensures { result ≡ have_literals (members fields.now) }
+{
+    for (_, value) in fields.as_slice() {
+        if !is_literal(value) {
+            return false;
+        }
+    }
+    true
+}
+
+/// The inputs of an action, where they fit and each text in them stands for itself.
+pub fn plain_inputs(alloc: Global, value: Option<&Val>) -> Result<Option<Val>, AllocError>
+    ensures { IfOk result (λ inputs. option_map tree inputs ≡ plain_inputs (option_map (λ v. tree v.now) value.entry)) }
+{
+    match value {
+        Some(inputs) if inputs.fits() && is_literal(inputs) => Ok(Some(inputs.copy(alloc)?)),
+        _ => Ok(None),
+    }
+}
+
+// The actions of these members, where there are few enough, and all of them end.
+fn few_actions(alloc: Global, members: &[(Text, Val)]) -> Result<Option<Vec<Action>>, AllocError>
+    requires { IsInNameOrder name_of (map member members.now) }
+    ensures found { IfOk result (λ found. option_map (λ actions. map action_tree actions.items) found ≡ few_actions (map member members.now)) }
+    ensures ends { IfOk result (λ found. IfSome found (λ actions. all_end (map action_tree actions.items) ≡ true)) }
+{
+    if MOST_ACTIONS < members.len() {
+        return Ok(None);
+    }
+    match actions_of(alloc, members)? {
+        Some(actions) if all_end(alloc, &actions)? => Ok(Some(actions)),
+        _ => Ok(None),
+    }
+}
+
+// The actions of a definition whose member `actions` this is.
+fn plain_actions(alloc: Global, value: Option<&Val>) -> Result<Option<Vec<Action>>, AllocError>
+    ensures found { IfOk result (λ found. option_map (λ actions. map action_tree actions.items) found ≡ plain_actions (option_map (λ v. tree v.now) value.entry)) }
+    ensures ends { IfOk result (λ found. IfSome found (λ actions. all_end (map action_tree actions.items) ≡ true)) }
+{
+    match members_in(value) {
+        Some(members) => few_actions(alloc, members),
+        None => Ok(None),
+    }
+}
+
+// Whether a value is an object that isn't wrapped and has no parameters, triggers and outputs.
+fn is_bare(value: &Val) -> bool
+    ensures { result ≡ is_bare (tree value.now) }
+{
+    match value {
+        Val::Obj(_) => {
+            value.member("definition").is_none()
+                && is_absent_or_empty(value.member("parameters"))
+                && is_absent_or_empty(value.member("triggers"))
+                && is_absent_or_empty(value.member("outputs"))
+        }
+        _ => false,
+    }
+}
+
+/// The definition that a value is, or `None` where it isn't of the plain form.
+#[tactic(auto, unfolding(crate::specs::Plain::definition_of))]
+pub fn read_definition(alloc: Global, value: &Val) -> Result<Option<Definition>, AllocError>
+    ensures { IfOk result (λ definition. option_map definition_tree definition ≡ definition_of (tree value.now)) }
+{
+    if !is_bare(value) {
+        return Ok(None);
+    }
+    match plain_actions(alloc, value.member("actions"))? {
+        Some(actions) => Ok(Some(Definition {
+            digest: Sha256::digest(wf_json::write(alloc, value)?.as_slice()),
+            actions,
+        })),
+        None => Ok(None),
+    }
+}
