@@ -1,4 +1,6 @@
 pub mod Graphs
 pub mod Waiting
+pub mod Marks
+pub mod Exact
 pub mod Instance
 pub mod Rows

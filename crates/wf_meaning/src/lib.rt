@@ -1,8 +1,20 @@
-//! What a definition means.
+//! What a workflow definition means: the record that a run of it leaves.
+//!
+//! A definition is left here once its form is known: a list of actions, each with its name, the entries of its `runAfter` and its
+//! inputs (`specs/Definition`). Its meaning is an instance of the layered meaning of `wf_layers`: `specs/Flat` says which graph and
+//! which source of rows it is, `specs/Meaning` reads the record off the rows, in the order of their addresses, and `specs/Status` says
+//! how a graph ends by the rows of its actions. When the actions end is said in rounds (`specs/Rounds`), which give the depths of the
+//! layers, and say at once that `runAfter` names only actions that are there and goes in no circle.
+//!
+//! So far each action is a Compose that stands in no other. Further kinds of actions are further rows of the source and further kinds
+//! of the graph; what is said of a record stays.
+//!
+//! It has no code: each public function has an empty body, and its contract is a law. It judges no form of a definition, reads no
+//! JSON and prints nothing.
 #![tactic(auto)]
 
-ghost use Rattle.std.specs.Prelude.{◌≡◌, true, List, map};
-ghost use Rattle.wf_layers.specs.Definition.{Succeeded};
+ghost use Rattle.std.specs.Prelude.{◌≡◌, ℕ, true, List, map};
+ghost use Rattle.wf_layers.specs.Definition.{Closed, IsBefore, IsDepth, Succeeded};
 ghost use Rattle.wf_layers.specs.Laws.{IsInstance};
 ghost use Rattle.wf_meaning.specs.Definition.{ActionTree};
 ghost use Rattle.wf_meaning.specs.Flat.{graph_of, source};
@@ -15,6 +27,17 @@ ghost use Rattle.wf_meaning.specs.Status.{graph_status};
 /// its actions end.
 pub fn a_graph_that_ends_is_an_instance()
     ensures { (actions : List ActionTree) → all_end actions ≡ true → IsInstance (graph_of actions) (source actions) (depth_of actions) }
+{}
+
+/// Where all actions end, no action waits for itself, at however many removes.
+pub fn no_action_waits_for_itself()
+    ensures { (actions : List ActionTree) → all_end actions ≡ true → (n : ℕ) → IsBefore (graph_of actions) n n → ⊥ }
+{}
+
+/// And all end wherever `runAfter` names only actions that are there, and each action has a depth greater than those of all that it
+/// waits for.
+pub fn all_end_where_there_are_depths()
+    ensures { (actions : List ActionTree) (depth : ℕ → ℕ) → Closed (graph_of actions) (graph_of actions) → IsDepth (graph_of actions) depth → all_end actions ≡ true }
 {}
 
 /// Where each action waits for others to Succeed, all run: each has its Compose row.

@@ -6,4 +6,4 @@ pub mod Literals
 pub mod Places
 pub mod Succeeding
 pub mod Ends
-pub mod Marks
+pub mod MarkedNames

@@ -1,5 +1,4 @@
 pub mod Commands
-pub mod Marks
 pub mod Plain
 pub mod Plan
 pub mod Ran

@@ -2,7 +2,7 @@
 ghost use Rattle.std.specs.Prelude.{◌≡◌, ◌<◌, ℕ, Some, false, true, length, map, slice_get, IfNone, IfOk, IfSome};
 ghost use Rattle.std.specs.List.{list_all};
 ghost use Rattle.wf_meaning.specs.Rounds.{all_end};
-ghost use Rattle.wf_top.specs.Marks.{is_marked, is_ready};
+ghost use Rattle.wf_meaning.specs.Marks.{is_marked, is_ready};
 ghost use Rattle.wf_top.specs.SeenAction.{action_tree};
 
 use crate::action::Action;
@@ -30,7 +30,7 @@ fn all_marked(marks: &[bool], places: &[usize]) -> bool
 }
 
 // Whether each action is marked that this one waits for.
-#[tactic(auto, using(crate::proofs::Marks::marked_names))]
+#[tactic(auto, using(crate::proofs::MarkedNames::marked_names))]
 fn is_ready(marks: &[bool], action: &Action) -> bool
     ensures { result ≡ is_ready marks.now (Some (action_tree action.now)) }
 {

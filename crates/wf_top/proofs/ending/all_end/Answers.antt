@@ -1,7 +1,7 @@
 use Rattle.std.proofs.Common.{◌≡◌, true, false, List, Bool, length, map, replicate, sym, ◌∙◌, arith, length-set}
 use Rattle.std.proofs.lemmas.List.{length-map}
 use Rattle.wf_top.specs.SeenAction.{action_tree}
-use Rattle.wf_top.proofs.Marks.{marked_less, marked_more, first_size, first_count, first_ended, one_more, marked_all}
+use Rattle.wf_meaning.proofs.Marks.{marked_less, marked_more, first_size, first_count, first_ended, one_more, marked_all}
 use Rattle.wf_top.proofs.ending.all_end.Goals as goal
 
 pub loop-place-init : goal.loop-place-init

@@ -1,6 +1,6 @@
 use Rattle.std.proofs.Common.{◌≡◌, ◌-◌, length, map}
 use Rattle.wf_top.specs.SeenAction.{action_tree}
-use Rattle.wf_top.proofs.Marks.{marked, HaveEnded}
+use Rattle.wf_meaning.proofs.Marks.{marked, HaveEnded}
 use Rattle.wf_top.proofs.ending.all_end.Given as goal
 
 abbrev pub decreases-loop-place : goal.decreases-loop-place

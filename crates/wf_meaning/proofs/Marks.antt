@@ -1,5 +1,5 @@
 -- Marks of the actions that have ended.
-use Rattle.std.proofs.Common.{◌≡◌, ℕ, zero, suc, ◌+◌, ◌<◌, ◌≤◌, Bool, true, false, not, ◌&&◌, ◌||◌, List, [], ◌∷◌, length, map, set, get_or, Option, Some, None, is_some, slice_get, ◌⊎◌, inl, inr, ⊎_elim, refl, sym, ap, ◌∙◌, subst, arith, eqb-true, ltb, eqb, replicate, true≢false}
+use Rattle.std.proofs.Common.{◌≡◌, ℕ, zero, suc, ◌+◌, ◌<◌, ◌≤◌, Bool, true, false, not, ◌&&◌, ◌||◌, List, [], ◌∷◌, length, set, Option, Some, None, is_some, slice_get, ◌⊎◌, inl, inr, ⊎_elim, refl, sym, ap, ◌∙◌, subst, arith, eqb-true, ltb, eqb, replicate, true≢false}
 use Rattle.std.specs.List.{list_all, list_any}
 use Rattle.std.proofs.lemmas.Bool.{eqb-false, ltb-true, ltb-false}
 use Rattle.wf_layers.specs.Definition.{Need}
@@ -7,18 +7,7 @@ use Rattle.wf_meaning.specs.Definition.{ActionTree}
 use Rattle.wf_meaning.specs.Rounds.{waits_for, is_waiting, places, all_end}
 use Rattle.wf_meaning.proofs.Waiting.{at_place as test_at, ended_stays}
 use Rattle.wf_layers.proofs.Basics.{two, and_in}
-use Rattle.wf_top.specs.Plain.{success}
-use Rattle.wf_top.specs.Marks.{is_marked, is_ready}
-
--- the marks of numbers, and of what waits for the success of these numbers
-pub marked_names : (marks : List Bool) (ns : List ℕ) → list_all (λ (need : Need). is_marked marks need.name) (map success ns) ≡ list_all (is_marked marks) ns
-marked_names marks [] = refl
-marked_names marks (n ∷ ns) = ap (λ b. is_marked marks n && b) (marked_names marks ns)
-
-pub at_place : {X Y : Type 0} (f : X → Y) (xs : List X) (n : ℕ) (d : X) → n < length xs → slice_get (map f xs) n ≡ Some (f (get_or xs n d))
-at_place f [] n d lt = absurd (omega arith)
-at_place f (x ∷ xs) zero d lt = refl
-at_place f (x ∷ xs) (suc n) d lt = at_place f xs n d (omega arith)
+use Rattle.wf_meaning.specs.Marks.{is_marked, is_ready}
 
 -- how many are marked
 abbrev pub marked : List Bool → ℕ
@@ -54,19 +43,24 @@ marked_before (b ∷ bs) zero (suc m) on = inr on
 marked_before (b ∷ bs) (suc n) zero on = inr on
 marked_before (b ∷ bs) (suc n) (suc m) on = elim (marked_before bs n m on) [ inl is ↦ inl (ap (λ k. suc k) is) | inr before ↦ inr before ]
 
-all_are_marked : (bs : List Bool) (n : ℕ) → marked bs ≡ length bs → n < length bs → is_marked bs n ≡ true
+pub all_are_marked : (bs : List Bool) (n : ℕ) → marked bs ≡ length bs → n < length bs → is_marked bs n ≡ true
 all_are_marked bs n all lt = ⊎_elim (λ on. on) (λ off. absurd (omega (arith, all, marked_less bs n lt off))) (two (is_marked bs n))
 
 -- where not all are, there is one that isn't
-one_is_left : (bs : List Bool) → marked bs < length bs → (n : ℕ) × (n < length bs) × (is_marked bs n ≡ false)
+pub one_is_left : (bs : List Bool) → marked bs < length bs → (n : ℕ) × (n < length bs) × (is_marked bs n ≡ false)
 one_is_left [] less = absurd (omega (arith, less))
 one_is_left (true ∷ bs) less = let later = one_is_left bs (omega (arith, less)) in (suc later.0, omega (arith, later.1), later.2)
 one_is_left (false ∷ bs) less = (0, omega arith, refl)
 
-is_there : (actions : List ActionTree) (n : ℕ) → n < length actions → is_some (slice_get actions n) ≡ true
+pub is_there : (actions : List ActionTree) (n : ℕ) → n < length actions → is_some (slice_get actions n) ≡ true
 is_there [] n lt = absurd (omega (arith, lt))
 is_there (a ∷ more) zero lt = refl
 is_there (a ∷ more) (suc n) lt = is_there more n (omega (arith, lt))
+
+pub is_within : (actions : List ActionTree) (n : ℕ) → is_some (slice_get actions n) ≡ true → n < length actions
+is_within [] n some = absurd (true≢false (sym some))
+is_within (a ∷ more) zero some = omega arith
+is_within (a ∷ more) (suc n) some = omega (arith, is_within more n some)
 
 is_absent : (actions : List ActionTree) (n : ℕ) → length actions ≤ n → slice_get actions n ≡ None
 is_absent [] n le = refl
