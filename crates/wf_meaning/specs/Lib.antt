@@ -6,3 +6,4 @@ pub mod Flat
 pub mod Status
 pub mod Meaning
 pub mod Laws
+pub mod Worked

@@ -13,8 +13,8 @@
 //! JSON and prints nothing.
 #![tactic(auto)]
 
-ghost use Rattle.std.specs.Prelude.{◌≡◌, ℕ, true, List, map};
-ghost use Rattle.wf_layers.specs.Definition.{Closed, IsBefore, IsDepth, Succeeded};
+ghost use Rattle.std.specs.Prelude.{◌≡◌, ◌∷◌, ℕ, [], false, true, List, map};
+ghost use Rattle.wf_layers.specs.Definition.{Closed, Failed, IsBefore, IsDepth, Skipped, Succeeded};
 ghost use Rattle.wf_layers.specs.Laws.{IsInstance};
 ghost use Rattle.wf_meaning.specs.Definition.{ActionTree};
 ghost use Rattle.wf_meaning.specs.Flat.{graph_of, source};
@@ -22,6 +22,7 @@ ghost use Rattle.wf_meaning.specs.Laws.{all_wait_for_success, composed_at};
 ghost use Rattle.wf_meaning.specs.Meaning.{rows_of, table_of};
 ghost use Rattle.wf_meaning.specs.Rounds.{all_end, depth_of};
 ghost use Rattle.wf_meaning.specs.Status.{graph_status};
+ghost use Rattle.wf_meaning.specs.Worked.{astray, caught, circle, four, missed, rows_with};
 
 /// A definition all of whose actions end meets the premises of the laws of order, so its meaning doesn't depend on the order in which
 /// its actions end.
@@ -48,4 +49,17 @@ pub fn all_are_composed()
 /// And the graph Succeeded.
 pub fn the_graph_succeeds()
     ensures { (actions : List ActionTree) → all_end actions ≡ true → all_wait_for_success actions ≡ true → graph_status actions (table_of actions) ≡ Succeeded }
+{}
+
+/// Worked values: what runs and what is Skipped, what never ends, and when a graph Failed.
+pub fn worked_values()
+    ensures rows { map (λ row. row.row.status) (rows_of four) ≡ Succeeded ∷ (Succeeded ∷ (Skipped ∷ (Skipped ∷ []))) }
+    // B Succeeded, to which Skipped ones that no other names hand on.
+    ensures skipped { graph_status four (table_of four) ≡ Succeeded }
+    ensures ending { all_end four ≡ true }
+    ensures circle { all_end circle ≡ false }
+    ensures astray { all_end astray ≡ false }
+    ensures caught { graph_status caught (rows_with Failed Succeeded) ≡ Succeeded }
+    ensures missed { graph_status missed (rows_with Failed Skipped) ≡ Failed }
+    ensures fine { graph_status missed (rows_with Succeeded Succeeded) ≡ Succeeded }
 {}
