@@ -49,7 +49,7 @@ inputs_in (Some action) = action.inputs
 abbrev pub inputs_of : List ActionTree → ℕ → ValueTree
 inputs_of actions n = inputs_in (slice_get actions n)
 
--- The source of the rows: each action is a Compose. It decides nothing, tests nothing, and nothing is kept of an older run.
+-- The source of the rows: each action is a Compose. It decides nothing, tests nothing, and keeps nothing of an older run.
 abbrev pub source : List ActionTree → Source Row ValueTree (Unit {0}) Bool
 source actions = record {
   status = λ row. row.status;

@@ -20,12 +20,12 @@ abbrev pub places : ℕ → List ActionTree → List ℕ
 places n [] = []
 places n (action ∷ actions) = n ∷ places (suc n) actions
 
--- All actions end: `runAfter` names only actions that are there, and goes in no circle. In each round until then at least one
--- ends, so there are no more rounds than actions.
+-- All actions end: `runAfter` names only actions that are there, and goes in no circle. In each round until then at
+-- least one ends, so there are no more rounds than actions.
 abbrev pub all_end : List ActionTree → Bool
 all_end actions = list_all (λ n. not (is_waiting actions (length actions) n)) (places 0 actions)
 
--- The depth of an action: how many rounds it waits, looked at for so many.
+-- one more than the depth of the deepest action that an entry names, or 0 without entries
 abbrev pub greatest : (ℕ → ℕ) → List Need → ℕ
 greatest depth [] = 0
 greatest depth (need ∷ needs) = max (suc (depth need.name)) (greatest depth needs)
@@ -34,6 +34,7 @@ abbrev pub greatest_of : (ℕ → ℕ) → Option ActionTree → ℕ
 greatest_of depth None = 0
 greatest_of depth (Some action) = greatest depth action.after
 
+-- The depth of an action: how many rounds it waits, looked at for so many rounds at most.
 abbrev pub depth_within : List ActionTree → ℕ → ℕ → ℕ
 depth_within actions zero n = 0
 depth_within actions (suc rounds) n = greatest_of (depth_within actions rounds) (slice_get actions n)

@@ -1,16 +1,17 @@
 //! What a workflow definition means: the record that a run of it leaves.
 //!
-//! A definition is left here once its form is known: a list of actions, each with its name, the entries of its `runAfter` and its
-//! inputs (`specs/Definition`). Its meaning is an instance of the layered meaning of `wf_layers`: `specs/Flat` says which graph and
-//! which source of rows it is, `specs/Meaning` reads the record off the rows, in the order of their addresses, and `specs/Status` says
-//! how a graph ends by the rows of its actions. When the actions end is said in rounds (`specs/Rounds`), which give the depths of the
-//! layers, and say at once that `runAfter` names only actions that are there and goes in no circle.
+//! A definition is left here once its form is known: a list of actions, each with its name, the entries of its `runAfter`
+//! and its inputs (`specs/Definition`). Its meaning is an instance of the layered meaning of `wf_layers`: `specs/Flat` says
+//! which graph and which source of rows it is, `specs/Meaning` reads the record off the rows, in the order of their
+//! addresses, and `specs/Status` says how a graph ends by the rows of its actions. When the actions end is said in rounds
+//! (`specs/Rounds`). These give the depths of the layers, and say at once that `runAfter` names only actions that are there
+//! and goes in no circle. `specs/Worked` has worked values.
 //!
-//! So far each action is a Compose that stands in no other. Further kinds of actions are further rows of the source and further kinds
-//! of the graph; what is said of a record stays.
+//! So far each action is a Compose that stands in no other. Further kinds of actions are further rows of the source and
+//! further kinds of the graph; what is said of a record stays.
 //!
-//! It has no code: each public function has an empty body, and its contract is a law. It judges no form of a definition, reads no
-//! JSON and prints nothing.
+//! It has no code: each public function has an empty body, and its contract is a law. It judges no form of a definition,
+//! reads no JSON and prints nothing.
 #![tactic(auto)]
 
 ghost use Rattle.std.specs.Prelude.{◌≡◌, ◌∷◌, ℕ, [], false, true, List, map};
@@ -24,8 +25,8 @@ ghost use Rattle.wf_meaning.specs.Rounds.{all_end, depth_of};
 ghost use Rattle.wf_meaning.specs.Status.{graph_status};
 ghost use Rattle.wf_meaning.specs.Worked.{astray, caught, circle, four, missed, rows_with};
 
-/// A definition all of whose actions end meets the premises of the laws of order, so its meaning doesn't depend on the order in which
-/// its actions end.
+/// A definition all of whose actions end meets the premises of the laws of order, so its meaning doesn't depend on the
+/// order in which its actions end.
 pub fn a_graph_that_ends_is_an_instance()
     ensures { (actions : List ActionTree) → all_end actions ≡ true → IsInstance (graph_of actions) (source actions) (depth_of actions) }
 {}
@@ -35,8 +36,8 @@ pub fn no_action_waits_for_itself()
     ensures { (actions : List ActionTree) → all_end actions ≡ true → (n : ℕ) → IsBefore (graph_of actions) n n → ⊥ }
 {}
 
-/// And all end wherever `runAfter` names only actions that are there, and each action has a depth greater than those of all that it
-/// waits for.
+/// And all end wherever `runAfter` names only actions that are there, and each action has a depth greater than those of
+/// all that it waits for.
 pub fn all_end_where_there_are_depths()
     ensures { (actions : List ActionTree) (depth : ℕ → ℕ) → Closed (graph_of actions) (graph_of actions) → IsDepth (graph_of actions) depth → all_end actions ≡ true }
 {}
