@@ -1,6 +1,7 @@
 -- Pointers to places in a JSON text (RFC 6901), and the least of them by bytes.
-use Rattle.std.specs.Prelude.{ℕ, List, [], ◌∷◌, ◌++◌, ◌==◌, if◌then◌else◌, codes, decimal, flat_map, Option, Some, None}
+use Rattle.std.specs.Prelude.{ℕ, List, [], ◌∷◌, ◌++◌, ◌≢◌, ◌==◌, if◌then◌else◌, codes, decimal, flat_map, Option, Some, None, All, Contains}
 use Rattle.std.specs.Ordering.{match_ordering}
+use Rattle.std.specs.declared.cmp.Ordering.TheVariants.{Less}
 use Rattle.wf_val.specs.NameOrder.{bytes_cmp}
 
 -- a tilde and a slash are escaped in a name (section 3)
@@ -25,3 +26,8 @@ lesser (Some p) (Some q) = Some (match_ordering (bytes_cmp p q) p p q)
 abbrev pub least : List (List ℕ) → Option (List ℕ)
 least [] = None
 least (p ∷ ps) = lesser (Some p) (least ps)
+
+-- the pointer is one of these, and none of them is below it
+pub record IsLeast (ps : List (List ℕ)) (p : List ℕ) : Type 0 where
+  pub listed : Contains ps p
+  pub lowest : All (λ q. bytes_cmp q p ≢ Less) ps

@@ -19,6 +19,6 @@ mod tests;
 mod writing;
 
 pub use fault::JsonFault;
-pub use laws::reads_back;
+pub use laws::{least_is_least, reads_back};
 pub use reading::read;
 pub use writing::{text, write};
