@@ -22,3 +22,4 @@ pub mod Chosen
 pub mod Bound
 pub mod Ends
 pub mod Bounded
+pub mod OneEvent

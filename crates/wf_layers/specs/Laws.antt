@@ -11,7 +11,7 @@ use Rattle.wf_layers.specs.Called.{IsCalled}
 use Rattle.wf_layers.specs.Variables.{SeesFinished, SeenAreThere}
 use Rattle.wf_layers.specs.Bound.{total}
 use Rattle.wf_layers.specs.Facts.{Facts}
-use Rattle.wf_layers.specs.Machine.{State, fresh, has_ended, Event, Run, IsOver}
+use Rattle.wf_layers.specs.Machine.{State, fresh, has_ended, Event, place_of, Step, Run, IsOver}
 
 module _ {Row Begun Decision Verdict : Type 0} where
   -- A source of an environment of its own: no row is kept from an old table, and no container is closed again.
@@ -69,3 +69,8 @@ module _ {Row Begun Decision Verdict : Type 0} where
   -- A run has at most as many events as the meaning's rows give the definition, so each run ends.
   abbrev pub EventsAreBounded : Graph → Source Row Begun Decision Verdict → (ℕ → ℕ) → Type 0
   EventsAreBounded d m depth = (es : List Event) (s : State Row Begun Decision Verdict) → Run d m fresh es s → length es ≤ total m (meaning m depth d) d []
+
+  -- In a state that a run reaches, at most one event is enabled at an address.
+  abbrev pub OneEventAtAnAddress : Graph → Source Row Begun Decision Verdict → (ℕ → ℕ) → Type 0
+  OneEventAtAnAddress d m depth =
+      (es : List Event) (s : State Row Begun Decision Verdict) → Run d m fresh es s → (e e' : Event) (s1 s2 : State Row Begun Decision Verdict) → Step d m s e s1 → Step d m s e' s2 → place_of e ≡ place_of e' → e ≡ e'
