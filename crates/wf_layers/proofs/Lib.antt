@@ -23,3 +23,5 @@ pub mod Bound
 pub mod Ends
 pub mod Bounded
 pub mod OneEvent
+pub mod Positions
+pub mod Busy
