@@ -1,0 +1,77 @@
+-- The facts of each state that a run reaches.
+use Rattle.std.proofs.Common.{◌≡◌, ℕ, zero, suc, ◌+◌, ◌<◌, ◌≤◌, Bool, true, false, not, ◌&&◌, ◌||◌, cond, max, List, [], ◌∷◌, ◌++◌, Option, Some, None, ◌⊎◌, inl, inr, ⊎_elim, refl, sym, ap, ap₂, ◌∙◌, subst, arith, nat_eq, eq-eqb, eqb-true, ne_eqb, true≢false, length, length-append, nat_lt, ltb-true, ltb-false}
+use Rattle.std.proofs.lemmas.Bool.{eqb-false}
+use Rattle.std.proofs.lemmas.Option.{none-some}
+use Rattle.wf_layers.specs.Definition.{Status, Need, Names, Pace, InTurn, AtMost, Kind, Leaf, Scope, Choice, Foreach, Until, Branches, no_branch, branch, Graph, done, add, is_one, less_one, branch_at, holds, has, has_any, shows, plain, plain_any, has_own, needs_in, needs_of, needs_any, kind_in, kind_of, kind_any, IsBefore, next, more, IsDepth, ClosedIn, ClosedAny, Closed, Goes, TurnsIn, TurnsAny, Turns}
+use Rattle.wf_layers.specs.Address.{Address, address, Table, same_at, starts, is_own, is_in, is_within, is_among, owner, Lower, earlier_in, earlier_any, together, IsEarlier, SeenIn}
+use Rattle.wf_layers.specs.Source.{Source, is_listed, is_met, all_met, gate, leaf, Agrees, AgreesIn, AgreesInside, GateLocal, StartLocal, FinishLocal, CloseLocal, DecideLocal, TestLocal, SoundIn, SoundAny, Sound}
+use Rattle.wf_layers.specs.Meaning.{only, layers, turns, sides, loop, rounds, last, deepest, rank, skip, skip_all, run, run_any, layer, meaning}
+use Rattle.wf_layers.specs.Rule.{look_in, look_any, look, Obeys}
+use Rattle.wf_layers.proofs.Basics.{two, and_in, and_of, front, back, fork, apart, not_true, same_self, same_self_at, starts_self, starts_outer, index_once, when, unless, only_same, cond_same, in_within, rest_within, other_within, own_in, held_in, inner_not_own, rank_below, falls_rank, none_inside, any_within, among_here, among_there, beside_not, longer, some_turn, sides_out, sides_at, rounds_same}
+use Rattle.wf_layers.proofs.Layers.{out_layer, out_layers, off_layer, before_layers, after_layers, body, other_turn, turns_out, turns_at, gate_same, leaf_same}
+
+use Rattle.wf_layers.specs.Machine.{Running, Opening, State, fresh, In, here, there, IsOpen, top, scope, chosen, turn, round, has_ended, is_ended, all_ended, unfinished, or_else, place, one, without, opened, Event, Start, Try, End, Skip, Open, Begin, Test, Close, IsContainer, in_others, skip_others, passed_over, MayBegin, MayTest, MayClose, closing, IsThere, IsDecided, Step, Run, IsOver}
+use Rattle.wf_layers.proofs.Tables.{same_at_is, same_starts, own_is, own_self, Within, one_is, one_within, place_split, place_none, place_agrees, place_fills, place_within, own_placed, without_split, opened_split, either_or, or_true, held, later', skip_in, skip_all_in, shows_holds, any_plain, plain_has, holds_in, any_in, has_in, inner_name, inner_of, branch_none, taken_has, taken_within}
+use Rattle.wf_layers.proofs.Places.{Stands, within_of, or_right, or_none, stands, taken_sound, taken_kind, taken_needs, taken_look, taken_joined, taken_joins}
+use Rattle.wf_layers.specs.Facts.{Facts, IsBusy}
+use Rattle.wf_layers.specs.Laws.{IsInstance, FactsOfStates}
+use Rattle.wf_layers.proofs.Others.{others_among, look_others}
+use Rattle.wf_layers.proofs.Open.{open_sub, placed_in, kind_there, fact_of, obey_in, inner_rule, follows}
+use Rattle.wf_layers.proofs.Keeps.{Keeps}
+use Rattle.wf_layers.proofs.Limit.{run_limited}
+use Rattle.wf_layers.proofs.Progress.{sol, closed_is, nothing_special, kept_state}
+use Rattle.wf_layers.proofs.Busy.{Busy, run_busy}
+
+module _ {Row Begun Decision Verdict : Type 0} (d : Graph) (m : Source Row Begun Decision Verdict) (depth : ℕ → ℕ) (is : IsInstance d m depth) where
+  pub plain_of : (n : ℕ) → (m.pinned n || m.reclosed n) ≡ false
+  plain_of n = ap (λ b. b || m.reclosed n) (is.own n).0 ∙ (is.own n).1
+
+  -- in each reached state, what is running or open stands in an open graph and has no row
+  pub busy_state : (es : List Event) (s : State Row Begun Decision Verdict) → Run d m fresh es s → Busy m d is.local (meaning m depth d) (sol d m depth is) plain_of s
+  busy_state es s r =
+      run_busy m d is.local (meaning m depth d) (sol d m depth is) plain_of (closed_is m d is.local (meaning m depth d) (sol d m depth is) is.closed) (nothing_special d m depth is)
+      fresh es s (kept_state d m depth is [] fresh refl)
+      (record { there' = λ x h. absurd (⊎_elim (λ z. none-some z.0 z.1) (λ z. none-some z.0 z.1) h); no_row = λ x h. refl }) r
+
+module _ {Row Begun Decision Verdict : Type 0} (d : Graph) (m : Source Row Begun Decision Verdict) (depth : ℕ → ℕ) (is : IsInstance d m depth) where
+  -- the facts of each state that a run reaches
+  pub facts_of_states : FactsOfStates d m depth
+  facts_of_states es s r = record {
+    rows = k.placed.by;
+    running = λ x w e. let h = k.held x w e in (h.as_begun, h.so_far, h.gives f (λ y see. refl) ∙ ap (λ b. Some (m.finish x b f)) h.as_begun);
+    stands = b.there';
+    no_row = b.no_row;
+    before_row = k.behind;
+    before_running = k.run_behind;
+    before_open = λ x w e. k.open_behind x.name x.at w e;
+    whole = k.subtree;
+    opens = λ n i w kind e q. (k.facts n i w kind e q).1;
+    limit = run_limited m d is.local f (sol d m depth is) fresh es s (λ n i w most h e q. absurd (none-some w e)) r;
+    others = λ n i after bs w th e y h.
+        let g = th.graph in
+        let pl = placed_in m d is.local f (sol d m depth is) (length i) g n after (Choice bs) (open_sub m d is.local f (sol d m depth is) s.opens g i th.is_open) th.is_in in
+        let fact = fact_of m d is.local f (sol d m depth is) s.rows s.opens k.facts g i n after (Choice bs) w th.is_open th.is_in e in
+        let w' = others_among bs (m.taken w.decision) i y h in
+        fact.1.1 y h
+        ∙ obey_in m d is.local f (sol d m depth is) g i n after (Choice bs) pl (follows m d is.local f (sol d m depth is) s.rows s.opens k.facts g i th.is_open) fact.0 y (held_in n (Choice bs) i y w')
+        ∙ inner_rule m d is.local f (sol d m depth is) (Choice bs) n i _ _ (is_among bs i y) y pl.apart_own w' w'
+        ∙ ap (λ q. look_any m bs (m.taken q) i f y) (sym fact.1.0)
+        ∙ look_others m bs (m.taken w.decision) i f y h;
+    skipped = λ n i after kind r th e fails y t.
+        let g = th.graph in
+        let pl = placed_in m d is.local f (sol d m depth is) (length i) g n after kind (open_sub m d is.local f (sol d m depth is) s.opens g i th.is_open) th.is_in in
+        k.subtree n i r kind e (kind_there m d is.local f (sol d m depth is) s.opens g i n after kind th.is_open th.is_in).0 y t
+        ∙ follows m d is.local f (sol d m depth is) s.rows s.opens k.facts g i th.is_open y (within_of m (IsBefore d) (SeenIn d) (length i) g n after kind pl i y t)
+        ∙ pl.looked i f y t
+        ∙ unless (m.pinned n) (m.old y) _ (is.own n).0
+        ∙ unless (m.reclosed n || gate m after n i f) _ (skip m n kind i y) (ap (λ b. b || gate m after n i f) (is.own n).1 ∙ fails);
+  }
+    where
+      f : Table Row
+      f = meaning m depth d
+
+      k : Keeps m d is.local (meaning m depth d) (sol d m depth is) s
+      k = kept_state d m depth is es s r
+
+      b : Busy m d is.local f (sol d m depth is) (plain_of d m depth is) s
+      b = busy_state d m depth is es s r

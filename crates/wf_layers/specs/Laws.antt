@@ -1,0 +1,76 @@
+-- The laws of order independence, as facts of a definition, a source and its meaning.
+use Rattle.std.specs.Prelude.{◌≡◌, ℕ, Bool, true, false, List, [], Some, ◌≤◌, length}
+use Rattle.wf_layers.specs.Definition.{Graph, IsDepth, Closed, Turns}
+use Rattle.wf_layers.specs.Address.{Address, SeenIn, is_within}
+use Rattle.wf_layers.specs.Source.{Source, Sound}
+use Rattle.wf_layers.specs.Meaning.{meaning}
+use Rattle.wf_layers.specs.Address.{Table}
+use Rattle.wf_layers.specs.Rule.{look, Obeys}
+use Rattle.wf_layers.specs.Part.{IsPart}
+use Rattle.wf_layers.specs.Called.{IsCalled}
+use Rattle.wf_layers.specs.Variables.{SeesFinished, SeenAreThere}
+use Rattle.wf_layers.specs.Bound.{total}
+use Rattle.wf_layers.specs.Facts.{Facts}
+use Rattle.wf_layers.specs.Machine.{State, fresh, has_ended, Event, place_of, Step, Run, IsOver}
+
+module _ {Row Begun Decision Verdict : Type 0} where
+  -- A source of an environment of its own: no row is kept from an old table, and no container is closed again.
+  abbrev pub IsFresh : Source Row Begun Decision Verdict → Type 0
+  IsFresh m = (n : ℕ) → (m.pinned n ≡ false) × (m.reclosed n ≡ false)
+
+  -- What an instance of the laws has to show of a definition and its source.
+  pub record IsInstance (d : Graph) (m : Source Row Begun Decision Verdict) (depth : ℕ → ℕ) : Type 0 where
+    pub local : Sound m (SeenIn d) d 0
+    pub closed : Closed d d
+    pub falls : IsDepth d depth
+    pub turns : Turns d
+    pub own : IsFresh m
+
+  -- The meaning obeys the local rule at every address.
+  abbrev pub MeaningObeysTheRule : Graph → Source Row Begun Decision Verdict → (ℕ → ℕ) → Type 0
+  MeaningObeysTheRule d m depth = Obeys m d (meaning m depth d)
+
+  -- And it has rows exactly at the addresses that its own decisions call for.
+  abbrev pub RowsWhereCalledFor : Graph → Source Row Begun Decision Verdict → (ℕ → ℕ) → Type 0
+  RowsWhereCalledFor d m depth =
+      (x : Address) → is_within d [] x ≡ true
+      → (IsCalled m d (meaning m depth d) x → has_ended (meaning m depth d x) ≡ true) × (has_ended (meaning m depth d x) ≡ true → IsCalled m d (meaning m depth d) x)
+
+  -- Two tables that obey the rule are the same.
+  abbrev pub RowsAreUnique : Graph → Source Row Begun Decision Verdict → Type 0
+  RowsAreUnique d m = (t u : Table Row) → Obeys m d t → Obeys m d u → (x : Address) → is_within d [] x ≡ true → t x ≡ u x
+
+  -- And on a part of the definition those that obey it there.
+  abbrev pub ObeysIn : Graph → Source Row Begun Decision Verdict → (ℕ → Bool) → Table Row → Type 0
+  ObeysIn d m part t = (x : Address) → is_within d [] x ≡ true → part x.name ≡ true → t x ≡ look m d [] t x
+
+  abbrev pub PartIsUnique : Graph → Source Row Begun Decision Verdict → Type 0
+  PartIsUnique d m =
+      (part near : ℕ → Bool) → IsPart d part near → (t u : Table Row) → ObeysIn d m part t → ObeysIn d m part u → (x : Address) → is_within d [] x ≡ true → part x.name ≡ true → t x ≡ u x
+
+  -- Whatever order the events of a run were taken in, each row is the meaning's.
+  abbrev pub RowsAreTheMeanings : Graph → Source Row Begun Decision Verdict → (ℕ → ℕ) → Type 0
+  RowsAreTheMeanings d m depth =
+      (es : List Event) (s : State Row Begun Decision Verdict) → Run d m fresh es s → (x : Address) (r : Row) → s.rows x ≡ Some r → meaning m depth d x ≡ Some r
+
+  -- And where nothing is enabled any more, all rows of the meaning are there.
+  abbrev pub AllRowsAtTheEnd : Graph → Source Row Begun Decision Verdict → (ℕ → ℕ) → Type 0
+  AllRowsAtTheEnd d m depth =
+      (es : List Event) (s : State Row Begun Decision Verdict) → Run d m fresh es s → IsOver d m s → (x : Address) → is_within d [] x ≡ true → s.rows x ≡ meaning m depth d x
+
+  -- Each state that a run reaches has the facts, with the meaning's rows.
+  abbrev pub FactsOfStates : Graph → Source Row Begun Decision Verdict → (ℕ → ℕ) → Type 0
+  FactsOfStates d m depth = (es : List Event) (s : State Row Begun Decision Verdict) → Run d m fresh es s → Facts d m (meaning m depth d) s
+
+  -- In each state that a run reaches: as an action is decided, the finished accesses that it is ordered with, or exclusive, are those that it sees, and all that it sees is there.
+  abbrev pub VariablesInOrder : Graph → Source Row Begun Decision Verdict → (ℕ → ℕ) → Type 0
+  VariablesInOrder d m depth = (es : List Event) (s : State Row Begun Decision Verdict) → Run d m fresh es s → SeesFinished d m s × SeenAreThere d m (meaning m depth d) s
+
+  -- A run has at most as many events as the meaning's rows give the definition, so each run ends.
+  abbrev pub EventsAreBounded : Graph → Source Row Begun Decision Verdict → (ℕ → ℕ) → Type 0
+  EventsAreBounded d m depth = (es : List Event) (s : State Row Begun Decision Verdict) → Run d m fresh es s → length es ≤ total m (meaning m depth d) d []
+
+  -- In a state that a run reaches, at most one event is enabled at an address.
+  abbrev pub OneEventAtAnAddress : Graph → Source Row Begun Decision Verdict → (ℕ → ℕ) → Type 0
+  OneEventAtAnAddress d m depth =
+      (es : List Event) (s : State Row Begun Decision Verdict) → Run d m fresh es s → (e e' : Event) (s1 s2 : State Row Begun Decision Verdict) → Step d m s e s1 → Step d m s e' s2 → place_of e ≡ place_of e' → e ≡ e'

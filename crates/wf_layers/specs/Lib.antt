@@ -1,0 +1,14 @@
+pub mod Definition
+pub mod Address
+pub mod Source
+pub mod Meaning
+pub mod Rule
+pub mod Part
+pub mod Machine
+pub mod Called
+pub mod Facts
+pub mod Variables
+pub mod Bound
+pub mod Laws
+pub mod Redo
+pub mod Resubmission

@@ -1,0 +1,132 @@
+//! What a run of a workflow means doesn't depend on the order in which its actions end.
+//!
+//! A workflow definition (Workflow Definition Language, schema 2016-06-01) says what an action waits for, and no more of the
+//! order: two actions that don't wait for one another may end in either, and the iterations of a Foreach may go side by side.
+//! This crate defines, for any graph of actions in containers and loops, and for any source of answers, what the rows of a run are (`specs/Meaning`), and what an event machine
+//! may do in each state (`specs/Machine`). Its laws say that whatever list of enabled events is taken, the machine's rows are those of the meaning, and that it ends; and that
+//! resubmitting a run from chosen actions gives the rows of a fresh run that sees old answers in what is kept and new ones in what is redone.
+//!
+//! It has no code. Each public function has an empty body, and its contract is a law; the statements stand in `specs/`, where each begins with a sentence in plain words.
+//! A concrete engine is an instance: it names its rows, what a leaf's Start gives, its decisions and its tests, supplies a `Source` of answers, and shows that each answer looks only at what is
+//! earlier. docs/ORDER.md tells the definitions and laws with pictures, what an instance supplies, and what the laws don't say.
+//!
+//! It isn't an engine: no row has a content here, nothing is parsed, evaluated or run, and no memory is taken.
+#![tactic(auto)]
+
+ghost use Rattle.std.specs.Prelude.{[], ◌∷◌, ◌≡◌, Bool, None, Some, ℕ};
+ghost use Rattle.wf_layers.specs.Address.{Address, SeenIn, address};
+ghost use Rattle.wf_layers.specs.Definition.{Closed, Graph, IsDepth, Turns};
+ghost use Rattle.wf_layers.specs.Laws.{AllRowsAtTheEnd, EventsAreBounded, FactsOfStates, IsFresh, IsInstance, MeaningObeysTheRule, OneEventAtAnAddress, PartIsUnique, RowsAreTheMeanings, RowsAreUnique, RowsWhereCalledFor, VariablesInOrder};
+ghost use Rattle.wf_layers.specs.Meaning.{meaning};
+ghost use Rattle.wf_layers.specs.Redo.{IsRedo};
+ghost use Rattle.wf_layers.specs.Resubmission.{IsResubmission, IsSetResubmission, IsSplit, MayBeResubmittedAgain, OldAnswersGiveTheOldRows, OthersKept, ResubmissionIsFresh, ResumedAtTheEnd, ResumedEnds, ResumedRows};
+ghost use Rattle.wf_layers.specs.Source.{Sound, Source};
+
+/// The layered meaning obeys the local rule at every address.
+pub fn meaning_obeys_the_rule<Row, Begun, Decision, Verdict>()
+    ensures { (d : Graph) (m : Source Row Begun Decision Verdict) (depth : ℕ → ℕ) → IsDepth d depth → Sound m (SeenIn d) d 0 → MeaningObeysTheRule d m depth }
+{}
+
+/// The meaning has rows exactly at the addresses that its own decisions call for.
+pub fn rows_stand_where_called_for<Row, Begun, Decision, Verdict>()
+    ensures { (d : Graph) (m : Source Row Begun Decision Verdict) (depth : ℕ → ℕ) → IsDepth d depth → Sound m (SeenIn d) d 0 → IsFresh m → RowsWhereCalledFor d m depth }
+{}
+
+/// Two tables that obey the local rule are the same. So the meaning does not depend on the depths that were taken.
+pub fn rows_are_unique<Row, Begun, Decision, Verdict>()
+    ensures { (d : Graph) (m : Source Row Begun Decision Verdict) (depth : ℕ → ℕ) → IsDepth d depth → Sound m (SeenIn d) d 0 → RowsAreUnique d m }
+{}
+
+/// And so are two that obey it on a part of the definition, there.
+pub fn part_is_unique<Row, Begun, Decision, Verdict>()
+    ensures { (d : Graph) (m : Source Row Begun Decision Verdict) (depth : ℕ → ℕ) → IsDepth d depth → Sound m (SeenIn d) d 0 → PartIsUnique d m }
+{}
+
+/// Whatever order events are taken in, each row is the meaning's.
+pub fn rows_are_the_meanings<Row, Begun, Decision, Verdict>()
+    ensures { (d : Graph) (m : Source Row Begun Decision Verdict) (depth : ℕ → ℕ) → IsInstance d m depth → RowsAreTheMeanings d m depth }
+{}
+
+/// Each state that a run reaches has the facts of `specs/Facts`.
+pub fn facts_of_states<Row, Begun, Decision, Verdict>()
+    ensures { (d : Graph) (m : Source Row Begun Decision Verdict) (depth : ℕ → ℕ) → IsInstance d m depth → FactsOfStates d m depth }
+{}
+
+/// In a state that a run reaches, at most one event is enabled at an address.
+pub fn one_event_at_an_address<Row, Begun, Decision, Verdict>()
+    ensures { (d : Graph) (m : Source Row Begun Decision Verdict) (depth : ℕ → ℕ) → IsInstance d m depth → OneEventAtAnAddress d m depth }
+{}
+
+/// Where nothing is enabled, every row of the meaning is there.
+pub fn all_rows_are_there_at_the_end<Row, Begun, Decision, Verdict>()
+    ensures { (d : Graph) (m : Source Row Begun Decision Verdict) (depth : ℕ → ℕ) → IsInstance d m depth → AllRowsAtTheEnd d m depth }
+{}
+
+/// A run has at most as many events as the meaning's rows give the definition, so each run ends.
+pub fn events_are_bounded<Row, Begun, Decision, Verdict>()
+    ensures { (d : Graph) (m : Source Row Begun Decision Verdict) (depth : ℕ → ℕ) → IsInstance d m depth → EventsAreBounded d m depth }
+{}
+
+/// As an action is decided, the finished accesses of a variable are those that it sees.
+pub fn variables_in_order<Row, Begun, Decision, Verdict>()
+    ensures { (d : Graph) (m : Source Row Begun Decision Verdict) (depth : ℕ → ℕ) → IsInstance d m depth → VariablesInOrder d m depth }
+{}
+
+/// The premises can be met: there is a definition whose loop goes one iteration after the other, and iteration 2 sees iteration 1.
+pub fn premises_can_be_met()
+    ensures { (d : Graph) × (m : Source ℕ ℕ ℕ Bool) × (depth : ℕ → ℕ) × IsInstance d m depth × (meaning m depth d (address 2 (2 ∷ [])) ≡ Some 4) }
+{}
+
+/// From a set of chosen actions: all inside a redone action is redone, all inside a kept one is kept, and nothing kept or closed again stands after what is redone or closed again.
+pub fn order_of_a_resubmission()
+    ensures { (d : Graph) (chosen redo again : ℕ → Bool) → IsRedo d chosen redo again → IsSplit d redo again }
+{}
+
+/// From a set of chosen actions that ran, in no loop, all that the laws of resubmission ask of the order is there.
+pub fn a_set_is_resubmitted<Row, Begun, Decision, Verdict>()
+    ensures { (d : Graph) (depth : ℕ → ℕ) (a b : Source Row Begun Decision Verdict) (chosen redo again : ℕ → Bool) (recall : Address → Decision)
+        → IsDepth d depth → Sound a (SeenIn d) d 0 → IsFresh a → IsSetResubmission d depth a b chosen redo again recall
+        → IsResubmission d depth a b redo again recall × OthersKept d a redo again recall }
+{}
+
+/// The resubmitted record is that of a fresh run in the environment with one layer more.
+pub fn resubmission_is_fresh<Row, Begun, Decision, Verdict>()
+    ensures { (d : Graph) (depth : ℕ → ℕ) (a b : Source Row Begun Decision Verdict) (redo again : ℕ → Bool) (recall : Address → Decision)
+        → IsDepth d depth → Sound a (SeenIn d) d 0 → Sound b (SeenIn d) d 0 → IsFresh a → IsResubmission d depth a b redo again recall
+        → ResubmissionIsFresh d depth a b redo again recall }
+{}
+
+/// With the old answers everywhere, the resubmitted record is the old one.
+pub fn old_answers_give_the_old_rows<Row, Begun, Decision, Verdict>()
+    ensures { (d : Graph) (depth : ℕ → ℕ) (a b : Source Row Begun Decision Verdict) (redo again : ℕ → Bool) (recall : Address → Decision)
+        → IsDepth d depth → Sound a (SeenIn d) d 0 → Sound b (SeenIn d) d 0 → IsFresh a → ((x : Address) → a.old x ≡ None) → IsResubmission d depth a b redo again recall
+        → OldAnswersGiveTheOldRows d depth a b redo again recall }
+{}
+
+/// A resubmitted record may be resubmitted again.
+pub fn a_resubmitted_record_may_be_resubmitted<Row, Begun, Decision, Verdict>()
+    ensures { (d : Graph) (depth : ℕ → ℕ) (a b : Source Row Begun Decision Verdict) (redo again : ℕ → Bool) (recall : Address → Decision)
+        → IsDepth d depth → Sound a (SeenIn d) d 0 → Sound b (SeenIn d) d 0 → IsFresh a → IsResubmission d depth a b redo again recall
+        → MayBeResubmittedAgain d depth a b redo again recall }
+{}
+
+/// From the state of a resubmission, whatever order events are taken in, each row is the resubmitted record's.
+pub fn resumed_rows<Row, Begun, Decision, Verdict>()
+    ensures { (d : Graph) (depth : ℕ → ℕ) (a b : Source Row Begun Decision Verdict) (redo again : ℕ → Bool) (recall : Address → Decision)
+        → IsDepth d depth → Closed d d → Sound a (SeenIn d) d 0 → Sound b (SeenIn d) d 0 → IsFresh a → IsResubmission d depth a b redo again recall → OthersKept d a redo again recall
+        → ResumedRows d depth a b redo again recall }
+{}
+
+/// And where nothing is enabled, all of its rows are there.
+pub fn resumed_at_the_end<Row, Begun, Decision, Verdict>()
+    ensures { (d : Graph) (depth : ℕ → ℕ) (a b : Source Row Begun Decision Verdict) (redo again : ℕ → Bool) (recall : Address → Decision)
+        → IsDepth d depth → Closed d d → Turns d → Sound a (SeenIn d) d 0 → Sound b (SeenIn d) d 0 → IsFresh a → IsResubmission d depth a b redo again recall → OthersKept d a redo again recall
+        → ResumedAtTheEnd d depth a b redo again recall }
+{}
+
+/// And each such run ends.
+pub fn resumed_ends<Row, Begun, Decision, Verdict>()
+    ensures { (d : Graph) (depth : ℕ → ℕ) (a b : Source Row Begun Decision Verdict) (redo again : ℕ → Bool) (recall : Address → Decision)
+        → IsDepth d depth → Closed d d → Sound a (SeenIn d) d 0 → Sound b (SeenIn d) d 0 → IsFresh a → IsResubmission d depth a b redo again recall → OthersKept d a redo again recall
+        → ResumedEnds d depth a b redo again recall }
+{}
