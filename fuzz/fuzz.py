@@ -38,10 +38,10 @@ def value(rng, depth=0):
 
 
 def definition(rng):
-    action = {"type": rng.choice(["Compose", "compose", "COMPOSE", "Http"]), "inputs": value(rng)}
+    action = {"type": rng.choice(["Compose", "compose", "COMPOSE"] if rng.random() < 0.9 else ["Http", "", 1]), "inputs": value(rng)}
     if rng.random() < 0.2:
         action[rng.choice(["runAfter", "trackedProperties", "x"])] = value(rng)
-    whole = {"actions": {rng.choice(["A", "B", "é" * 80, "😀", "", "a" * 81, "a\tb"]): action} if rng.random() < 0.9 else value(rng)}
+    whole = {"actions": {rng.choice(["A", "B", "é" * 80, "😀"] if rng.random() < 0.9 else ["", "a" * 81, "a\tb", "\x7f"]): action} if rng.random() < 0.9 else value(rng)}
     if rng.random() < 0.2:
         whole[rng.choice(["parameters", "triggers", "outputs", "definition", "x"])] = value(rng)
     return whole
