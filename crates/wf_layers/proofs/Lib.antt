@@ -25,3 +25,4 @@ pub mod Bounded
 pub mod OneEvent
 pub mod Positions
 pub mod Busy
+pub mod Store

@@ -1,5 +1,5 @@
 -- The laws of order independence, as facts of a definition, a source and its meaning.
-use Rattle.std.specs.Prelude.{◌≡◌, ℕ, Bool, true, false, List, [], Some, ◌≤◌, length}
+use Rattle.std.specs.Prelude.{◌≡◌, ℕ, Bool, true, false, List, [], Some, ◌≤◌, length, Option, None}
 use Rattle.wf_layers.specs.Definition.{Graph, IsDepth, Closed, Turns}
 use Rattle.wf_layers.specs.Address.{Address, SeenIn, is_within}
 use Rattle.wf_layers.specs.Source.{Source, Sound}
@@ -8,7 +8,7 @@ use Rattle.wf_layers.specs.Address.{Table}
 use Rattle.wf_layers.specs.Rule.{look, Obeys}
 use Rattle.wf_layers.specs.Part.{IsPart}
 use Rattle.wf_layers.specs.Called.{IsCalled}
-use Rattle.wf_layers.specs.Variables.{SeesFinished, SeenAreThere}
+use Rattle.wf_layers.specs.Variables.{SeesFinished, SeenAreThere, Stores, OneOrder, StoreHolds}
 use Rattle.wf_layers.specs.Bound.{total}
 use Rattle.wf_layers.specs.Facts.{Facts}
 use Rattle.wf_layers.specs.Machine.{State, fresh, has_ended, Event, place_of, Step, Run, IsOver}
@@ -74,3 +74,8 @@ module _ {Row Begun Decision Verdict : Type 0} where
   abbrev pub OneEventAtAnAddress : Graph → Source Row Begun Decision Verdict → (ℕ → ℕ) → Type 0
   OneEventAtAnAddress d m depth =
       (es : List Event) (s : State Row Begun Decision Verdict) → Run d m fresh es s → (e e' : Event) (s1 s2 : State Row Begun Decision Verdict) → Step d m s e s1 → Step d m s e' s2 → place_of e ≡ place_of e' → e ≡ e'
+
+  -- So a store that each finished writer overwrites holds, as an action is decided, the value of the last writer that it sees.
+  abbrev pub StoreHoldsTheLast : {Value : Type 0} → Graph → Source Row Begun Decision Verdict → (ℕ → ℕ) → (Address → Row → Option Value) → Type 0
+  StoreHoldsTheLast {Value} d m depth writes =
+      OneOrder d m writes (meaning m depth d) → (es : List Event) (s : State Row Begun Decision Verdict) (v : Option Value) → Stores d m writes fresh es s None v → StoreHolds d m writes (meaning m depth d) s v
