@@ -26,3 +26,4 @@ pub mod OneEvent
 pub mod Positions
 pub mod Busy
 pub mod Store
+pub mod OldTable

@@ -221,16 +221,16 @@ module _ {Row Begun Decision Verdict : Type 0} (a b : Source Row Begun Decision 
           (λ k. true≢false (sym t ∙ sp.apart q (sym (ap (λ z. z || again q) k) ∙ s)))
           (two (kept redo again q))
 
-  pub resumed_rows : Closed d d → ResumedRows d depth a b redo again recall
+  pub resumed_rows : Closed d d → ResumedRows d depth a b redo again (meaning a depth d) recall
   resumed_rows closed es s run = rows_are m d so f sol (closed_is m d so f sol closed) out s0 first_keeps es s run
 
-  pub resumed_at_the_end : Closed d d → Turns d → ResumedAtTheEnd d depth a b redo again recall
+  pub resumed_at_the_end : Closed d d → Turns d → ResumedAtTheEnd d depth a b redo again (meaning a depth d) recall
   resumed_at_the_end closed t es s run o =
       let cl = closed_is m d so f sol closed in let k = run_keeps m d so f sol cl out s0 es s first_keeps run in
       ended_settled m d so f sol s k d [] top (all_ended_over m d so f sol closed depth falls s k o t)
 
   -- and each such run ends
-  pub resumed_ends : Closed d d → ResumedEnds d depth a b redo again recall
+  pub resumed_ends : Closed d d → ResumedEnds d depth a b redo again (meaning a depth d) recall
   resumed_ends closed es s run =
       let cl = closed_is m d so f sol closed in
       run_bounded m d so f sol cl out s0 first_keeps (λ x w e. none-some w e) es s (run_keeps m d so f sol cl out s0 es s first_keeps run) run

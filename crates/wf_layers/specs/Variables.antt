@@ -1,5 +1,5 @@
 -- Variables: which accesses exclude one another, and which of them are finished as a point reads.
-use Rattle.std.specs.Prelude.{◌≡◌, ◌≢◌, ℕ, ◌++◌, ◌∷◌, [], List, Bool, true, false, Option, Some, None, ◌⊎◌}
+use Rattle.std.specs.Prelude.{◌≡◌, ◌≢◌, ℕ, ◌++◌, ◌∷◌, [], List, true, false, Option, Some, None, ◌⊎◌}
 use Rattle.wf_layers.specs.Definition.{Need, Kind, Leaf, Scope, Choice, Foreach, Until, Branches, no_branch, branch, Graph, done, add, kind_of}
 use Rattle.wf_layers.specs.Address.{Address, address, Table, is_in, is_within, is_among, SeenIn}
 use Rattle.wf_layers.specs.Source.{Source}

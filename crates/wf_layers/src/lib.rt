@@ -119,19 +119,19 @@ pub fn a_resubmitted_record_may_be_resubmitted<Row, Begun, Decision, Verdict>()
 pub fn resumed_rows<Row, Begun, Decision, Verdict>()
     ensures { (d : Graph) (depth : ℕ → ℕ) (a b : Source Row Begun Decision Verdict) (redo again : ℕ → Bool) (recall : Address → Decision)
         → IsDepth d depth → Closed d d → Sound a (SeenIn d) d 0 → Sound b (SeenIn d) d 0 → IsFresh a → IsResubmission d depth a b redo again recall → OthersKept d a redo again recall
-        → ResumedRows d depth a b redo again recall }
+        → ResumedRows d depth a b redo again (meaning a depth d) recall }
 {}
 
 /// And where nothing is enabled, all of its rows are there.
 pub fn resumed_at_the_end<Row, Begun, Decision, Verdict>()
     ensures { (d : Graph) (depth : ℕ → ℕ) (a b : Source Row Begun Decision Verdict) (redo again : ℕ → Bool) (recall : Address → Decision)
         → IsDepth d depth → Closed d d → Turns d → Sound a (SeenIn d) d 0 → Sound b (SeenIn d) d 0 → IsFresh a → IsResubmission d depth a b redo again recall → OthersKept d a redo again recall
-        → ResumedAtTheEnd d depth a b redo again recall }
+        → ResumedAtTheEnd d depth a b redo again (meaning a depth d) recall }
 {}
 
 /// And each such run ends.
 pub fn resumed_ends<Row, Begun, Decision, Verdict>()
     ensures { (d : Graph) (depth : ℕ → ℕ) (a b : Source Row Begun Decision Verdict) (redo again : ℕ → Bool) (recall : Address → Decision)
         → IsDepth d depth → Closed d d → Sound a (SeenIn d) d 0 → Sound b (SeenIn d) d 0 → IsFresh a → IsResubmission d depth a b redo again recall → OthersKept d a redo again recall
-        → ResumedEnds d depth a b redo again recall }
+        → ResumedEnds d depth a b redo again (meaning a depth d) recall }
 {}
