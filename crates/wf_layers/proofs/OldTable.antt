@@ -1,18 +1,16 @@
 -- The machine from the state of a resubmission, of any old table that holds what it has to.
-use Rattle.std.proofs.Common.{◌≡◌, ℕ, zero, suc, ◌+◌, ◌<◌, ◌≤◌, Bool, true, false, not, ◌&&◌, ◌||◌, cond, max, List, [], ◌∷◌, ◌++◌, Option, Some, None, ◌⊎◌, inl, inr, ⊎_elim, refl, sym, ap, ap₂, ◌∙◌, subst, arith, nat_eq, eq-eqb, eqb-true, ne_eqb, true≢false, length, length-append, nat_lt, ltb-true, ltb-false}
-use Rattle.std.proofs.lemmas.Bool.{eqb-false}
+use Rattle.std.proofs.Common.{◌≡◌, ℕ, Bool, true, false, ◌&&◌, ◌||◌, cond, List, [], Option, Some, None, ⊎_elim, refl, sym, ap, ◌∙◌, subst, arith, nat_eq, eqb-true, true≢false}
 use Rattle.std.proofs.lemmas.Option.{none-some}
-use Rattle.wf_layers.specs.Definition.{Status, Need, Names, Pace, InTurn, AtMost, Kind, Leaf, Scope, Choice, Foreach, Until, Branches, no_branch, branch, Graph, done, add, is_one, less_one, branch_at, holds, has, has_any, shows, plain, plain_any, has_own, needs_in, needs_of, needs_any, kind_in, kind_of, kind_any, IsBefore, next, more, IsDepth, ClosedIn, ClosedAny, Closed, Goes, TurnsIn, TurnsAny, Turns}
-use Rattle.wf_layers.specs.Address.{Address, address, Table, same_at, starts, is_own, is_in, is_within, is_among, owner, Lower, earlier_in, earlier_any, together, IsEarlier, SeenIn}
-use Rattle.wf_layers.specs.Source.{Source, is_listed, is_met, all_met, gate, leaf, Agrees, AgreesIn, AgreesInside, GateLocal, StartLocal, FinishLocal, CloseLocal, DecideLocal, TestLocal, SoundIn, SoundAny, Sound}
-use Rattle.wf_layers.specs.Meaning.{only, layers, turns, sides, loop, rounds, last, deepest, rank, skip, skip_all, run, run_any, layer, meaning}
+use Rattle.wf_layers.specs.Definition.{Need, Kind, Leaf, Scope, Choice, Foreach, Until, Branches, no_branch, branch, Graph, done, add, is_one, less_one, branch_at, holds, has, has_any, needs_of, kind_in, kind_of, kind_any, IsBefore, IsDepth, Closed, Turns}
+use Rattle.wf_layers.specs.Address.{Address, address, Table, same_at, starts, is_own, is_in, is_within, is_among, SeenIn}
+use Rattle.wf_layers.specs.Source.{Source, gate, SoundIn, SoundAny, Sound}
+use Rattle.wf_layers.specs.Meaning.{only, deepest, skip, run, meaning}
 use Rattle.wf_layers.specs.Rule.{look_in, look_any, look, Obeys}
-use Rattle.wf_layers.proofs.Basics.{two, and_in, and_of, front, back, fork, apart, not_true, same_self, same_self_at, starts_self, starts_outer, index_once, when, unless, only_same, cond_same, in_within, rest_within, other_within, own_in, held_in, inner_not_own, rank_below, falls_rank, none_inside, any_within, among_here, among_there, beside_not, longer, some_turn, sides_out, sides_at, rounds_same}
-use Rattle.wf_layers.proofs.Layers.{out_layer, out_layers, off_layer, before_layers, after_layers, body, other_turn, turns_out, turns_at, gate_same, leaf_same}
-
-use Rattle.wf_layers.specs.Machine.{Running, Opening, State, fresh, In, here, there, IsOpen, top, scope, chosen, turn, round, has_ended, is_ended, all_ended, unfinished, or_else, place, one, without, opened, Event, Start, Try, End, Skip, Open, Begin, Test, Close, IsContainer, in_others, skip_others, passed_over, MayBegin, MayTest, MayClose, closing, IsThere, IsDecided, Step, Run, IsOver}
-use Rattle.wf_layers.proofs.Tables.{same_at_is, same_starts, own_is, own_self, Within, one_is, one_within, place_split, place_none, place_agrees, place_fills, place_within, own_placed, without_split, opened_split, either_or, or_true, held, later', skip_in, skip_all_in, shows_holds, any_plain, plain_has, holds_in, any_in, has_in, inner_name, inner_of, branch_none, taken_has, taken_within}
-use Rattle.wf_layers.proofs.Places.{Stands, within_of, or_right, or_none, stands, taken_sound, taken_kind, taken_needs, taken_look, taken_joined, taken_joins}
+use Rattle.wf_layers.proofs.Basics.{two, and_in, and_of, apart, not_true, when, unless, in_within, rest_within, other_within, held_in, inner_not_own}
+use Rattle.wf_layers.proofs.Layers.{out_layers}
+use Rattle.wf_layers.specs.Machine.{Opening, State, In, here, there, IsOpen, top, scope, chosen, turn, round, in_others}
+use Rattle.wf_layers.proofs.Tables.{same_at_is, later', taken_within}
+use Rattle.wf_layers.proofs.Places.{Stands, or_right, or_none, stands, taken_look}
 use Rattle.wf_layers.specs.Facts.{OpenFact}
 use Rattle.wf_layers.specs.Resubmission.{kept, SplitIn, SplitAny, Split, IsSplit, pin, reopened, resumed, IsOldTable, ResumedRows, ResumedAtTheEnd, ResumedEnds}
 use Rattle.wf_layers.proofs.Others.{look_others, others_or}
@@ -50,14 +48,15 @@ module _ (redo again : ℕ → Bool) where
     split_graph (add c after kind rest) n k s e =
         ⊎_elim
         (λ t. let same = eqb-true c n t in
-          let x : Some kind ≡ Some k = sym (when (nat_eq c n) (Some kind) _ t) ∙ e in let x' : kind ≡ k = cc in
-          (subst (λ z. SplitIn redo again z n) x' (subst (λ z. SplitIn redo again kind z) same s.2),
-           subst (λ z. kept redo again n ≡ true → (q : ℕ) → holds z q ≡ true → kept redo again q ≡ true) x' (subst (λ z. kept redo again z ≡ true → (q : ℕ) → holds kind q ≡ true → kept redo again q ≡ true) same s.1)))
+        let x : Some kind ≡ Some k = sym (when (nat_eq c n) (Some kind) _ t) ∙ e in let x' : kind ≡ k = cc in (
+          subst (λ z. SplitIn redo again z n) x' (subst (λ z. SplitIn redo again kind z) same s.2),
+          subst (λ z. kept redo again n ≡ true → (q : ℕ) → holds z q ≡ true → kept redo again q ≡ true) x' (subst (λ z. kept redo again z ≡ true → (q : ℕ) → holds kind q ≡ true → kept redo again q ≡ true) same s.1),
+        ))
         (λ u. let e' = sym (unless (nat_eq c n) (Some kind) _ u) ∙ e in
-          ⊎_elim
-          (λ t. split_kind kind c n k s.2 (sym (when (holds kind n) (kind_in kind n) (kind_of rest n) t) ∙ e'))
-          (λ t. split_graph rest n k s.3 (sym (unless (holds kind n) (kind_in kind n) (kind_of rest n) t) ∙ e'))
-          (two (holds kind n)))
+        ⊎_elim
+        (λ t. split_kind kind c n k s.2 (sym (when (holds kind n) (kind_in kind n) (kind_of rest n) t) ∙ e'))
+        (λ t. split_graph rest n k s.3 (sym (unless (holds kind n) (kind_in kind n) (kind_of rest n) t) ∙ e'))
+        (two (holds kind n)))
         (two (nat_eq c n))
 
   in_split : (g : Graph) (n : ℕ) (after : List Need) (kind : Kind) → Split redo again g → In g n after kind → (redo n ≡ true → (q : ℕ) → holds kind q ≡ true → redo q ≡ true) × SplitIn redo again kind n
@@ -133,7 +132,7 @@ module _ {Row Begun Decision Verdict : Type 0} (a b : Source Row Begun Decision 
     any_kept (branch x rest) l so' s kinds c g e follow y w ky =
         ⊎_elim
         (λ t. let same : Some x ≡ Some g = sym (when (is_one c) (Some x) _ t) ∙ e in let is : x ≡ g = cc in
-          walk_kept x l so'.1 s.0 (λ q h. kinds q (ap (λ z. z || has_any rest q) h) ∙ when (has x q) (kind_of x q) (kind_any rest q) h) (subst Followed (sym is) follow) y (subst (λ z. is_within z [] y ≡ true) (sym is) w) ky)
+        walk_kept x l so'.1 s.0 (λ q h. kinds q (ap (λ z. z || has_any rest q) h) ∙ when (has x q) (kind_of x q) (kind_any rest q) h) (subst Followed (sym is) follow) y (subst (λ z. is_within z [] y ≡ true) (sym is) w) ky)
         (λ u. any_kept rest l so'.2 s.1 (λ q h. kinds q (or_right m (IsBefore d) (SeenIn d) (has x q) (has_any rest q) h) ∙ unless (has x q) (kind_of x q) (kind_any rest q) (not_true (has x q) (λ z. true≢false (sym h ∙ so'.0 q z)))) (less_one c) g (sym (unless (is_one c) (Some x) _ u) ∙ e) follow y w ky)
         (two (is_one c))
 
@@ -142,18 +141,18 @@ module _ {Row Begun Decision Verdict : Type 0} (a b : Source Row Begun Decision 
     walk_kept (add n after kind rest) l so' s kinds follow y w ky =
         ⊎_elim
         (λ t. ⊎_elim
-          (λ kn. follow y w ∙ when (is_in n kind [] y) _ (look m rest [] f y) t ∙ when (kept redo again n) (r y) _ kn)
-          (λ kn. ⊎_elim
-            (λ re. absurd (redo_not re t))
-            (λ ag. kind_kept kind n l so'.1 so'.3 s.2 ag own inner
-              (λ x v. follow x (in_within n after kind rest [] x v) ∙ when (is_in n kind [] x) _ (look m rest [] f x) v ∙ unless (kept redo again n) (r x) _ kn ∙ when (again n || gate m after n [] f) _ (skip m n kind [] x) (ap (λ z. z || gate m after n [] f) ag))
-              y (inside ag t) ky)
-            (not_kept (redo n) (again n) kn))
-          (two (kept redo again n)))
+        (λ kn. follow y w ∙ when (is_in n kind [] y) _ (look m rest [] f y) t ∙ when (kept redo again n) (r y) _ kn)
+        (λ kn. ⊎_elim
+        (λ re. absurd (redo_not re t))
+        (λ ag. kind_kept kind n l so'.1 so'.3 s.2 ag own inner
+        (λ x v. follow x (in_within n after kind rest [] x v) ∙ when (is_in n kind [] x) _ (look m rest [] f x) v ∙ unless (kept redo again n) (r x) _ kn ∙ when (again n || gate m after n [] f) _ (skip m n kind [] x) (ap (λ z. z || gate m after n [] f) ag))
+        y (inside ag t) ky)
+        (not_kept (redo n) (again n) kn))
+        (two (kept redo again n)))
         (λ u. walk_kept rest l so'.4 s.3
-          (λ q h. kinds q (later' n kind rest q h) ∙ in_rest q h)
-          (λ x v. follow x (rest_within n after kind rest [] x v) ∙ unless (is_in n kind [] x) _ (look m rest [] f x) (apart (nat_eq n x.name || holds kind x.name) (has rest x.name) true (so'.2 x.name) v))
-          y (other_within n after kind rest [] y w u) ky)
+        (λ q h. kinds q (later' n kind rest q h) ∙ in_rest q h)
+        (λ x v. follow x (rest_within n after kind rest [] x v) ∙ unless (is_in n kind [] x) _ (look m rest [] f x) (apart (nat_eq n x.name || holds kind x.name) (has rest x.name) true (so'.2 x.name) v))
+        y (other_within n after kind rest [] y w u) ky)
         (two (is_in n kind [] y))
       where
         st : Stands m (IsBefore d) (SeenIn d) l (add n after kind rest) n after kind

@@ -20,10 +20,15 @@ module _ {Row Begun Decision Verdict : Type 0} where
 
   -- What an instance of the laws has to show of a definition and its source.
   pub record IsInstance (d : Graph) (m : Source Row Begun Decision Verdict) (depth : ℕ → ℕ) : Type 0 where
+    -- names stand once, and each answer looks only at what is earlier
     pub local : Sound m (SeenIn d) d 0
+    -- an action waits only for actions of its own graph
     pub closed : Closed d d
+    -- no action is its own ancestor
     pub falls : IsDepth d depth
+    -- loops can go
     pub turns : Turns d
+    -- nothing is kept from an old table
     pub own : IsFresh m
 
   -- The meaning obeys the local rule at every address.
@@ -66,6 +71,11 @@ module _ {Row Begun Decision Verdict : Type 0} where
   abbrev pub VariablesInOrder : Graph → Source Row Begun Decision Verdict → (ℕ → ℕ) → Type 0
   VariablesInOrder d m depth = (es : List Event) (s : State Row Begun Decision Verdict) → Run d m fresh es s → SeesFinished d m s × SeenAreThere d m (meaning m depth d) s
 
+  -- So a store that each finished writer overwrites holds, as an action is decided, the value of the last writer that it sees.
+  abbrev pub StoreHoldsTheLast : {Value : Type 0} → Graph → Source Row Begun Decision Verdict → (ℕ → ℕ) → (Address → Row → Option Value) → Type 0
+  StoreHoldsTheLast {Value} d m depth writes =
+      OneOrder d m writes (meaning m depth d) → (es : List Event) (s : State Row Begun Decision Verdict) (v : Option Value) → Stores d m writes fresh es s None v → StoreHolds d m writes (meaning m depth d) s v
+
   -- A run has at most as many events as the meaning's rows give the definition, so each run ends.
   abbrev pub EventsAreBounded : Graph → Source Row Begun Decision Verdict → (ℕ → ℕ) → Type 0
   EventsAreBounded d m depth = (es : List Event) (s : State Row Begun Decision Verdict) → Run d m fresh es s → length es ≤ total m (meaning m depth d) d []
@@ -74,8 +84,3 @@ module _ {Row Begun Decision Verdict : Type 0} where
   abbrev pub OneEventAtAnAddress : Graph → Source Row Begun Decision Verdict → (ℕ → ℕ) → Type 0
   OneEventAtAnAddress d m depth =
       (es : List Event) (s : State Row Begun Decision Verdict) → Run d m fresh es s → (e e' : Event) (s1 s2 : State Row Begun Decision Verdict) → Step d m s e s1 → Step d m s e' s2 → place_of e ≡ place_of e' → e ≡ e'
-
-  -- So a store that each finished writer overwrites holds, as an action is decided, the value of the last writer that it sees.
-  abbrev pub StoreHoldsTheLast : {Value : Type 0} → Graph → Source Row Begun Decision Verdict → (ℕ → ℕ) → (Address → Row → Option Value) → Type 0
-  StoreHoldsTheLast {Value} d m depth writes =
-      OneOrder d m writes (meaning m depth d) → (es : List Event) (s : State Row Begun Decision Verdict) (v : Option Value) → Stores d m writes fresh es s None v → StoreHolds d m writes (meaning m depth d) s v

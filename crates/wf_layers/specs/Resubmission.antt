@@ -131,10 +131,11 @@ module _ {Row Begun Decision Verdict : Type 0} where
     opens = λ x. cond (again x.name && same_at [] x.at) (reopened (kind_of d x.name) (recall x)) None;
   }
 
-  -- In a choice that is closed again, all that is in branches that weren't taken is kept.
-  abbrev pub OthersKept : Graph → Source Row Begun Decision Verdict → (ℕ → Bool) → (ℕ → Bool) → (Address → Decision) → Type 0
-  OthersKept d a redo again recall =
-      (n : ℕ) (bs : Branches) → again n ≡ true → kind_of d n ≡ Some (Choice bs) → (y : Address) → in_others bs (a.taken (recall (address n []))) [] y ≡ true → kept redo again y.name ≡ true
+  -- In a choice that is closed again, all that is in branches that weren't taken is kept, and has Skipped rows in the old table r.
+  abbrev pub OthersKept : Graph → Source Row Begun Decision Verdict → (ℕ → Bool) → (ℕ → Bool) → Table Row → (Address → Decision) → Type 0
+  OthersKept d a redo again r recall =
+      (n : ℕ) (bs : Branches) → again n ≡ true → kind_of d n ≡ Some (Choice bs) → (y : Address) → in_others bs (a.taken (recall (address n []))) [] y ≡ true
+      → (kept redo again y.name ≡ true) × (r y ≡ skip_others a bs (a.taken (recall (address n []))) [] y)
 
   -- What an old table has to hold, whether a run gave it or not: no rows outside the definition, a row at each kept action of a graph that is open from the start, and Skipped rows in the branches
   -- that weren't taken of what is closed again, all of it kept.
@@ -142,8 +143,7 @@ module _ {Row Begun Decision Verdict : Type 0} where
     pub split : IsSplit d redo again
     pub inside : (y : Address) → is_within d [] y ≡ false → r y ≡ None
     pub rows : (g : Graph) (n : ℕ) (after : List Need) (kind : Kind) → IsOpen {Decision = Decision} {Verdict = Verdict} a.taken d (λ x. cond (again x.name && same_at [] x.at) (reopened (kind_of d x.name) (recall x)) None) g [] → In g n after kind → kept redo again n ≡ true → r (address n []) ≡ None → ⊥
-    pub others : (n : ℕ) (bs : Branches) → again n ≡ true → kind_of d n ≡ Some (Choice bs) → (y : Address) → in_others bs (a.taken (recall (address n []))) [] y ≡ true
-        → (kept redo again y.name ≡ true) × (r y ≡ skip_others a bs (a.taken (recall (address n []))) [] y)
+    pub others : OthersKept d a redo again r recall
 
   -- From that state, whatever order events are taken in, each row is the resubmitted record's,
   abbrev pub ResumedRows : Graph → (ℕ → ℕ) → Source Row Begun Decision Verdict → Source Row Begun Decision Verdict → (ℕ → Bool) → (ℕ → Bool) → Table Row → (Address → Decision) → Type 0

@@ -14,12 +14,12 @@
 #![tactic(auto)]
 
 ghost use Rattle.std.specs.Prelude.{[], ◌∷◌, ◌≡◌, Bool, None, Option, Some, ℕ};
-ghost use Rattle.wf_layers.specs.Address.{Address, SeenIn, address};
+ghost use Rattle.wf_layers.specs.Address.{Address, SeenIn, Table, address};
 ghost use Rattle.wf_layers.specs.Definition.{Closed, Graph, IsDepth, Turns};
 ghost use Rattle.wf_layers.specs.Laws.{AllRowsAtTheEnd, EventsAreBounded, FactsOfStates, IsFresh, IsInstance, MeaningObeysTheRule, OneEventAtAnAddress, PartIsUnique, RowsAreTheMeanings, RowsAreUnique, RowsWhereCalledFor, StoreHoldsTheLast, VariablesInOrder};
 ghost use Rattle.wf_layers.specs.Meaning.{meaning};
 ghost use Rattle.wf_layers.specs.Redo.{IsRedo};
-ghost use Rattle.wf_layers.specs.Resubmission.{IsResubmission, IsSetResubmission, IsSplit, MayBeResubmittedAgain, OldAnswersGiveTheOldRows, OthersKept, ResubmissionIsFresh, ResumedAtTheEnd, ResumedEnds, ResumedRows};
+ghost use Rattle.wf_layers.specs.Resubmission.{IsOldTable, IsResubmission, IsSetResubmission, IsSplit, MayBeResubmittedAgain, OldAnswersGiveTheOldRows, OthersKept, ResubmissionIsFresh, ResumedAtTheEnd, ResumedEnds, ResumedRows};
 ghost use Rattle.wf_layers.specs.Source.{Sound, Source};
 
 /// The layered meaning obeys the local rule at every address.
@@ -91,7 +91,7 @@ pub fn order_of_a_resubmission()
 pub fn a_set_is_resubmitted<Row, Begun, Decision, Verdict>()
     ensures { (d : Graph) (depth : ℕ → ℕ) (a b : Source Row Begun Decision Verdict) (chosen redo again : ℕ → Bool) (recall : Address → Decision)
         → IsDepth d depth → Sound a (SeenIn d) d 0 → IsFresh a → IsSetResubmission d depth a b chosen redo again recall
-        → IsResubmission d depth a b redo again recall × OthersKept d a redo again recall }
+        → IsResubmission d depth a b redo again recall × OthersKept d a redo again (meaning a depth d) recall }
 {}
 
 /// The resubmitted record is that of a fresh run in the environment with one layer more.
@@ -115,23 +115,30 @@ pub fn a_resubmitted_record_may_be_resubmitted<Row, Begun, Decision, Verdict>()
         → MayBeResubmittedAgain d depth a b redo again recall }
 {}
 
-/// From the state of a resubmission, whatever order events are taken in, each row is the resubmitted record's.
-pub fn resumed_rows<Row, Begun, Decision, Verdict>()
+/// A meaning's table is one from which a resubmission may go on.
+pub fn a_meaning_may_be_resumed<Row, Begun, Decision, Verdict>()
     ensures { (d : Graph) (depth : ℕ → ℕ) (a b : Source Row Begun Decision Verdict) (redo again : ℕ → Bool) (recall : Address → Decision)
-        → IsDepth d depth → Closed d d → Sound a (SeenIn d) d 0 → Sound b (SeenIn d) d 0 → IsFresh a → IsResubmission d depth a b redo again recall → OthersKept d a redo again recall
-        → ResumedRows d depth a b redo again (meaning a depth d) recall }
+        → IsDepth d depth → Sound a (SeenIn d) d 0 → IsFresh a → IsResubmission d depth a b redo again recall → OthersKept d a redo again (meaning a depth d) recall
+        → IsOldTable d a redo again (meaning a depth d) recall }
+{}
+
+/// From the state of a resubmission of an old table, whether a run gave it or not, and whatever order events are taken in, each row is the resubmitted record's.
+pub fn resumed_rows<Row, Begun, Decision, Verdict>()
+    ensures { (d : Graph) (depth : ℕ → ℕ) (a b : Source Row Begun Decision Verdict) (redo again : ℕ → Bool) (r : Table Row) (recall : Address → Decision)
+        → IsDepth d depth → Closed d d → Sound b (SeenIn d) d 0 → IsOldTable d a redo again r recall
+        → ResumedRows d depth a b redo again r recall }
 {}
 
 /// And where nothing is enabled, all of its rows are there.
 pub fn resumed_at_the_end<Row, Begun, Decision, Verdict>()
-    ensures { (d : Graph) (depth : ℕ → ℕ) (a b : Source Row Begun Decision Verdict) (redo again : ℕ → Bool) (recall : Address → Decision)
-        → IsDepth d depth → Closed d d → Turns d → Sound a (SeenIn d) d 0 → Sound b (SeenIn d) d 0 → IsFresh a → IsResubmission d depth a b redo again recall → OthersKept d a redo again recall
-        → ResumedAtTheEnd d depth a b redo again (meaning a depth d) recall }
+    ensures { (d : Graph) (depth : ℕ → ℕ) (a b : Source Row Begun Decision Verdict) (redo again : ℕ → Bool) (r : Table Row) (recall : Address → Decision)
+        → IsDepth d depth → Closed d d → Turns d → Sound b (SeenIn d) d 0 → IsOldTable d a redo again r recall
+        → ResumedAtTheEnd d depth a b redo again r recall }
 {}
 
 /// And each such run ends.
 pub fn resumed_ends<Row, Begun, Decision, Verdict>()
-    ensures { (d : Graph) (depth : ℕ → ℕ) (a b : Source Row Begun Decision Verdict) (redo again : ℕ → Bool) (recall : Address → Decision)
-        → IsDepth d depth → Closed d d → Sound a (SeenIn d) d 0 → Sound b (SeenIn d) d 0 → IsFresh a → IsResubmission d depth a b redo again recall → OthersKept d a redo again recall
-        → ResumedEnds d depth a b redo again (meaning a depth d) recall }
+    ensures { (d : Graph) (depth : ℕ → ℕ) (a b : Source Row Begun Decision Verdict) (redo again : ℕ → Bool) (r : Table Row) (recall : Address → Decision)
+        → IsDepth d depth → Closed d d → Sound b (SeenIn d) d 0 → IsOldTable d a redo again r recall
+        → ResumedEnds d depth a b redo again r recall }
 {}

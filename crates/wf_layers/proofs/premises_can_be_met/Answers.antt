@@ -1,4 +1,3 @@
-use Rattle.wf_layers.proofs.OldTable.{any_rows}
 use Rattle.wf_layers.proofs.Example.{answers, depths, graph, instance_there, in_turn_sees}
 use Rattle.wf_layers.proofs.premises_can_be_met.Goals as goal
 
