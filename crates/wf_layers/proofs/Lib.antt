@@ -27,3 +27,4 @@ pub mod Positions
 pub mod Busy
 pub mod Store
 pub mod OldTable
+pub mod Tests

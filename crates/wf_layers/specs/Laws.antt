@@ -8,7 +8,7 @@ use Rattle.wf_layers.specs.Address.{Table}
 use Rattle.wf_layers.specs.Rule.{look, Obeys}
 use Rattle.wf_layers.specs.Part.{IsPart}
 use Rattle.wf_layers.specs.Called.{IsCalled}
-use Rattle.wf_layers.specs.Variables.{SeesFinished, SeenAreThere, Stores, OneOrder, StoreHolds}
+use Rattle.wf_layers.specs.Variables.{SeesFinished, SeenAreThere, TestSees, Stores, OneOrder, StoreHolds}
 use Rattle.wf_layers.specs.Bound.{total}
 use Rattle.wf_layers.specs.Facts.{Facts}
 use Rattle.wf_layers.specs.Machine.{State, fresh, has_ended, Event, place_of, Step, Run, IsOver}
@@ -70,6 +70,10 @@ module _ {Row Begun Decision Verdict : Type 0} where
   -- In each state that a run reaches: as an action is decided, the finished accesses that it is ordered with, or exclusive, are those that it sees, and all that it sees is there.
   abbrev pub VariablesInOrder : Graph → Source Row Begun Decision Verdict → (ℕ → ℕ) → Type 0
   VariablesInOrder d m depth = (es : List Event) (s : State Row Begun Decision Verdict) → Run d m fresh es s → SeesFinished d m s × SeenAreThere d m (meaning m depth d) s
+
+  -- And the same as an Until is tested.
+  abbrev pub TestsInOrder : Graph → Source Row Begun Decision Verdict → (ℕ → ℕ) → Type 0
+  TestsInOrder d m depth = (es : List Event) (s : State Row Begun Decision Verdict) → Run d m fresh es s → TestSees d m (meaning m depth d) s
 
   -- So a store that each finished writer overwrites holds, as an action is decided, the value of the last writer that it sees.
   abbrev pub StoreHoldsTheLast : {Value : Type 0} → Graph → Source Row Begun Decision Verdict → (ℕ → ℕ) → (Address → Row → Option Value) → Type 0

@@ -1,9 +1,9 @@
 -- Variables: which accesses exclude one another, and which of them are finished as a point reads.
-use Rattle.std.specs.Prelude.{◌≡◌, ◌≢◌, ℕ, ◌++◌, ◌∷◌, [], List, true, false, Option, Some, None, ◌⊎◌}
+use Rattle.std.specs.Prelude.{suc, ◌<◌, ◌≡◌, ◌≢◌, ℕ, ◌++◌, ◌∷◌, [], List, true, false, Option, Some, None, ◌⊎◌}
 use Rattle.wf_layers.specs.Definition.{Need, Kind, Leaf, Scope, Choice, Foreach, Until, Branches, no_branch, branch, Graph, done, add, kind_of}
 use Rattle.wf_layers.specs.Address.{Address, address, Table, is_in, is_within, is_among, SeenIn}
 use Rattle.wf_layers.specs.Source.{Source}
-use Rattle.wf_layers.specs.Machine.{State, IsDecided, Event, Start, Try, End, Skip, Open, Begin, Test, Close, Step, or_else}
+use Rattle.wf_layers.specs.Machine.{Opening, IsThere, MayTest, State, IsDecided, Event, Start, Try, End, Skip, Open, Begin, Test, Close, Step, or_else}
 
 -- The instances x and y stand in different branches of one If or Switch, in one iteration of each loop round both.
 abbrev mutual
@@ -39,6 +39,15 @@ SeesFinished {Row} d m s =
 -- And all that it sees are there as the meaning has them.
 abbrev pub SeenAreThere : {Row Begun Decision Verdict : Type 0} → Graph → Source Row Begun Decision Verdict → Table Row → State Row Begun Decision Verdict → Type 0
 SeenAreThere d m f s = (n : ℕ) (i : List ℕ) (after : List Need) (kind : Kind) → IsDecided d m s n i after kind → (y : Address) → SeenIn d (address n i) y → s.rows y ≡ f y
+
+-- As an Until is tested after the iteration j: of the finished accesses that the Until is ordered with, or that exclude it, those are there that it sees, as f has them; and so are its iterations up to j.
+abbrev pub TestSees : {Row Begun Decision Verdict : Type 0} → Graph → Source Row Begun Decision Verdict → Table Row → State Row Begun Decision Verdict → Type 0
+TestSees {Row} {Begun} {Decision} {Verdict} d m f s =
+    (n : ℕ) (i : List ℕ) (after : List Need) (most : ℕ) (g : Graph) (w : Opening Decision Verdict) (j : ℕ)
+    → IsThere d m s n i after (Until most g) → s.opens (address n i) ≡ Some w → MayTest m (Until most g) i w s.rows j
+    → ((y : Address) (r : Row) → s.rows y ≡ Some r → r ≢ m.skipped → IsOrdered d (address n i) y → SeenIn d (address n i) y)
+    × ((y : Address) → SeenIn d (address n i) y → s.rows y ≡ f y)
+    × ((q : ℕ) → q < suc j → (y : Address) → is_within g (i ++ q ∷ []) y ≡ true → s.rows y ≡ f y)
 
 -- THE STORE OF ONE VARIABLE. `writes` says what a row writes to it, if anything.
 module _ {Row Begun Decision Verdict Value : Type 0} (d : Graph) (m : Source Row Begun Decision Verdict) (writes : Address → Row → Option Value) where
