@@ -28,3 +28,4 @@ pub mod Busy
 pub mod Store
 pub mod OldTable
 pub mod Tests
+pub mod Shape

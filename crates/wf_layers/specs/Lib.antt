@@ -12,3 +12,4 @@ pub mod Bound
 pub mod Laws
 pub mod Redo
 pub mod Resubmission
+pub mod Shape

@@ -20,6 +20,7 @@ ghost use Rattle.wf_layers.specs.Laws.{AllRowsAtTheEnd, EventsAreBounded, FactsO
 ghost use Rattle.wf_layers.specs.Meaning.{meaning};
 ghost use Rattle.wf_layers.specs.Redo.{IsRedo};
 ghost use Rattle.wf_layers.specs.Resubmission.{IsOldTable, IsResubmission, IsSetResubmission, IsSplit, MayBeResubmittedAgain, OldAnswersGiveTheOldRows, OthersKept, ResubmissionIsFresh, ResumedAtTheEnd, ResumedEnds, ResumedRows};
+ghost use Rattle.wf_layers.specs.Shape.{HasShape, Reading, ReadsBack};
 ghost use Rattle.wf_layers.specs.Source.{Sound, Source};
 
 /// The layered meaning obeys the local rule at every address.
@@ -118,6 +119,14 @@ pub fn a_resubmitted_record_may_be_resubmitted<Row, Begun, Decision, Verdict>()
     ensures { (d : Graph) (depth : ℕ → ℕ) (a b : Source Row Begun Decision Verdict) (redo again : ℕ → Bool) (recall : Address → Decision)
         → IsDepth d depth → Sound a (SeenIn d) d 0 → Sound b (SeenIn d) d 0 → IsFresh a → IsResubmission d depth a b redo again recall
         → MayBeResubmittedAgain d depth a b redo again recall }
+{}
+
+/// A meaning's table has the right shape: rows stand at exactly the addresses that its own rows call for.
+pub fn a_meaning_has_the_right_shape<Row, Begun, Decision, Verdict>()
+    ensures {
+        (d : Graph) (m : Source Row Begun Decision Verdict) (depth : ℕ → ℕ) (read : Reading Row Decision)
+        → IsDepth d depth → Sound m (SeenIn d) d 0 → IsFresh m → ReadsBack m read → HasShape d m read (meaning m depth d)
+    }
 {}
 
 /// A meaning's table is one from which a resubmission may go on.
