@@ -60,16 +60,16 @@ module _ {Row Begun Decision Verdict : Type 0} (a : Source Row Begun Decision Ve
         (λ e. chosen_plain rest w up t.5 q e c) h
 
   -- in a branch that isn't taken, none is chosen, so nothing is redone for itself or closed again
-  abbrev Passes' : Graph → Type 0
+  abbrev pub Passes' : Graph → Type 0
   Passes' b = (q : ℕ) → has b q ≡ true → chosen q ≡ false
 
-  skipped_none : (b : Graph) (up : Bool) → RedoOf d chosen redo again up b b → ((x : Address) → is_within b [] x ≡ true → r x ≡ skip_all a b [] x) → Passes' b
+  pub skipped_none : (b : Graph) (up : Bool) → RedoOf d chosen redo again up b b → ((x : Address) → is_within b [] x ≡ true → r x ≡ skip_all a b [] x) → Passes' b
   skipped_none b up t skips q h =
       not_true (chosen q) (λ c.
       ran q c (skips (address q []) (and_of (has b q) true h refl) ∙ when (plain b q && true) (Some a.skipped) None (and_of (plain b q) true (chosen_plain b b up t q h c) refl)))
 
   -- and in a container that didn't run
-  failed_none : (n : ℕ) (kind : Kind) → RedoIn d chosen redo again kind n → ((x : Address) → is_in n kind [] x ≡ true → r x ≡ skip a n kind [] x) → HoldsChosen d chosen kind → ⊥
+  pub failed_none : (n : ℕ) (kind : Kind) → RedoIn d chosen redo again kind n → ((x : Address) → is_in n kind [] x ≡ true → r x ≡ skip a n kind [] x) → HoldsChosen d chosen kind → ⊥
   failed_none n kind t skips c =
       ran c.0 c.2 (skips (address c.0 []) (and_of (nat_eq n c.0 || holds kind c.0) true (or_right' (nat_eq n c.0) (holds kind c.0) c.1) refl)
       ∙ when ((nat_eq n c.0 || shows kind c.0) && true) (Some a.skipped) None (and_of (nat_eq n c.0 || shows kind c.0) true (or_right' (nat_eq n c.0) (shows kind c.0) (chosen_shows kind n t c.0 c.1 c.2)) refl))

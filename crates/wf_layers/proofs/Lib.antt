@@ -29,3 +29,4 @@ pub mod Store
 pub mod OldTable
 pub mod Tests
 pub mod Shape
+pub mod Shaped

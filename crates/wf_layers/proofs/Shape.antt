@@ -1,17 +1,13 @@
 -- A meaning's table has the right shape.
-use Rattle.std.proofs.Common.{◌≡◌, ℕ, zero, suc, ◌+◌, ◌<◌, ◌≤◌, Bool, true, false, not, ◌&&◌, ◌||◌, cond, max, List, [], ◌∷◌, ◌++◌, Option, Some, None, ◌⊎◌, inl, inr, ⊎_elim, refl, sym, ap, ap₂, ◌∙◌, subst, arith, nat_eq, eq-eqb, eqb-true, ne_eqb, true≢false, length, length-append, nat_lt, ltb-true, ltb-false}
-use Rattle.std.proofs.lemmas.Bool.{eqb-false}
-use Rattle.std.proofs.lemmas.Option.{none-some}
-use Rattle.wf_layers.specs.Definition.{Status, Skipped, Need, Names, Pace, InTurn, AtMost, Kind, Leaf, Scope, Choice, Foreach, Until, Branches, no_branch, branch, Graph, done, add, is_one, less_one, branch_at, holds, has, has_any, shows, plain, plain_any, has_own, needs_in, needs_of, needs_any, kind_in, kind_of, kind_any, IsBefore, next, more, IsDepth, ClosedIn, ClosedAny, Closed, Goes, TurnsIn, TurnsAny, Turns}
-use Rattle.wf_layers.specs.Address.{Address, address, Table, same_at, starts, is_own, is_in, is_within, is_among, owner, Lower, earlier_in, earlier_any, together, IsEarlier, SeenIn}
-use Rattle.wf_layers.specs.Source.{Source, is_listed, is_met, all_met, gate, leaf, Agrees, AgreesIn, AgreesInside, GateLocal, StartLocal, FinishLocal, CloseLocal, DecideLocal, TestLocal, SoundIn, SoundAny, Sound}
-use Rattle.wf_layers.specs.Meaning.{only, layers, turns, sides, loop, rounds, last, deepest, rank, skip, skip_all, run, run_any, layer, meaning}
-use Rattle.wf_layers.specs.Rule.{look_in, look_any, look, Obeys}
-use Rattle.wf_layers.proofs.Basics.{two, and_in, and_of, front, back, fork, apart, not_true, same_self, same_self_at, starts_self, starts_outer, index_once, when, unless, only_same, cond_same, in_within, rest_within, other_within, own_in, held_in, inner_not_own, rank_below, falls_rank, none_inside, any_within, among_here, among_there, beside_not, longer, some_turn, sides_out, sides_at, rounds_same}
-use Rattle.wf_layers.proofs.Layers.{out_layer, out_layers, off_layer, before_layers, after_layers, body, other_turn, turns_out, turns_at, gate_same, leaf_same}
-
-use Rattle.wf_layers.specs.Machine.{Running, Opening, State, fresh, In, here, there, IsOpen, top, scope, chosen, turn, round, has_ended, is_ended, all_ended, unfinished, or_else, place, one, without, opened, Event, Start, Try, End, Skip, Open, Begin, Test, Close, IsContainer, in_others, skip_others, passed_over, MayBegin, MayTest, MayClose, closing, IsThere, IsDecided, Step, Run, IsOver}
-use Rattle.wf_layers.proofs.Tables.{same_at_is, same_starts, own_is, own_self, Within, one_is, one_within, place_split, place_none, place_agrees, place_fills, place_within, own_placed, without_split, opened_split, either_or, or_true, held, later', skip_in, skip_all_in, shows_holds, any_plain, plain_has, holds_in, any_in, has_in, inner_name, inner_of, branch_none, taken_has, taken_within}
+use Rattle.std.proofs.Common.{◌≡◌, ℕ, suc, ◌<◌, Bool, true, false, ◌&&◌, ◌||◌, cond, List, [], ◌∷◌, ◌++◌, Option, Some, None, refl, sym, ap, ◌∙◌, subst, arith, nat_eq, eqb-true, true≢false}
+use Rattle.wf_layers.specs.Definition.{Skipped, Need, Kind, Leaf, Scope, Choice, Foreach, Until, Branches, no_branch, branch, Graph, done, add, is_one, less_one, holds, has, has_any, shows, IsDepth}
+use Rattle.wf_layers.specs.Address.{Address, address, Table, same_at, starts, is_own, is_in, is_within, is_among, SeenIn}
+use Rattle.wf_layers.specs.Source.{Source, gate, leaf, SoundIn, SoundAny, Sound}
+use Rattle.wf_layers.specs.Meaning.{only, sides, rounds, last, deepest, skip, meaning}
+use Rattle.wf_layers.specs.Rule.{look_in, look_any, look}
+use Rattle.wf_layers.proofs.Basics.{and_in, and_of, apart, same_self, same_self_at, starts_outer, when, unless, in_within, rest_within, own_in, held_in, inner_not_own, among_here, among_there, sides_out, sides_at}
+use Rattle.wf_layers.proofs.Layers.{out_layers}
+use Rattle.wf_layers.proofs.Tables.{own_self}
 use Rattle.wf_layers.specs.Laws.{IsFresh}
 use Rattle.wf_layers.specs.Shape.{Reading, ShapeIn, ShapeAny, Shape, HasShape, ReadsBack}
 use Rattle.wf_layers.proofs.Meaning.{meaning_solves}
@@ -31,9 +27,10 @@ module _ {Row Begun Decision Verdict : Type 0} (m : Source Row Begun Decision Ve
 
   -- the iterations of a loop, and nothing else
   loop_follows : (g : Graph) (i : List ℕ) (c e : ℕ) → e ≡ c → ((x : Address) → is_within g i x ≡ true → f x ≡ sides c i (λ j t. look m g (i ++ j ∷ []) f) (λ y. None) x) → ((j : ℕ) → j < e → Followed g (i ++ j ∷ [])) × ((y : Address) → is_within g i y ≡ true → ((j : ℕ) → j < e → starts (i ++ j ∷ []) y.at ≡ false) → f y ≡ None)
-  loop_follows g i c e s h =
-      ((λ j lt x w. h x (outer_within g i j x w) ∙ sides_at c i (λ j t. look m g (i ++ j ∷ []) f) (λ y. None) x j (omega (arith, s, lt)) (and_in (has g x.name) (starts (i ++ j ∷ []) x.at) w).1),
-       λ y w out. h y w ∙ sides_out c i (λ j t. look m g (i ++ j ∷ []) f) (λ y. None) y (λ j lt. out j (omega (arith, s, lt))))
+  loop_follows g i c e s h = (
+    (λ j lt x w. h x (outer_within g i j x w) ∙ sides_at c i (λ j t. look m g (i ++ j ∷ []) f) (λ y. None) x j (omega (arith, s, lt)) (and_in (has g x.name) (starts (i ++ j ∷ []) x.at) w).1),
+    λ y w out. h y w ∙ sides_out c i (λ j t. look m g (i ++ j ∷ []) f) (λ y. None) y (λ j lt. out j (omega (arith, s, lt))),
+  )
 
   -- the row with which an action that ran ended
   abbrev ran_row : Kind → ℕ → List ℕ → Row
@@ -85,16 +82,20 @@ module _ {Row Begun Decision Verdict : Type 0} (m : Source Row Begun Decision Ve
       × (m.status row ≡ Skipped → (y : Address) → is_in n kind i y ≡ true → f y ≡ skip m n kind i y)
       × ((m.status row ≡ Skipped → ⊥) → ShapeIn m read f kind i row)
       × ((y : Address) → is_in n kind i y ≡ true → nat_eq n y.name ≡ true → is_own n i y ≡ false → f y ≡ None)
-  action_shape n after kind i nh rule shape true e =
-      (ran_row kind n i, rule (address n i) (own_in n kind i) ∙ when (gate m after n i f) _ _ e ∙ ran_is kind n i,
-       (λ q. absurd (ran_not kind n i q)),
-       (λ q. shape (λ x h. rule x h ∙ when (gate m after n i f) _ _ e)),
-       λ y h q o. rule y h ∙ when (gate m after n i f) _ _ e ∙ ran_only kind n i y nh q o)
-  action_shape n after kind i nh rule shape false e =
-      (m.skipped, rule (address n i) (own_in n kind i) ∙ unless (gate m after n i f) _ _ e ∙ when ((nat_eq n n || shows kind n) && same_at i i) (Some m.skipped) None (and_of (nat_eq n n || shows kind n) (same_at i i) (ap (λ z. z || shows kind n) (same_self n)) (same_self_at i)),
-       (λ q y h. rule y h ∙ unless (gate m after n i f) _ _ e),
-       (λ q. absurd (q back.skipped)),
-       λ y h q o. rule y h ∙ unless (gate m after n i f) _ _ e ∙ skip_only kind n i y q o)
+  action_shape n after kind i nh rule shape true e = (
+    ran_row kind n i,
+    rule (address n i) (own_in n kind i) ∙ when (gate m after n i f) _ _ e ∙ ran_is kind n i,
+    (λ q. absurd (ran_not kind n i q)),
+    (λ q. shape (λ x h. rule x h ∙ when (gate m after n i f) _ _ e)),
+    λ y h q o. rule y h ∙ when (gate m after n i f) _ _ e ∙ ran_only kind n i y nh q o,
+  )
+  action_shape n after kind i nh rule shape false e = (
+    m.skipped,
+    rule (address n i) (own_in n kind i) ∙ unless (gate m after n i f) _ _ e ∙ when ((nat_eq n n || shows kind n) && same_at i i) (Some m.skipped) None (and_of (nat_eq n n || shows kind n) (same_at i i) (ap (λ z. z || shows kind n) (same_self n)) (same_self_at i)),
+    (λ q y h. rule y h ∙ unless (gate m after n i f) _ _ e),
+    (λ q. absurd (q back.skipped)),
+    λ y h q o. rule y h ∙ unless (gate m after n i f) _ _ e ∙ skip_only kind n i y q o,
+  )
 
   mutual
     kind_shape : (kind : Kind) (n l : ℕ) (Sees : Address → Address → Type 0) (i : List ℕ) → holds kind n ≡ false → SoundIn m Sees kind n l → FollowedIn kind n i → ShapeIn m read f kind i (ran_row kind n i)
@@ -113,16 +114,18 @@ module _ {Row Begun Decision Verdict : Type 0} (m : Source Row Begun Decision Ve
 
     any_shape : (bs : Branches) (l : ℕ) (Sees : Address → Address → Type 0) (i : List ℕ) (c : ℕ) → SoundAny m Sees bs l → ((x : Address) → is_among bs i x ≡ true → f x ≡ look_any m bs c i f x) → ShapeAny m read f bs c i
     any_shape no_branch l Sees i c so follow = tt
-    any_shape (branch b rest) l Sees i c so follow =
-        ((λ o. graph_shape b l Sees i so.1 (λ x w. follow x (among_here b rest i x w) ∙ when (is_within b i x) _ _ w ∙ when (is_one c) _ _ o)),
-         (λ o x w. follow x (among_here b rest i x w) ∙ when (is_within b i x) _ _ w ∙ unless (is_one c) _ _ o),
-         any_shape rest l Sees i (less_one c) so.2 (λ x w. follow x (among_there b rest i x w) ∙ unless (is_within b i x) _ _ (apart (has b x.name) (has_any rest x.name) (starts i x.at) (so.0 x.name) w)))
+    any_shape (branch b rest) l Sees i c so follow = (
+      (λ o. graph_shape b l Sees i so.1 (λ x w. follow x (among_here b rest i x w) ∙ when (is_within b i x) _ _ w ∙ when (is_one c) _ _ o)),
+      (λ o x w. follow x (among_here b rest i x w) ∙ when (is_within b i x) _ _ w ∙ unless (is_one c) _ _ o),
+      any_shape rest l Sees i (less_one c) so.2 (λ x w. follow x (among_there b rest i x w) ∙ unless (is_within b i x) _ _ (apart (has b x.name) (has_any rest x.name) (starts i x.at) (so.0 x.name) w)),
+    )
 
     graph_shape : (g : Graph) (l : ℕ) (Sees : Address → Address → Type 0) (i : List ℕ) → Sound m Sees g l → Followed g i → Shape m read f g i
     graph_shape done l Sees i so follow = tt
-    graph_shape (add n after kind rest) l Sees i so follow =
-        (action_shape n after kind i so.1 (action_rule n after kind rest i follow) (λ h. kind_shape kind n l Sees i so.1 so.3 h) (gate m after n i f) refl,
-         graph_shape rest l Sees i so.4 (λ x v. follow x (rest_within n after kind rest i x v) ∙ unless (is_in n kind i x) _ _ (apart (nat_eq n x.name || holds kind x.name) (has rest x.name) (starts i x.at) (so.2 x.name) v)))
+    graph_shape (add n after kind rest) l Sees i so follow = (
+      action_shape n after kind i so.1 (action_rule n after kind rest i follow) (λ h. kind_shape kind n l Sees i so.1 so.3 h) (gate m after n i f) refl,
+      graph_shape rest l Sees i so.4 (λ x v. follow x (rest_within n after kind rest i x v) ∙ unless (is_in n kind i x) _ _ (apart (nat_eq n x.name || holds kind x.name) (has rest x.name) (starts i x.at) (so.2 x.name) v)),
+    )
 
 module _ {Row Begun Decision Verdict : Type 0} (d : Graph) (m : Source Row Begun Decision Verdict) (depth : ℕ → ℕ) (falls : IsDepth d depth) (local : Sound m (SeenIn d) d 0) (own : IsFresh m) (read : Reading Row Decision) (back : ReadsBack m read) where
   pub meaning_has_shape : HasShape d m read (meaning m depth d)

@@ -1,6 +1,6 @@
 -- The right shape of a table of rows: rows stand at exactly the addresses that its own rows call for.
-use Rattle.std.specs.Prelude.{◌≡◌, ℕ, ◌<◌, Bool, true, false, ◌&&◌, List, [], ◌∷◌, ◌++◌, Option, Some, None, nat_eq}
-use Rattle.wf_layers.specs.Definition.{Skipped, Need, Pace, Kind, Leaf, Scope, Choice, Foreach, Until, Branches, no_branch, branch, Graph, done, add, is_one, less_one}
+use Rattle.std.specs.Prelude.{◌≡◌, ℕ, ◌<◌, true, false, List, [], ◌∷◌, ◌++◌, Option, Some, None, nat_eq}
+use Rattle.wf_layers.specs.Definition.{Skipped, Kind, Leaf, Scope, Choice, Foreach, Until, Branches, no_branch, branch, Graph, done, add, is_one, less_one}
 use Rattle.wf_layers.specs.Address.{Address, address, Table, starts, is_own, is_in, is_within}
 use Rattle.wf_layers.specs.Source.{Source}
 use Rattle.wf_layers.specs.Meaning.{skip, skip_all}
@@ -34,9 +34,9 @@ module _ {Row Begun Decision Verdict : Type 0} (m : Source Row Begun Decision Ve
     Shape done i = Unit {0}
     Shape (add n after kind rest) i =
         ((row : Row) × (r (address n i) ≡ Some row)
-          × (m.status row ≡ Skipped → (y : Address) → is_in n kind i y ≡ true → r y ≡ skip m n kind i y)
-          × ((m.status row ≡ Skipped → ⊥) → ShapeIn kind i row)
-          × ((y : Address) → is_in n kind i y ≡ true → nat_eq n y.name ≡ true → is_own n i y ≡ false → r y ≡ None))
+        × (m.status row ≡ Skipped → (y : Address) → is_in n kind i y ≡ true → r y ≡ skip m n kind i y)
+        × ((m.status row ≡ Skipped → ⊥) → ShapeIn kind i row)
+        × ((y : Address) → is_in n kind i y ≡ true → nat_eq n y.name ≡ true → is_own n i y ≡ false → r y ≡ None))
         × Shape rest i
 
 -- The table has the right shape for the definition.

@@ -13,7 +13,7 @@
 //! It isn't an engine: no row has a content here, nothing is parsed, evaluated or run, and no memory is taken.
 #![tactic(auto)]
 
-ghost use Rattle.std.specs.Prelude.{[], ◌∷◌, ◌≡◌, Bool, None, Option, Some, ℕ};
+ghost use Rattle.std.specs.Prelude.{[], ◌∷◌, ◌≡◌, Bool, None, Option, Some, true, ℕ};
 ghost use Rattle.wf_layers.specs.Address.{Address, SeenIn, Table, address};
 ghost use Rattle.wf_layers.specs.Definition.{Closed, Graph, IsDepth, Turns};
 ghost use Rattle.wf_layers.specs.Laws.{AllRowsAtTheEnd, EventsAreBounded, FactsOfStates, IsFresh, IsInstance, MeaningObeysTheRule, OneEventAtAnAddress, PartIsUnique, RowsAreTheMeanings, RowsAreUnique, RowsWhereCalledFor, StoreHoldsTheLast, TestsInOrder, VariablesInOrder};
@@ -123,10 +123,8 @@ pub fn a_resubmitted_record_may_be_resubmitted<Row, Begun, Decision, Verdict>()
 
 /// A meaning's table has the right shape: rows stand at exactly the addresses that its own rows call for.
 pub fn a_meaning_has_the_right_shape<Row, Begun, Decision, Verdict>()
-    ensures {
-        (d : Graph) (m : Source Row Begun Decision Verdict) (depth : ℕ → ℕ) (read : Reading Row Decision)
-        → IsDepth d depth → Sound m (SeenIn d) d 0 → IsFresh m → ReadsBack m read → HasShape d m read (meaning m depth d)
-    }
+    ensures { (d : Graph) (m : Source Row Begun Decision Verdict) (depth : ℕ → ℕ) (read : Reading Row Decision)
+        → IsDepth d depth → Sound m (SeenIn d) d 0 → IsFresh m → ReadsBack m read → HasShape d m read (meaning m depth d) }
 {}
 
 /// A meaning's table is one from which a resubmission may go on.
@@ -134,6 +132,15 @@ pub fn a_meaning_may_be_resumed<Row, Begun, Decision, Verdict>()
     ensures { (d : Graph) (depth : ℕ → ℕ) (a b : Source Row Begun Decision Verdict) (redo again : ℕ → Bool) (recall : Address → Decision)
         → IsDepth d depth → Sound a (SeenIn d) d 0 → IsFresh a → IsResubmission d depth a b redo again recall → OthersKept d a redo again (meaning a depth d) recall
         → IsOldTable d a redo again (meaning a depth d) recall }
+{}
+
+/// And so is any table of the right shape, whether a run gave it or not, in which each chosen action ran, and whose decisions are recalled as its rows say.
+pub fn a_table_of_the_right_shape_may_be_resumed<Row, Begun, Decision, Verdict>()
+    ensures { (d : Graph) (a : Source Row Begun Decision Verdict) (chosen redo again : ℕ → Bool) (r : Table Row) (read : Reading Row Decision) (recall : Address → Decision)
+        → IsFresh a → IsRedo d chosen redo again → HasShape d a read r
+        → ((n : ℕ) → chosen n ≡ true → r (address n []) ≡ Some a.skipped → ⊥)
+        → ((n : ℕ) (row : Row) → again n ≡ true → r (address n []) ≡ Some row → recall (address n []) ≡ read.decided row)
+        → IsOldTable d a redo again r recall }
 {}
 
 /// From the state of a resubmission of an old table, whether a run gave it or not, and whatever order events are taken in, each row is the resubmitted record's.
