@@ -30,3 +30,4 @@ pub mod OldTable
 pub mod Tests
 pub mod Shape
 pub mod Shaped
+pub mod Seen

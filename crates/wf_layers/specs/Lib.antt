@@ -13,3 +13,4 @@ pub mod Laws
 pub mod Redo
 pub mod Resubmission
 pub mod Shape
+pub mod Seen

@@ -20,8 +20,14 @@ ghost use Rattle.wf_layers.specs.Laws.{AllRowsAtTheEnd, EventsAreBounded, FactsO
 ghost use Rattle.wf_layers.specs.Meaning.{meaning};
 ghost use Rattle.wf_layers.specs.Redo.{IsRedo};
 ghost use Rattle.wf_layers.specs.Resubmission.{IsOldTable, IsResubmission, IsSetResubmission, IsSplit, MayBeResubmittedAgain, OldAnswersGiveTheOldRows, OthersKept, ResubmissionIsFresh, ResumedAtTheEnd, ResumedEnds, ResumedRows};
+ghost use Rattle.wf_layers.specs.Seen.{Once, Waits};
 ghost use Rattle.wf_layers.specs.Shape.{HasShape, Reading, ReadsBack};
 ghost use Rattle.wf_layers.specs.Source.{Sound, Source};
+
+/// What an action waits for is earlier than it, so that its gate looks only at what is earlier.
+pub fn what_is_waited_for_is_seen()
+    ensures { (d : Graph) → Once d → Closed d d → Waits d d 0 }
+{}
 
 /// The layered meaning obeys the local rule at every address.
 pub fn meaning_obeys_the_rule<Row, Begun, Decision, Verdict>()
