@@ -31,3 +31,4 @@ pub mod Tests
 pub mod Shape
 pub mod Shaped
 pub mod Seen
+pub mod ExampleResubmission

@@ -1,6 +1,6 @@
 -- What an action waits for is earlier than it: so a gate looks only at what is earlier, in each definition whose names stand once.
-use Rattle.std.specs.Prelude.{◌≡◌, ℕ, suc, Bool, true, false, ◌||◌, List, length, nat_eq}
-use Rattle.wf_layers.specs.Definition.{Need, Names, Pace, Kind, Leaf, Scope, Choice, Foreach, Until, Branches, no_branch, branch, Graph, done, add, holds, has, has_any}
+use Rattle.std.specs.Prelude.{◌≡◌, ℕ, suc, true, false, ◌||◌, List, length, nat_eq}
+use Rattle.wf_layers.specs.Definition.{Names, Kind, Leaf, Scope, Choice, Foreach, Until, Branches, no_branch, branch, Graph, done, add, holds, has, has_any}
 use Rattle.wf_layers.specs.Address.{address, SeenIn}
 
 -- Each name stands once.

@@ -19,7 +19,7 @@ ghost use Rattle.wf_layers.specs.Definition.{Closed, Graph, IsDepth, Turns};
 ghost use Rattle.wf_layers.specs.Laws.{AllRowsAtTheEnd, EventsAreBounded, FactsOfStates, IsFresh, IsInstance, MeaningObeysTheRule, OneEventAtAnAddress, PartIsUnique, RowsAreTheMeanings, RowsAreUnique, RowsWhereCalledFor, StoreHoldsTheLast, TestsInOrder, VariablesInOrder};
 ghost use Rattle.wf_layers.specs.Meaning.{meaning};
 ghost use Rattle.wf_layers.specs.Redo.{IsRedo};
-ghost use Rattle.wf_layers.specs.Resubmission.{IsOldTable, IsResubmission, IsSetResubmission, IsSplit, MayBeResubmittedAgain, OldAnswersGiveTheOldRows, OthersKept, ResubmissionIsFresh, ResumedAtTheEnd, ResumedEnds, ResumedRows};
+ghost use Rattle.wf_layers.specs.Resubmission.{IsOldTable, IsResubmission, IsSetResubmission, IsSplit, MayBeResubmittedAgain, OldAnswersGiveTheOldRows, OthersKept, ResubmissionIsFresh, ResumedAtTheEnd, ResumedEnds, ResumedRows, pin};
 ghost use Rattle.wf_layers.specs.Seen.{Once, Waits};
 ghost use Rattle.wf_layers.specs.Shape.{HasShape, Reading, ReadsBack};
 ghost use Rattle.wf_layers.specs.Source.{Sound, Source};
@@ -104,6 +104,13 @@ pub fn a_set_is_resubmitted<Row, Begun, Decision, Verdict>()
     ensures { (d : Graph) (depth : ℕ → ℕ) (a b : Source Row Begun Decision Verdict) (chosen redo again : ℕ → Bool) (recall : Address → Decision)
         → IsDepth d depth → Sound a (SeenIn d) d 0 → IsFresh a → IsSetResubmission d depth a b chosen redo again recall
         → IsResubmission d depth a b redo again recall × OthersKept d a redo again (meaning a depth d) recall }
+{}
+
+/// There is such a set: of three actions one after the other in a Scope the second is chosen. The first keeps its row, and the third is made anew from the second.
+pub fn a_set_can_be_resubmitted()
+    ensures { (d : Graph) × (depth : ℕ → ℕ) × (a : Source ℕ ℕ ℕ Bool) × (b : Source ℕ ℕ ℕ Bool) × (chosen : (ℕ → Bool)) × (redo : (ℕ → Bool)) × (again : (ℕ → Bool)) × (recall : (Address → ℕ))
+        × Sound a (SeenIn d) d 0 × Sound b (SeenIn d) d 0 × IsSetResubmission d depth a b chosen redo again recall
+        × (meaning (pin a b redo again (meaning a depth d) recall) depth d (address 3 []) ≡ Some 21) }
 {}
 
 /// The resubmitted record is that of a fresh run in the environment with one layer more.
