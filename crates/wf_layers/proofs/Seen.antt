@@ -6,7 +6,7 @@ use Rattle.wf_layers.specs.Source.{Source, SoundIn, SoundAny, Sound}
 use Rattle.wf_layers.proofs.Basics.{two, and_in, and_of, not_true, starts_outer, when, unless, own_in, held_in, any_within}
 use Rattle.wf_layers.specs.Machine.{In, here, there}
 use Rattle.wf_layers.proofs.Places.{within_of, or_right, stands}
-use Rattle.wf_layers.specs.Seen.{OnceIn, OnceAny, Once, WaitsIn, WaitsAny, Waits}
+use Rattle.wf_layers.specs.Seen.{OnceIn, OnceAny, Once, WaitsIn, WaitsAny, Waits, AnswersIn, AnswersAny, Answers}
 
 -- a source of which nothing is asked
 abbrev nobody : Source (Unit {0}) (Unit {0}) (Unit {0}) (Unit {0})
@@ -139,3 +139,24 @@ module _ (d : Graph) (once : Once d) where
       at_top : (i : List ℕ) → length i ≡ 0 → (y z : Address) → is_within d i y ≡ true → is_within d i z ≡ true → IsEarlier (IsBefore d) d i y z → SeenIn d z y
       at_top [] e y z wy wz h = (wy, h)
       at_top (j ∷ i) e y z wy wz h = absurd (omega (arith, e))
+
+-- THE PREMISE OF THE LAWS, from its parts
+module _ {Row Begun Decision Verdict : Type 0} (d : Graph) (m : Source Row Begun Decision Verdict) where
+  mutual
+    parts_in : (kind : Kind) (n l : ℕ) → OnceIn kind → WaitsIn d kind l → AnswersIn d m kind n l → SoundIn m (SeenIn d) kind n l
+    parts_in Leaf n l o w a = a
+    parts_in (Scope g) n l o w a = (a.0, a.1, parts g l o w a.2)
+    parts_in (Choice bs) n l o w a = (a.0, a.1, parts_any bs l o w a.2)
+    parts_in (Foreach pace g) n l o w a = (a.0, a.1, parts g (suc l) o w a.2)
+    parts_in (Until most g) n l o w a = (a.0, a.1, a.2, parts g (suc l) o w a.3)
+
+    parts_any : (bs : Branches) (l : ℕ) → OnceAny bs → WaitsAny d bs l → AnswersAny d m bs l → SoundAny m (SeenIn d) bs l
+    parts_any no_branch l o w a = tt
+    parts_any (branch b rest) l o w a = (o.0, parts b l o.1 w.0 a.0, parts_any rest l o.2 w.1 a.1)
+
+    parts : (g : Graph) (l : ℕ) → Once g → Waits d g l → Answers d m g l → Sound m (SeenIn d) g l
+    parts done l o w a = tt
+    parts (add n after kind rest) l o w a = ((w.0, a.0), o.0, o.1, parts_in kind n l o.2 w.1 a.1, parts rest l o.3 w.2 a.2)
+
+  pub answers_sound : Once d → Closed d d → Answers d m d 0 → Sound m (SeenIn d) d 0
+  answers_sound o c a = parts d 0 o (what_is_waited_for d o c) a

@@ -1,7 +1,8 @@
 -- What an action waits for is earlier than it: so a gate looks only at what is earlier, in each definition whose names stand once.
 use Rattle.std.specs.Prelude.{◌≡◌, ℕ, suc, true, false, ◌||◌, List, length, nat_eq}
 use Rattle.wf_layers.specs.Definition.{Names, Kind, Leaf, Scope, Choice, Foreach, Until, Branches, no_branch, branch, Graph, done, add, holds, has, has_any}
-use Rattle.wf_layers.specs.Address.{address, SeenIn}
+use Rattle.wf_layers.specs.Address.{Table, address, SeenIn}
+use Rattle.wf_layers.specs.Source.{Source, Agrees, StartLocal, FinishLocal, CloseLocal, DecideLocal, TestLocal}
 
 -- Each name stands once.
 abbrev mutual
@@ -38,3 +39,22 @@ module _ (d : Graph) where
     Waits done l = Unit {0}
     Waits (add n after kind rest) l =
         ((i : List ℕ) → length i ≡ l → (p : ℕ) → Names after p → SeenIn d (address n i) (address p i)) × WaitsIn kind l × Waits rest l
+
+-- In l loops, each answer of the source looks only at what is earlier: the premise of the laws, but for the names and for what is waited for.
+module _ {Row Begun Decision Verdict : Type 0} (d : Graph) (m : Source Row Begun Decision Verdict) where
+  abbrev mutual
+    pub AnswersIn : Kind → ℕ → ℕ → Type 0
+    AnswersIn Leaf n l = StartLocal m (SeenIn d) n l × FinishLocal m (SeenIn d) n l
+    AnswersIn (Scope g) n l = CloseLocal m (SeenIn d) (Scope g) n l × DecideLocal m (SeenIn d) n l × Answers g l
+    AnswersIn (Choice bs) n l = CloseLocal m (SeenIn d) (Choice bs) n l × DecideLocal m (SeenIn d) n l × AnswersAny bs l
+    AnswersIn (Foreach pace g) n l = CloseLocal m (SeenIn d) (Foreach pace g) n l × DecideLocal m (SeenIn d) n l × Answers g (suc l)
+    AnswersIn (Until most g) n l = CloseLocal m (SeenIn d) (Until most g) n l × DecideLocal m (SeenIn d) n l × TestLocal m (SeenIn d) g n l × Answers g (suc l)
+
+    pub AnswersAny : Branches → ℕ → Type 0
+    AnswersAny no_branch l = Unit {0}
+    AnswersAny (branch b rest) l = Answers b l × AnswersAny rest l
+
+    pub Answers : Graph → ℕ → Type 0
+    Answers done l = Unit {0}
+    Answers (add n after kind rest) l =
+        ((i : List ℕ) → length i ≡ l → (t u : Table Row) → Agrees (SeenIn d) (address n i) t u → m.halts (address n i) t ≡ m.halts (address n i) u) × AnswersIn kind n l × Answers rest l

@@ -20,13 +20,18 @@ ghost use Rattle.wf_layers.specs.Laws.{AllRowsAtTheEnd, EventsAreBounded, FactsO
 ghost use Rattle.wf_layers.specs.Meaning.{meaning};
 ghost use Rattle.wf_layers.specs.Redo.{IsRedo};
 ghost use Rattle.wf_layers.specs.Resubmission.{IsOldTable, IsResubmission, IsSetResubmission, IsSplit, MayBeResubmittedAgain, OldAnswersGiveTheOldRows, OthersKept, ResubmissionIsFresh, ResumedAtTheEnd, ResumedEnds, ResumedRows, pin};
-ghost use Rattle.wf_layers.specs.Seen.{Once, Waits};
+ghost use Rattle.wf_layers.specs.Seen.{Answers, Once, Waits};
 ghost use Rattle.wf_layers.specs.Shape.{HasShape, Reading, ReadsBack};
 ghost use Rattle.wf_layers.specs.Source.{Sound, Source};
 
 /// What an action waits for is earlier than it, so that its gate looks only at what is earlier.
 pub fn what_is_waited_for_is_seen()
     ensures { (d : Graph) → Once d → Closed d d → Waits d d 0 }
+{}
+
+/// So the premise of the laws follows where names stand once, an action waits only for actions of its own graph, and each answer looks only at what is earlier.
+pub fn local_answers_are_sound<Row, Begun, Decision, Verdict>()
+    ensures { (d : Graph) (m : Source Row Begun Decision Verdict) → Once d → Closed d d → Answers d m d 0 → Sound m (SeenIn d) d 0 }
 {}
 
 /// The layered meaning obeys the local rule at every address.
