@@ -1,20 +1,18 @@
 -- A running leaf and an open container stand in open graphs, and have no row yet.
-use Rattle.std.proofs.Common.{◌≡◌, ℕ, zero, suc, ◌+◌, ◌<◌, ◌≤◌, Bool, true, false, not, ◌&&◌, ◌||◌, cond, max, List, [], ◌∷◌, ◌++◌, Option, Some, None, ◌⊎◌, inl, inr, ⊎_elim, refl, sym, ap, ap₂, ◌∙◌, subst, arith, nat_eq, eq-eqb, eqb-true, ne_eqb, true≢false, length, length-append, nat_lt, ltb-true, ltb-false}
+use Rattle.std.proofs.Common.{◌≡◌, ℕ, suc, ◌≤◌, true, false, ◌||◌, List, [], ◌∷◌, ◌++◌, Option, Some, None, ◌⊎◌, inl, inr, ⊎_elim, refl, sym, ap, ◌∙◌, subst, arith, nat_eq, eqb-true, true≢false, length}
 use Rattle.std.proofs.lemmas.Bool.{eqb-false}
 use Rattle.std.proofs.lemmas.Option.{none-some}
-use Rattle.wf_layers.specs.Definition.{Status, Need, Names, Pace, InTurn, AtMost, Kind, Leaf, Scope, Choice, Foreach, Until, Branches, no_branch, branch, Graph, done, add, is_one, less_one, branch_at, holds, has, has_any, shows, plain, plain_any, has_own, needs_in, needs_of, needs_any, kind_in, kind_of, kind_any, IsBefore, next, more, IsDepth, ClosedIn, ClosedAny, Closed, Goes, TurnsIn, TurnsAny, Turns}
-use Rattle.wf_layers.specs.Address.{Address, address, Table, same_at, starts, is_own, is_in, is_within, is_among, owner, Lower, earlier_in, earlier_any, together, IsEarlier, SeenIn}
-use Rattle.wf_layers.specs.Source.{Source, is_listed, is_met, all_met, gate, leaf, Agrees, AgreesIn, AgreesInside, GateLocal, StartLocal, FinishLocal, CloseLocal, DecideLocal, TestLocal, SoundIn, SoundAny, Sound}
-use Rattle.wf_layers.specs.Meaning.{only, layers, turns, sides, loop, rounds, last, deepest, rank, skip, skip_all, run, run_any, layer, meaning}
-use Rattle.wf_layers.specs.Rule.{look_in, look_any, look, Obeys}
-use Rattle.wf_layers.proofs.Basics.{two, and_in, and_of, front, back, fork, apart, not_true, same_self, same_self_at, starts_self, starts_outer, index_once, when, unless, only_same, cond_same, in_within, rest_within, other_within, own_in, held_in, inner_not_own, rank_below, falls_rank, none_inside, any_within, among_here, among_there, beside_not, longer, some_turn, sides_out, sides_at, rounds_same}
-use Rattle.wf_layers.proofs.Layers.{out_layer, out_layers, off_layer, before_layers, after_layers, body, other_turn, turns_out, turns_at, gate_same, leaf_same}
-
-use Rattle.wf_layers.specs.Machine.{Running, Opening, State, fresh, In, here, there, IsOpen, top, scope, chosen, turn, round, has_ended, is_ended, all_ended, unfinished, or_else, place, one, without, opened, Event, Start, Try, End, Skip, Open, Begin, Test, Close, IsContainer, in_others, skip_others, passed_over, MayBegin, MayTest, MayClose, closing, IsThere, IsDecided, Step, Run, IsOver}
-use Rattle.wf_layers.proofs.Tables.{same_at_is, same_starts, own_is, own_self, Within, one_is, one_within, place_split, place_none, place_agrees, place_fills, place_within, own_placed, without_split, opened_split, either_or, or_true, held, later', skip_in, skip_all_in, shows_holds, any_plain, plain_has, holds_in, any_in, has_in, inner_name, inner_of, branch_none, taken_has, taken_within}
-use Rattle.wf_layers.proofs.Places.{Stands, within_of, or_right, or_none, stands, taken_sound, taken_kind, taken_needs, taken_look, taken_joined, taken_joins}
-use Rattle.wf_layers.specs.Facts.{Settled, OpenFact, IsBusy}
-use Rattle.wf_layers.proofs.Open.{Sub, Placed, open_sub, placed_in, kind_there, fact_of, outer}
+use Rattle.wf_layers.specs.Definition.{Need, Kind, Leaf, Scope, Choice, Foreach, Until, Graph, branch_at, shows, kind_of, IsBefore}
+use Rattle.wf_layers.specs.Address.{Address, address, Table, same_at, is_own, is_within, SeenIn}
+use Rattle.wf_layers.specs.Source.{Source, Sound}
+use Rattle.wf_layers.specs.Meaning.{skip}
+use Rattle.wf_layers.specs.Rule.{Obeys}
+use Rattle.wf_layers.proofs.Basics.{two, and_of, not_true, when, unless, own_in, held_in}
+use Rattle.wf_layers.specs.Machine.{Running, Opening, State, IsOpen, top, scope, chosen, turn, round, is_ended, or_else, place, one, without, opened, Event, Start, Try, End, Skip, Open, Begin, Test, Close, passed_over, MayClose, closing, IsThere, Step, Run}
+use Rattle.wf_layers.proofs.Tables.{same_at_is, own_is, own_self, one_is, place_split, without_split, opened_split, skip_in, shows_holds, taken_within}
+use Rattle.wf_layers.proofs.Places.{within_of}
+use Rattle.wf_layers.specs.Facts.{Settled, IsBusy}
+use Rattle.wf_layers.proofs.Open.{Placed, open_sub, placed_in, kind_there, fact_of, outer}
 use Rattle.wf_layers.proofs.Keeps.{Keeps, IsClosed, SpecialOut}
 use Rattle.wf_layers.proofs.Events.{own_row, ended_settled, step_keeps}
 use Rattle.wf_layers.proofs.Called.{others_only}
@@ -62,9 +60,9 @@ module _ {Row Begun Decision Verdict : Type 0} (m : Source Row Begun Decision Ve
   close_path s k n i after kind w th e may _ j (scope {g = g} {h = h} {n = c} {after = ca} {w = v} og st ce) =
       ⊎_elim
       (λ o. ⊎_elim
-        (λ t. inr (closing_scope t))
-        (λ u. inl (scope o st (unless (is_own n i (address c j)) None (s.opens (address c j)) u ∙ ce)))
-        (two (is_own n i (address c j))))
+      (λ t. inr (closing_scope t))
+      (λ u. inl (scope o st (unless (is_own n i (address c j)) None (s.opens (address c j)) u ∙ ce)))
+      (two (is_own n i (address c j))))
       (λ q. inr (λ y z. q y (inner_within y z)))
       (close_path s k n i after kind w th e may g j og)
     where
@@ -83,9 +81,9 @@ module _ {Row Begun Decision Verdict : Type 0} (m : Source Row Begun Decision Ve
   close_path s k n i after kind w th e may _ j (chosen {g = g} {b = b} {n = c} {after = ca} {bs = bs} {w = v} og st ce is') =
       ⊎_elim
       (λ o. ⊎_elim
-        (λ t. inr (closing_choice t))
-        (λ u. inl (chosen o st (unless (is_own n i (address c j)) None (s.opens (address c j)) u ∙ ce) is'))
-        (two (is_own n i (address c j))))
+      (λ t. inr (closing_choice t))
+      (λ u. inl (chosen o st (unless (is_own n i (address c j)) None (s.opens (address c j)) u ∙ ce) is'))
+      (two (is_own n i (address c j))))
       (λ q. inr (λ y z. q y (inner_within y z)))
       (close_path s k n i after kind w th e may g j og)
     where
@@ -106,9 +104,9 @@ module _ {Row Begun Decision Verdict : Type 0} (m : Source Row Begun Decision Ve
   close_path s k n i after kind w th e may _ _ (turn {g = g} {h = h} {i = l} {n = c} {after = ca} {pace = pace} {w = v} j og st ce lt) =
       ⊎_elim
       (λ o. ⊎_elim
-        (λ t. inr (closing_loop t))
-        (λ u. inl (turn j o st (unless (is_own n i (address c l)) None (s.opens (address c l)) u ∙ ce) lt))
-        (two (is_own n i (address c l))))
+      (λ t. inr (closing_loop t))
+      (λ u. inl (turn j o st (unless (is_own n i (address c l)) None (s.opens (address c l)) u ∙ ce) lt))
+      (two (is_own n i (address c l))))
       (λ q. inr (λ y z. q y (inner_within y z)))
       (close_path s k n i after kind w th e may g l og)
     where
@@ -129,9 +127,9 @@ module _ {Row Begun Decision Verdict : Type 0} (m : Source Row Begun Decision Ve
   close_path s k n i after kind w th e may _ _ (round {g = g} {h = h} {i = l} {n = c} {most = most} {after = ca} {w = v} j og st ce lt) =
       ⊎_elim
       (λ o. ⊎_elim
-        (λ t. inr (closing_loop t))
-        (λ u. inl (round j o st (unless (is_own n i (address c l)) None (s.opens (address c l)) u ∙ ce) lt))
-        (two (is_own n i (address c l))))
+      (λ t. inr (closing_loop t))
+      (λ u. inl (round j o st (unless (is_own n i (address c l)) None (s.opens (address c l)) u ∙ ce) lt))
+      (two (is_own n i (address c l))))
       (λ q. inr (λ y z. q y (inner_within y z)))
       (close_path s k n i after kind w th e may g l og)
     where
@@ -208,13 +206,13 @@ module _ {Row Begun Decision Verdict : Type 0} (m : Source Row Begun Decision Ve
           let q = skip_in m n kind i x r h in
           ⊎_elim
           (λ t. let own = own_is n i x (and_of (nat_eq n x.name) (same_at i x.at) t q.1) in
-            ⊎_elim (λ z. none-some z.0 (sym de.not_running ∙ ap s.running own ∙ z.1)) (λ z. none-some z.0 (sym de.not_open ∙ ap s.opens own ∙ z.1)) busy)
+          ⊎_elim (λ z. none-some z.0 (sym de.not_running ∙ ap s.running own ∙ z.1)) (λ z. none-some z.0 (sym de.not_open ∙ ap s.opens own ∙ z.1)) busy)
           (λ u. busy_under s b n i kind (kind_there m d so f sol s.opens de.is_there.graph i n after kind de.is_there.is_open de.is_there.is_in).0 de.not_open x busy (sym (ap (λ z. z || shows kind x.name) u) ∙ q.0) q.1)
           (two (nat_eq n x.name))
   step_busy s (Open n i) s' k b (after, kind, c, de, pass, to) = subst Busy (sym to) (record {
     there' = λ x busy. stands_on s (record { rows = place new s.rows; running = s.running; opens = opened n i (Some w) s.opens }) x
-      (open_grows m.taken d s.opens (opened n i (Some w) s.opens) (λ y v e. (v, unless (is_own n i y) (Some w) (s.opens y) (not_true (is_own n i y) (λ t. none-some v (sym de.not_open ∙ ap s.opens (own_is n i y t) ∙ e))) ∙ e, refl, omega arith)))
-      (⊎_elim (λ own. subst (λ (z : Address). StandsOpen s z) own (after, kind, de.is_there)) (λ old. b.there' x old) (was x busy));
+        (open_grows m.taken d s.opens (opened n i (Some w) s.opens) (λ y v e. (v, unless (is_own n i y) (Some w) (s.opens y) (not_true (is_own n i y) (λ t. none-some v (sym de.not_open ∙ ap s.opens (own_is n i y t) ∙ e))) ∙ e, refl, omega arith)))
+        (⊎_elim (λ own. subst (λ (z : Address). StandsOpen s z) own (after, kind, de.is_there)) (λ old. b.there' x old) (was x busy));
     no_row = λ x busy. ⊎_elim (λ own. subst (λ (z : Address). place new s.rows z ≡ None) own own_none) (λ old. same_row s new x b old (λ r h. none_there x old r h)) (was x busy);
   })
     where
@@ -292,10 +290,10 @@ module _ {Row Begun Decision Verdict : Type 0} (m : Source Row Begun Decision Ve
               (two (is_own n i y))
   step_busy s (Close n i) s' k b (after, kind, w, th, e, may, to) = subst Busy (sym to) (record {
     there' = λ x busy. let z = was x busy in let r = b.there' x z.0 in
-      ⊎_elim
-      (λ o. (r.0, r.1, record { graph = r.2.graph; is_open = o; is_in = r.2.is_in }))
-      (λ q. absurd (busy_row s k b x z.0 (sym (q x (within_own x r)) ∙ b.no_row x z.0)))
-      (close_path s k n i after kind w th e may r.2.graph x.at r.2.is_open);
+        ⊎_elim
+        (λ o. (r.0, r.1, record { graph = r.2.graph; is_open = o; is_in = r.2.is_in }))
+        (λ q. absurd (busy_row s k b x z.0 (sym (q x (within_own x r)) ∙ b.no_row x z.0)))
+        (close_path s k n i after kind w th e may r.2.graph x.at r.2.is_open);
     no_row = λ x busy. same_row s new x b (was x busy).0 (λ q h. (was x busy).1 (one_is n i (closing m kind (address n i) w s.rows) x q h).0);
   })
     where
@@ -317,4 +315,3 @@ module _ {Row Begun Decision Verdict : Type 0} (m : Source Row Begun Decision Ve
   pub run_busy : IsClosed m d so f sol → SpecialOut m d so f sol → (s : State Row Begun Decision Verdict) (es : List Event) (s' : State Row Begun Decision Verdict) → Keeps m d so f sol s → Busy s → Run d m s es s' → Busy s'
   run_busy closed out s [] s' k b r = subst Busy (sym r) b
   run_busy closed out s (e ∷ es) s' k b (mid, st, rest) = run_busy closed out mid es s' (step_keeps m d so f sol closed out s e mid k st) (step_busy s e mid k b st) rest
-

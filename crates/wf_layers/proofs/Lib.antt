@@ -25,3 +25,10 @@ pub mod Bounded
 pub mod OneEvent
 pub mod Positions
 pub mod Busy
+pub mod Store
+pub mod OldTable
+pub mod Tests
+pub mod Shape
+pub mod Shaped
+pub mod Seen
+pub mod ExampleResubmission

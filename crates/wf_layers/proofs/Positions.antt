@@ -1,18 +1,14 @@
 -- Where an action stands as seen from an open graph.
-use Rattle.std.proofs.Common.{◌≡◌, ℕ, zero, suc, ◌+◌, ◌<◌, ◌≤◌, Bool, true, false, not, ◌&&◌, ◌||◌, cond, max, List, [], ◌∷◌, ◌++◌, Option, Some, None, ◌⊎◌, inl, inr, ⊎_elim, refl, sym, ap, ap₂, ◌∙◌, subst, arith, nat_eq, eq-eqb, eqb-true, ne_eqb, true≢false, length, length-append, nat_lt, ltb-true, ltb-false}
-use Rattle.std.proofs.lemmas.Bool.{eqb-false}
+use Rattle.std.proofs.Common.{◌≡◌, ℕ, Bool, true, false, ◌||◌, List, [], ◌∷◌, ◌++◌, Option, Some, None, ◌⊎◌, inl, inr, ⊎_elim, refl, sym, ap, ◌∙◌, subst, nat_eq, eq-eqb, eqb-true, true≢false, length}
 use Rattle.std.proofs.lemmas.Option.{none-some}
-use Rattle.wf_layers.specs.Definition.{Status, Need, Names, Pace, InTurn, AtMost, Kind, Leaf, Scope, Choice, Foreach, Until, Branches, no_branch, branch, Graph, done, add, is_one, less_one, branch_at, holds, has, has_any, shows, plain, plain_any, has_own, needs_in, needs_of, needs_any, kind_in, kind_of, kind_any, IsBefore, next, more, IsDepth, ClosedIn, ClosedAny, Closed, Goes, TurnsIn, TurnsAny, Turns}
-use Rattle.wf_layers.specs.Address.{Address, address, Table, same_at, starts, is_own, is_in, is_within, is_among, owner, Lower, earlier_in, earlier_any, together, IsEarlier, SeenIn}
-use Rattle.wf_layers.specs.Source.{Source, is_listed, is_met, all_met, gate, leaf, Agrees, AgreesIn, AgreesInside, GateLocal, StartLocal, FinishLocal, CloseLocal, DecideLocal, TestLocal, SoundIn, SoundAny, Sound}
-use Rattle.wf_layers.specs.Meaning.{only, layers, turns, sides, loop, rounds, last, deepest, rank, skip, skip_all, run, run_any, layer, meaning}
-use Rattle.wf_layers.specs.Rule.{look_in, look_any, look, Obeys}
-use Rattle.wf_layers.proofs.Basics.{two, and_in, and_of, front, back, fork, apart, not_true, same_self, same_self_at, starts_self, starts_outer, index_once, when, unless, only_same, cond_same, in_within, rest_within, other_within, own_in, held_in, inner_not_own, rank_below, falls_rank, none_inside, any_within, among_here, among_there, beside_not, longer, some_turn, sides_out, sides_at, rounds_same}
-use Rattle.wf_layers.proofs.Layers.{out_layer, out_layers, off_layer, before_layers, after_layers, body, other_turn, turns_out, turns_at, gate_same, leaf_same}
-
-use Rattle.wf_layers.specs.Machine.{Running, Opening, State, fresh, In, here, there, IsOpen, top, scope, chosen, turn, round, has_ended, is_ended, all_ended, unfinished, or_else, place, one, without, opened, Event, Start, Try, End, Skip, Open, Begin, Test, Close, IsContainer, in_others, skip_others, passed_over, MayBegin, MayTest, MayClose, closing, IsThere, IsDecided, Step, Run, IsOver}
-use Rattle.wf_layers.proofs.Tables.{same_at_is, same_starts, own_is, own_self, Within, one_is, one_within, place_split, place_none, place_agrees, place_fills, place_within, own_placed, without_split, opened_split, either_or, or_true, held, later', skip_in, skip_all_in, shows_holds, any_plain, plain_has, holds_in, any_in, has_in, inner_name, inner_of, branch_none, taken_has, taken_within}
-use Rattle.wf_layers.proofs.Places.{Stands, within_of, or_right, or_none, stands, taken_sound, taken_kind, taken_needs, taken_look, taken_joined, taken_joins}
+use Rattle.wf_layers.specs.Definition.{Need, Kind, Scope, Choice, Foreach, Until, Branches, no_branch, branch, Graph, done, add, is_one, less_one, branch_at, holds, has, shows, plain, plain_any, kind_in, kind_of, kind_any, IsBefore}
+use Rattle.wf_layers.specs.Address.{address, Table, starts, SeenIn}
+use Rattle.wf_layers.specs.Source.{Source, SoundAny, Sound}
+use Rattle.wf_layers.specs.Rule.{Obeys}
+use Rattle.wf_layers.proofs.Basics.{two, and_of, not_true, same_self, starts_self, when, unless, own_in, held_in}
+use Rattle.wf_layers.specs.Machine.{Opening, In, here, there, IsOpen, top, scope, chosen, turn, round}
+use Rattle.wf_layers.proofs.Tables.{held, later', shows_holds, any_plain, plain_has, holds_in, any_in, has_in, taken_has}
+use Rattle.wf_layers.proofs.Places.{or_right, or_none, stands}
 use Rattle.wf_layers.proofs.Open.{Sub, Placed, open_sub, placed_in}
 
 -- WHERE AN ACTION STANDS AS SEEN FROM AN OPEN GRAPH
@@ -23,10 +19,10 @@ place_of_kind (add q after k rest) n kind e =
     ⊎_elim
     (λ t. let v : Some k ≡ Some kind = sym (when (nat_eq q n) (Some k) _ t) ∙ e in let is : k ≡ kind = cc in (q, after, k, here, inl (eqb-true q n t, is)))
     (λ u. let e' = sym (unless (nat_eq q n) (Some k) _ u) ∙ e in
-      ⊎_elim
-      (λ t. (q, after, k, here, inr (t, sym (when (holds k n) (kind_in k n) (kind_of rest n) t) ∙ e')))
-      (λ t. let r = place_of_kind rest n kind (sym (unless (holds k n) (kind_in k n) (kind_of rest n) t) ∙ e') in (r.0, r.1, r.2, there r.3, r.4))
-      (two (holds k n)))
+    ⊎_elim
+    (λ t. (q, after, k, here, inr (t, sym (when (holds k n) (kind_in k n) (kind_of rest n) t) ∙ e')))
+    (λ t. let r = place_of_kind rest n kind (sym (unless (holds k n) (kind_in k n) (kind_of rest n) t) ∙ e') in (r.0, r.1, r.2, there r.3, r.4))
+    (two (holds k n)))
     (two (nat_eq q n))
 
 module _ {Row Begun Decision Verdict : Type 0} (m : Source Row Begun Decision Verdict) (d : Graph) (so : Sound m (SeenIn d) d 0) (f : Table Row) (sol : Obeys m d f) where
@@ -54,11 +50,11 @@ module _ {Row Begun Decision Verdict : Type 0} (m : Source Row Begun Decision Ve
   taken_plain (branch a rest) l c b s e q h =
       ⊎_elim
       (λ t. let v : Some a ≡ Some b = sym (when (is_one c) (Some a) _ t) ∙ e in let is : a ≡ b = cc in
-        let nr = not_true (plain_any rest q) (λ z. true≢false (sym (any_plain rest q z) ∙ s.0 q (subst (λ g. has g q ≡ true) (sym is) h))) in
-        ap (λ x. plain a q || x) nr ∙ or_false (plain a q) ∙ ap (λ g. plain g q) is)
+      let nr = not_true (plain_any rest q) (λ z. true≢false (sym (any_plain rest q z) ∙ s.0 q (subst (λ g. has g q ≡ true) (sym is) h))) in
+      ap (λ x. plain a q || x) nr ∙ or_false (plain a q) ∙ ap (λ g. plain g q) is)
       (λ u. let e' = sym (unless (is_one c) (Some a) _ u) ∙ e in
-        let na = not_true (plain a q) (λ z. true≢false (sym (taken_has b rest (less_one c) e' q h) ∙ s.0 q (plain_has a q z))) in
-        ap (λ x. x || plain_any rest q) na ∙ taken_plain rest l (less_one c) b s.2 e' q h)
+      let na = not_true (plain a q) (λ z. true≢false (sym (taken_has b rest (less_one c) e' q h) ∙ s.0 q (plain_has a q z))) in
+      ap (λ x. x || plain_any rest q) na ∙ taken_plain rest l (less_one c) b s.2 e' q h)
       (two (is_one c))
     where
       or_false : (p : Bool) → (p || false) ≡ p
@@ -70,17 +66,17 @@ module _ {Row Begun Decision Verdict : Type 0} (m : Source Row Begun Decision Ve
   taken_not no_branch l c b s e n kind k nb q h = absurd (none-some b e)
   taken_not (branch a rest) l c b s e n kind k nb q h =
       not_true (holds kind q) (λ z.
-        ⊎_elim
-        (λ t. let v : Some a ≡ Some b = sym (when (is_one c) (Some a) _ t) ∙ e in let is : a ≡ b = cc in
-          let na = subst (λ g. has g n ≡ false) (sym is) nb in
-          let k' = sym (unless (has a n) (kind_of a n) (kind_any rest n) na) ∙ k in
-          true≢false (sym (any_in rest n q kind k' z) ∙ s.0 q (subst (λ g. has g q ≡ true) (sym is) h)))
-        (λ u. let e' = sym (unless (is_one c) (Some a) _ u) ∙ e in
-          ⊎_elim
-          (λ ha. true≢false (sym (taken_has b rest (less_one c) e' q h) ∙ s.0 q (has_in a n q kind (sym (when (has a n) (kind_of a n) (kind_any rest n) ha) ∙ k) z)))
-          (λ na. true≢false (sym z ∙ taken_not rest l (less_one c) b s.2 e' n kind (sym (unless (has a n) (kind_of a n) (kind_any rest n) na) ∙ k) nb q h))
-          (two (has a n)))
-        (two (is_one c)))
+      ⊎_elim
+      (λ t. let v : Some a ≡ Some b = sym (when (is_one c) (Some a) _ t) ∙ e in let is : a ≡ b = cc in
+      let na = subst (λ g. has g n ≡ false) (sym is) nb in
+      let k' = sym (unless (has a n) (kind_of a n) (kind_any rest n) na) ∙ k in
+      true≢false (sym (any_in rest n q kind k' z) ∙ s.0 q (subst (λ g. has g q ≡ true) (sym is) h)))
+      (λ u. let e' = sym (unless (is_one c) (Some a) _ u) ∙ e in
+      ⊎_elim
+      (λ ha. true≢false (sym (taken_has b rest (less_one c) e' q h) ∙ s.0 q (has_in a n q kind (sym (when (has a n) (kind_of a n) (kind_any rest n) ha) ∙ k) z)))
+      (λ na. true≢false (sym z ∙ taken_not rest l (less_one c) b s.2 e' n kind (sym (unless (has a n) (kind_of a n) (kind_any rest n) na) ∙ k) nb q h))
+      (two (has a n)))
+      (two (is_one c)))
 
   -- all of the graph is inside the action: in no loop of it, and then it is open; or in a loop
   abbrev AllIn : Table (Opening Decision Verdict) → Graph → List ℕ → ℕ → Kind → Type 0
@@ -104,29 +100,30 @@ module _ {Row Begun Decision Verdict : Type 0} (m : Source Row Begun Decision Ve
       let pr = placed_in m d so f sol (length i) g r.0 r.1 r.2 sub r.3 in
       ⊎_elim
       (λ t. let same = eqb-true r.0 c t in
-        let v : Some r.2 ≡ Some kc = sym pr.own_kind ∙ ap (λ x. kind_of g x) same ∙ pl.own_kind in let is : r.2 ≡ kc = cc in
-        ⊎_elim
-        (λ z. inr (inl (subst (λ x. AllIn o h j x kind) (sym same ∙ z.0) (subst (λ x. AllIn o h j c x) (sym is ∙ z.1) own))))
-        (λ z. deeper (subst (λ x. holds x n ≡ true) is z.0) (subst (λ x. kind_in x n ≡ Some kind) is z.1))
-        r.4)
+      let v : Some r.2 ≡ Some kc = sym pr.own_kind ∙ ap (λ x. kind_of g x) same ∙ pl.own_kind in let is : r.2 ≡ kc = cc in
+      ⊎_elim
+      (λ z. inr (inl (subst (λ x. AllIn o h j x kind) (sym same ∙ z.0) (subst (λ x. AllIn o h j c x) (sym is ∙ z.1) own))))
+      (λ z. deeper (subst (λ x. holds x n ≡ true) is z.0) (subst (λ x. kind_in x n ≡ Some kind) is z.1))
+      r.4)
       (λ u. inr (inr (λ q hq. not_true (holds kind q) (λ z.
-        let in_r : holds r.2 q ≡ true = ⊎_elim (λ y. subst (λ x. holds x q ≡ true) (sym y.1) z) (λ y. holds_in r.2 n q kind y.1 z) r.4 in
-        let o1 = pr.owned i (address q i) (held_in r.0 r.2 i (address q i) (and_of (holds r.2 q) (starts i i) in_r (starts_self i))) in
-        let o2 = pl.owned i (address q i) (held_in c kc i (address q i) (and_of (holds kc q) (starts i i) (inner q hq) (starts_self i))) in
-        let v : Some r.0 ≡ Some c = sym o1 ∙ o2 in let is : r.0 ≡ c = cc in
-        true≢false (sym (eq-eqb r.0 c is) ∙ u)))))
+      let in_r : holds r.2 q ≡ true = ⊎_elim (λ y. subst (λ x. holds x q ≡ true) (sym y.1) z) (λ y. holds_in r.2 n q kind y.1 z) r.4 in
+      let o1 = pr.owned i (address q i) (held_in r.0 r.2 i (address q i) (and_of (holds r.2 q) (starts i i) in_r (starts_self i))) in
+      let o2 = pl.owned i (address q i) (held_in c kc i (address q i) (and_of (holds kc q) (starts i i) (inner q hq) (starts_self i))) in
+      let v : Some r.0 ≡ Some c = sym o1 ∙ o2 in let is : r.0 ≡ c = cc in
+      true≢false (sym (eq-eqb r.0 c is) ∙ u)))))
       (two (nat_eq r.0 c))
   into_action o g h i j c after kc n kind sub st k inner own deeper showing (inr (inl all)) =
       let pl = placed_in m d so f sol (length i) g c after kc sub st in
       inr (inl (
         (λ q hq. all.0 q (pl.inner_has q (inner q hq))),
         ⊎_elim
-        (λ y. ⊎_elim
-          (λ z. inl ((λ q hq. y.0 q (pl.inner_has q (inner q hq)) ∙ plain_inner (length i) g c after kc sub.sound st q (inner q hq) ∙ z.0 q hq), subst (λ x. o (address n x) ≡ None → ⊥) z.1 y.1))
-          (λ z. inr (λ q hq. y.0 q (pl.inner_has q (inner q hq)) ∙ plain_inner (length i) g c after kc sub.sound st q (inner q hq) ∙ z q hq))
-          showing)
-        (λ y. inr (λ q hq. y q (pl.inner_has q (inner q hq))))
-        all.1))
+            (λ y. ⊎_elim
+            (λ z. inl ((λ q hq. y.0 q (pl.inner_has q (inner q hq)) ∙ plain_inner (length i) g c after kc sub.sound st q (inner q hq) ∙ z.0 q hq), subst (λ x. o (address n x) ≡ None → ⊥) z.1 y.1))
+            (λ z. inr (λ q hq. y.0 q (pl.inner_has q (inner q hq)) ∙ plain_inner (length i) g c after kc sub.sound st q (inner q hq) ∙ z q hq))
+            showing)
+            (λ y. inr (λ q hq. y q (pl.inner_has q (inner q hq))))
+            all.1,
+      ))
   into_action o g h i j c after kc n kind sub st k inner own deeper showing (inr (inr out)) =
       let pl = placed_in m d so f sol (length i) g c after kc sub st in inr (inr (λ q hq. out q (pl.inner_has q (inner q hq))))
 
@@ -171,9 +168,9 @@ module _ {Row Begun Decision Verdict : Type 0} (m : Source Row Begun Decision Ve
       ⊎_elim
       (λ hg. own_not_inside hg)
       (λ r. ⊎_elim
-        (λ all. ⊎_elim (λ y. y.1 none) (λ y. true≢false (sym sh ∙ y q pq.own_has)) all.1)
-        (λ out. true≢false (sym (shows_holds kind q sh) ∙ out q pq.own_has))
-        r)
+      (λ all. ⊎_elim (λ y. y.1 none) (λ y. true≢false (sym sh ∙ y q pq.own_has)) all.1)
+      (λ out. true≢false (sym (shows_holds kind q sh) ∙ out q pq.own_has))
+      r)
       (position o g i og n kind k)
     where
       sub : Sub m d so f sol (length i) g
