@@ -1,5 +1,5 @@
 -- The least pointer of a flaw, place by place.
-use Rattle.std.proofs.Common.{◌≡◌, ℕ, suc, ◌+◌, ◌<◌, List, [], ◌∷◌, ◌++◌, map, length, drop, get_or, drop-cons, add-one, Bool, true, false, Option, Some, None, option_map, refl, sym, ap, ◌∙◌}
+use Rattle.std.proofs.Common.{◌≡◌, ℕ, suc, ◌+◌, ◌<◌, List, [], ◌∷◌, ◌++◌, map, length, drop, get_or, drop-cons, add-one, true, Option, Some, option_map, refl, sym, ap, ◌∙◌}
 use Rattle.serde_json.specs.Data as json
 use Rattle.wf_json.specs.Pointer.{item_step, member_step, lesser, least}
 use Rattle.wf_json.specs.Read.{has_flaw, flawed_places, flawed_items, flawed_members}

@@ -1,13 +1,14 @@
 -- The lesser of pointers, and the least of a list of them.
-use Rattle.std.proofs.Common.{◌≡◌, ℕ, zero, suc, ◌<◌, List, [], ◌∷◌, ◌++◌, length, get_or, flat_map, map, Option, Some, None, option_map, Ordering, Less, Equal, Greater, inl, inr, refl, sym, ap, ap₂, ◌∙◌, subst, arith, append_assoc, append-nil, ne_eqb}
-use Rattle.std.specs.Ordering.{nat_cmp, match_ordering, ordering_then, ordering_reverse}
-use Rattle.std.proofs.lemmas.Bool.{cases_lt}
+use Rattle.std.proofs.Common.{◌≡◌, ℕ, suc, ◌<◌, List, [], ◌∷◌, ◌++◌, length, get_or, flat_map, map, Option, Some, None, option_map, Ordering, Less, Equal, Greater, refl, sym, ap, ap₂, ◌∙◌, subst, arith, append_assoc, append-nil, ne_eqb}
+use Rattle.std.specs.Ordering.{match_ordering, ordering_reverse}
 use Rattle.std.proofs.lemmas.Str.{inside_one}
 use lib.Utf8.{encode}
 use Rattle.std.proofs.lemmas.Cmp.{nat_list_cmp_total, nat_cmp_total, tied_itself}
 use Rattle.std.proofs.lemmas.Map.Lookups.{exact_bytes}
 use Rattle.wf_val.specs.NameOrder.{bytes_cmp}
-use Rattle.wf_json.specs.Pointer.{escaped, lesser, least}
+use Rattle.std.proofs.lemmas.List.Elements.{All-cons}
+use Rattle.std.specs.Prelude.{slice_index_or}
+use Rattle.wf_json.specs.Pointer.{escaped, lesser, least, IsLeast}
 
 abbrev lower : List ℕ → List ℕ → List ℕ
 lower p q = match_ordering (bytes_cmp p q) p p q
@@ -66,6 +67,50 @@ lesser-front s p (Some q) = ap Some (lower-front s p q)
 pub least-front : (s : List ℕ) (ps : List (List ℕ)) → least (map (λ p. s ++ p) ps) ≡ option_map (λ p. s ++ p) (least ps)
 least-front s [] = refl
 least-front s (p ∷ ps) = ap (lesser (Some (s ++ p))) (least-front s ps) ∙ lesser-front s p (least ps)
+
+-- ---- the least is one of them, and none is below it
+
+pub least-none : (ps : List (List ℕ)) → least ps ≡ None → ps ≡ []
+least-none [] is = refl
+least-none (p ∷ ps) is = absurd (some_lesser p (least ps) is)
+  where
+    some_lesser : (p : List ℕ) (o : Option (List ℕ)) → lesser (Some p) o ≡ None → ⊥
+    some_lesser p None is = cc
+    some_lesser p (Some q) is = cc
+
+not_below_itself : (p : List ℕ) → bytes_cmp p p ≡ Less → ⊥
+not_below_itself p below = let tied = tied_itself nat_list_cmp_total p in cc
+
+first_or_rest : (p q : List ℕ) (ps : List (List ℕ)) (o : Ordering) → bytes_cmp p q ≡ o → IsLeast ps q → IsLeast (p ∷ ps) (match_ordering o p p q)
+first_or_rest p q ps Less is rest = record {
+  listed = (0, omega arith, refl);
+  lowest = All-cons (λ r. bytes_cmp r p ≡ Less → ⊥) p ps (not_below_itself p) (λ k d within below. rest.lowest k d within (nat_list_cmp_total.trans (slice_index_or ps k d) p q below is));
+}
+first_or_rest p q ps Equal is rest = record {
+  listed = (0, omega arith, refl);
+  lowest = All-cons (λ r. bytes_cmp r p ≡ Less → ⊥) p ps (not_below_itself p) (λ k d within below. rest.lowest k d within (subst (λ x. bytes_cmp (slice_index_or ps k d) x ≡ Less) (exact_bytes p q is) below));
+}
+first_or_rest p q ps Greater is rest = record {
+  listed = (suc rest.listed.0, omega (arith, rest.listed.1), rest.listed.2);
+  lowest = All-cons (λ r. bytes_cmp r q ≡ Less → ⊥) p ps (λ below. cc) rest.lowest;
+}
+
+alone : (q p : List ℕ) (ps : List (List ℕ)) → least ps ≡ None → q ≡ p → IsLeast (q ∷ ps) p
+alone q p ps none same =
+    subst (λ r. IsLeast (q ∷ ps) r) same (subst (λ rs. IsLeast (q ∷ rs) q) (sym (least-none ps none)) (record {
+      listed = (0, omega arith, refl);
+      lowest = All-cons (λ r. bytes_cmp r q ≡ Less → ⊥) q [] (not_below_itself q) (λ k d within. absurd (omega arith));
+    }))
+
+by_rest : (q p : List ℕ) (ps : List (List ℕ)) (o : Option (List ℕ)) → ((r : List ℕ) → least ps ≡ Some r → IsLeast ps r) → least ps ≡ o → lesser (Some q) o ≡ Some p → IsLeast (q ∷ ps) p
+by_rest q p ps None rest none one = alone q p ps none (cc)
+by_rest q p ps (Some r) rest some one =
+    let same : match_ordering (bytes_cmp q r) q q r ≡ p = cc in
+    subst (λ x. IsLeast (q ∷ ps) x) same (first_or_rest q r ps (bytes_cmp q r) refl (rest r some))
+
+pub least-IsLeast : (ps : List (List ℕ)) (p : List ℕ) → least ps ≡ Some p → IsLeast ps p
+least-IsLeast [] p is = absurd (cc)
+least-IsLeast (q ∷ ps) p is = by_rest q p ps (least ps) (least-IsLeast ps) refl is
 
 -- ---- escapes
 

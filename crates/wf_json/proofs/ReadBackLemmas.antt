@@ -1,9 +1,7 @@
 -- The JSON text of a well formed value reads as that value.
-use Rattle.std.proofs.Common.{◌≡◌, ◌≤◌, ◌<◌, ◌+◌, ◌-◌, ◌^◌, ◌==◌, ℕ, zero, suc, max, pos, negsuc, List, [], ◌∷◌, ◌++◌, map, Option, Some, None, option_map, option_and_then, Result, Ok, Bool, true, false, cond, decimal, IsUtf8, Less, Greater, refl, ap, ap₂, sym, ◌∙◌, subst, arith, append_assoc, append-nil, ne_eqb}
-use Rattle.std.specs.Fmt.{signed_decimal}
+use Rattle.std.proofs.Common.{◌≡◌, ◌≤◌, ◌<◌, ◌-◌, ◌^◌, ℕ, suc, pos, negsuc, List, [], ◌∷◌, ◌++◌, Option, Some, None, option_map, option_and_then, Ok, true, false, cond, decimal, IsUtf8, Less, Greater, refl, ap, ap₂, sym, ◌∙◌, subst, arith, append_assoc, append-nil, ne_eqb}
 use Rattle.std.specs.Str.{IsAscii, is_utf8}
-use Rattle.std.specs.Ordering.{nat_cmp, ordering_reverse}
-use Rattle.std.specs.Cmp.Lexicographic.{slice_cmp}
+use Rattle.std.specs.Ordering.{ordering_reverse}
 use Rattle.std.specs.List.{AllByRecursion}
 use Rattle.std.proofs.lemmas.Bool.{lt-ltb}
 use Rattle.std.proofs.lemmas.Cmp.{nat_list_cmp_total}
@@ -11,7 +9,7 @@ use Rattle.std.proofs.lemmas.Fmt.{IsAscii-decimal}
 use Rattle.std.proofs.lemmas.Str.{IsUtf8-append, IsUtf8-nil, IsUtf8-from_ascii, is_utf8-from_IsUtf8}
 use Rattle.json.specs.Token.{Token}
 use Rattle.json.specs.Lex.{tokens}
-use Rattle.json.specs.Print.{print, ArePrintable, quoted}
+use Rattle.json.specs.Print.{ArePrintable}
 use Rattle.json.specs.Json as grammar
 use Rattle.json.specs.Tree as spelled
 use Rattle.json.proofs.Printed.Tokens.{tokens-print}
@@ -20,7 +18,7 @@ use Rattle.json.proofs.Printed.Trees.{value-json_tokens}
 use Rattle.json.proofs.Printed.Utf8.{IsUtf8-quoted, IsUtf8-are_ascii}
 use Rattle.serde_json.specs.Data as json
 use Rattle.serde_json.specs.Read as reader
-use Rattle.serde_json.specs.Written.{outline, items_outline, members_outline, compact_text}
+use Rattle.serde_json.specs.Written.{outline, items_outline, members_outline}
 use Rattle.serde_json.proofs.Numbers.{number_of-decimal, number_of-negative}
 use Rattle.serde_json.proofs.Texts.{print-outline}
 use Rattle.wf_val.specs.Get.{name_of}
@@ -29,10 +27,9 @@ use Rattle.wf_val.specs.ValueTree as value
 use Rattle.wf_val.specs.WellFormed.{IsWellFormed, AllWellFormed, AllMembersWellFormed}
 use Rattle.wf_json.specs.Json as text
 use Rattle.wf_json.specs.Pointer.{least}
-use Rattle.wf_json.specs.Read.{after_mark, json_of, greatest_nesting, has_flaw, flawed_places, flawed_items, flawed_members, least_flaw, value_unless, value_of, values_of, members_of, read_json, read_value, whole}
+use Rattle.wf_json.specs.Read.{after_mark, json_of, greatest_nesting, flawed_places, flawed_items, flawed_members, value_unless, value_of, values_of, members_of, read_json, read_value}
 use Rattle.wf_json.specs.Sent as sent
 use Rattle.wf_json.specs.declared.fault.Flaw.{Flaw}
-use Rattle.wf_json.specs.declared.fault.JsonFault.{JsonFault}
 use Rattle.wf_json.proofs.SentLemmas.{compact-json, quoted-string}
 
 -- ---- numbers

@@ -1,5 +1,5 @@
 -- The text of a value that is sent, and its parts.
-use Rattle.std.proofs.Common.{◌≡◌, ◌<◌, ◌≤◌, ◌+◌, ◌/◌, ◌%◌, ℕ, zero, suc, pos, negsuc, List, [], ◌∷◌, ◌++◌, length, map, get_or, Bool, true, false, cond, ◌==◌, nat_lt, flat_map, inl, inr, refl, ap, ap₂, sym, ◌∙◌, subst, arith, append_assoc, ne_eqb}
+use Rattle.std.proofs.Common.{◌≡◌, ◌<◌, ◌≤◌, ℕ, zero, suc, pos, negsuc, List, [], ◌∷◌, ◌++◌, length, map, get_or, true, false, flat_map, inl, inr, refl, ap, ap₂, sym, ◌∙◌, subst, arith, append_assoc, ne_eqb}
 use Rattle.std.proofs.lemmas.Bool.{cases_eq}
 use Rattle.json.specs.Print.{escape_byte, quoted}
 use Rattle.serde_json.specs.Written.{has_float, items_have_float, members_have_float, compact_text, items_text, members_text}

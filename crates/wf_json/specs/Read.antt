@@ -1,5 +1,5 @@
 -- What the bytes of a file mean: a value, or why they are none.
-use Rattle.std.specs.Prelude.{ℕ, ◌-◌, ◌^◌, suc, ℤ, pos, List, [], ◌∷◌, ◌++◌, drop, map, Bool, true, false, ◌==◌, nat_eq, nat_lt, if◌then◌else◌, Option, Some, None, is_none, unwrap_or, Result, Ok, Err}
+use Rattle.std.specs.Prelude.{ℕ, ◌-◌, ◌^◌, suc, ℤ, pos, List, [], ◌∷◌, ◌++◌, drop, map, Bool, false, ◌==◌, nat_eq, nat_lt, if◌then◌else◌, Option, Some, None, is_none, unwrap_or, Result, Ok, Err}
 use Rattle.std.specs.Str.{is_utf8}
 use Rattle.std.specs.List.{starts_with}
 use Rattle.serde_json.specs.Data as json
@@ -69,6 +69,7 @@ least_flaw flaw d = least (flawed_places flaw greatest_nesting d)
 
 -- ---- its value
 
+-- the value of a tree without flaws: a number that isn't whole has none, and is refused before its value is asked
 abbrev mutual
   pub value_of : json.Data → value.ValueTree
   value_of json.null = value.null

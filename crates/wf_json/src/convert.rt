@@ -41,6 +41,7 @@ fn convert_members(alloc: Global, members: Map<String, Value>) -> Result<Fields,
     ensures { IfOk result (λ f. member_trees f ≡ members_of (members_view members.entries)) }
 {
     let mut fields = Fields::new(alloc);
+    // that the names come in order is told by a call on the map alone
     let _count = members.len();
     for (name, member) in members {
         fields.append(Text::from_string(name), convert(alloc, member)?)?;

@@ -44,7 +44,8 @@ fn least_in(
     room: u32,
     value: &Value,
 ) -> Result<Option<String>, AllocError>
-    ensures { IfOk result (λ p. option_map string_bytes p ≡ least (flawed_places flaw room (view value.now))) }
+    ensures { IfOk result
+        (λ p. option_map string_bytes p ≡ least (flawed_places flaw room (view value.now))) }
 {
     if flaw.is_at(room, value) {
         return Ok(Some(String::new(alloc)));
@@ -63,7 +64,8 @@ fn least_in_items(
     room: u32,
     items: &Vec<Value>,
 ) -> Result<Option<String>, AllocError>
-    ensures { IfOk result (λ p. option_map string_bytes p ≡ least (flawed_items flaw room 0 (items_view items.now.items))) }
+    ensures { IfOk result (λ p. option_map string_bytes p
+        ≡ least (flawed_items flaw room 0 (items_view items.now.items))) }
 {
     let mut best = None;
     for (place, item) in items.iter().enumerate() {
@@ -79,7 +81,8 @@ fn least_in_members(
     room: u32,
     members: &Map<String, Value>,
 ) -> Result<Option<String>, AllocError>
-    ensures { IfOk result (λ p. option_map string_bytes p ≡ least (flawed_members flaw room (members_view members.now.entries))) }
+    ensures { IfOk result (λ p. option_map string_bytes p
+        ≡ least (flawed_members flaw room (members_view members.now.entries))) }
 {
     let mut best = None;
     for (name, member) in members.iter() {
@@ -149,7 +152,8 @@ fn step_to(alloc: Global, name: &str) -> Result<String, AllocError>
 
 // The lesser pointer, where there is one already.
 fn lesser_of(best: Option<String>, found: String) -> String
-    ensures { Some (string_bytes result) ≡ lesser (option_map string_bytes best) (Some (string_bytes found)) }
+    ensures { Some (string_bytes result)
+        ≡ lesser (option_map string_bytes best) (Some (string_bytes found)) }
 {
     match best {
         None => found,

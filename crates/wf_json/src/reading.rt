@@ -10,8 +10,9 @@ use serde_json::Value;
 use std::alloc::Global;
 use wf_val::{Text, Val};
 
-/// The value that the bytes are the JSON text of. One leading byte order mark is dropped, and of members with one name the last stands.
-/// A member that a later one of its name replaces has to be JSON, and isn't looked at further.
+/// The value that the bytes are the JSON text of. One leading byte order mark is dropped, and of
+/// members with one name the last stands. A member that a later one of its name replaces has to be
+/// JSON, and isn't looked at further.
 pub fn read(alloc: Global, bytes: &[u8]) -> Result<Val, JsonFault>
     ensures value { IfOk result (λ v. read_value bytes.now ≡ Ok (tree v)) }
     ensures fault { IfErr result (λ e. e ≢ JsonFault.Memory → read_value bytes.now ≡ Err e) }

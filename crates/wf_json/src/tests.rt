@@ -1,9 +1,11 @@
-// What the standard says of JSON texts (RFC 8259) and pointers (RFC 6901), and what a workflow's files may hold.
+// What the standards say of JSON texts (RFC 8259) and pointers (RFC 6901), and what a workflow's
+// files may hold.
 use crate::{JsonFault, read, text, write};
 use std::alloc::Global;
 use std::test::Fail;
 
-// A text, and what it is written as or its fault. The first are the examples of section 13 of the standard, in part.
+// A text, and what it is written as or its fault. The first are the examples of section 13 of the
+// standard, in part.
 const TEXTS: &str = r#""Hello world!" => "Hello world!"
 42 => 42
  true  => true

@@ -10,7 +10,8 @@ use serde::{Described, Serialize, Serializer};
 use std::alloc::{AllocError, Global};
 use wf_val::{Fields, Text, Val, Vals};
 
-/// The JSON text of a value, without white space and with the members in the byte order of their names.
+/// The JSON text of a value, without white space and with the members in the byte order of their
+/// names.
 pub fn write(alloc: Global, value: &Val) -> Result<Vec<u8>, AllocError>
     ensures { IfOk result (λ b. b.items ≡ json (tree value.now)) }
 {

@@ -70,7 +70,7 @@ module _ {Row Begun Decision Verdict : Type 0} (m : Source Row Begun Decision Ve
           (two (plain b q))
 
   -- and no other has one
-  others_only : (bs : Branches) (c : ℕ) (i : List ℕ) (x : Address) (r : Row) → skip_others m bs c i x ≡ Some r → (plain_any bs x.name ≡ true) × (same_at i x.at ≡ true)
+  pub others_only : (bs : Branches) (c : ℕ) (i : List ℕ) (x : Address) (r : Row) → skip_others m bs c i x ≡ Some r → (plain_any bs x.name ≡ true) × (same_at i x.at ≡ true)
   others_only no_branch c i x r e = absurd (none-some r e)
   others_only (branch b rest) c i x r e =
       ⊎_elim

@@ -7,11 +7,12 @@ use Rattle.wf_layers.specs.Source.{Source, gate, SoundIn, SoundAny, Sound}
 use Rattle.wf_layers.specs.Meaning.{only, skip, skip_all, meaning}
 use Rattle.wf_layers.specs.Rule.{look_in, look_any, look, Obeys}
 use Rattle.wf_layers.proofs.Basics.{two, and_in, and_of, apart, not_true, same_self, when, unless, in_within, rest_within, held_in, inner_not_own, among_here, among_there}
-use Rattle.wf_layers.specs.Machine.{in_others}
+use Rattle.wf_layers.specs.Machine.{in_others, skip_others}
 use Rattle.wf_layers.proofs.Tables.{either_or, or_true, held, later'}
 use Rattle.wf_layers.specs.Laws.{IsFresh}
 use Rattle.wf_layers.specs.Redo.{HoldsChosen, RedoIn, RedoAny, RedoOf}
 use Rattle.wf_layers.specs.Resubmission.{kept, PassedIn, PassedAny, Passed, IsResubmission, IsSetResubmission, OthersKept}
+use Rattle.wf_layers.proofs.Others.{others_among, look_others}
 use Rattle.wf_layers.proofs.Meaning.{meaning_solves}
 use Rattle.wf_layers.proofs.Redo.{kind_redone, kind_apart, kind_touched, walk_touched, none_again, not_moving, redo_splits}
 
@@ -59,16 +60,16 @@ module _ {Row Begun Decision Verdict : Type 0} (a : Source Row Begun Decision Ve
         (λ e. chosen_plain rest w up t.5 q e c) h
 
   -- in a branch that isn't taken, none is chosen, so nothing is redone for itself or closed again
-  abbrev Passes' : Graph → Type 0
+  abbrev pub Passes' : Graph → Type 0
   Passes' b = (q : ℕ) → has b q ≡ true → chosen q ≡ false
 
-  skipped_none : (b : Graph) (up : Bool) → RedoOf d chosen redo again up b b → ((x : Address) → is_within b [] x ≡ true → r x ≡ skip_all a b [] x) → Passes' b
+  pub skipped_none : (b : Graph) (up : Bool) → RedoOf d chosen redo again up b b → ((x : Address) → is_within b [] x ≡ true → r x ≡ skip_all a b [] x) → Passes' b
   skipped_none b up t skips q h =
       not_true (chosen q) (λ c.
       ran q c (skips (address q []) (and_of (has b q) true h refl) ∙ when (plain b q && true) (Some a.skipped) None (and_of (plain b q) true (chosen_plain b b up t q h c) refl)))
 
   -- and in a container that didn't run
-  failed_none : (n : ℕ) (kind : Kind) → RedoIn d chosen redo again kind n → ((x : Address) → is_in n kind [] x ≡ true → r x ≡ skip a n kind [] x) → HoldsChosen d chosen kind → ⊥
+  pub failed_none : (n : ℕ) (kind : Kind) → RedoIn d chosen redo again kind n → ((x : Address) → is_in n kind [] x ≡ true → r x ≡ skip a n kind [] x) → HoldsChosen d chosen kind → ⊥
   failed_none n kind t skips c =
       ran c.0 c.2 (skips (address c.0 []) (and_of (nat_eq n c.0 || holds kind c.0) true (or_right' (nat_eq n c.0) (holds kind c.0) c.1) refl)
       ∙ when ((nat_eq n c.0 || shows kind c.0) && true) (Some a.skipped) None (and_of (nat_eq n c.0 || shows kind c.0) true (or_right' (nat_eq n c.0) (shows kind c.0) (chosen_shows kind n t c.0 c.1 c.2)) refl))
@@ -156,14 +157,14 @@ module _ {Row Begun Decision Verdict : Type 0} (a : Source Row Begun Decision Ve
       (two (is_within b [] y))
 
   mutual
-    kind_others : (kind : Kind) (n l : ℕ) (Sees : Address → Address → Type 0) → holds kind n ≡ false → SoundIn a Sees kind n l → RedoIn d chosen redo again kind n → FollowedIn kind n → (q : ℕ) (bs : Branches) → again q ≡ true → kind_in kind q ≡ Some (Choice bs) → holds kind q ≡ true → (y : Address) → in_others bs (a.taken (a.decide (address q []) r)) [] y ≡ true → kept redo again y.name ≡ true
+    kind_others : (kind : Kind) (n l : ℕ) (Sees : Address → Address → Type 0) → holds kind n ≡ false → SoundIn a Sees kind n l → RedoIn d chosen redo again kind n → FollowedIn kind n → (q : ℕ) (bs : Branches) → again q ≡ true → kind_in kind q ≡ Some (Choice bs) → holds kind q ≡ true → (y : Address) → in_others bs (a.taken (a.decide (address q []) r)) [] y ≡ true → (kept redo again y.name ≡ true) × (r y ≡ skip_others a bs (a.taken (a.decide (address q []) r)) [] y)
     kind_others Leaf n l Sees nh so t f q bs e k h = absurd (true≢false (sym h))
     kind_others (Scope g) n l Sees nh so t f q bs e k h = graph_others g g (redo n) l Sees so.2 t (λ x w. f x (held_in n (Scope g) [] x w) ∙ inner_rule' (Scope g) n _ _ (is_within g [] x) x nh w w) q bs e k
     kind_others (Choice bb) n l Sees nh so t f q bs e k h = any_others bb (redo n) (a.taken (a.decide (address n []) r)) l Sees so.2 t (λ x w. f x (held_in n (Choice bb) [] x w) ∙ inner_rule' (Choice bb) n _ _ (is_among bb [] x) x nh w w) q bs e k
     kind_others (Foreach pace g) n l Sees nh so t f q bs e k h = absurd (true≢false (sym e ∙ none_again d chosen redo again g (redo n) t.0 t.1 q h))
     kind_others (Until most g) n l Sees nh so t f q bs e k h = absurd (true≢false (sym e ∙ none_again d chosen redo again g (redo n) t.0 t.1 q h))
 
-    any_others : (bb : Branches) (up : Bool) (c l : ℕ) (Sees : Address → Address → Type 0) → SoundAny a Sees bb l → RedoAny d chosen redo again up bb → ((x : Address) → is_among bb [] x ≡ true → r x ≡ look_any a bb c [] r x) → (q : ℕ) (bs : Branches) → again q ≡ true → kind_any bb q ≡ Some (Choice bs) → (y : Address) → in_others bs (a.taken (a.decide (address q []) r)) [] y ≡ true → kept redo again y.name ≡ true
+    any_others : (bb : Branches) (up : Bool) (c l : ℕ) (Sees : Address → Address → Type 0) → SoundAny a Sees bb l → RedoAny d chosen redo again up bb → ((x : Address) → is_among bb [] x ≡ true → r x ≡ look_any a bb c [] r x) → (q : ℕ) (bs : Branches) → again q ≡ true → kind_any bb q ≡ Some (Choice bs) → (y : Address) → in_others bs (a.taken (a.decide (address q []) r)) [] y ≡ true → (kept redo again y.name ≡ true) × (r y ≡ skip_others a bs (a.taken (a.decide (address q []) r)) [] y)
     any_others no_branch up c l Sees so t f q bs e k = absurd (none-some (Choice bs) k)
     any_others (branch b rest) up c l Sees so t f q bs e k =
         ⊎_elim
@@ -174,7 +175,7 @@ module _ {Row Begun Decision Verdict : Type 0} (a : Source Row Begun Decision Ve
         (λ h. any_others rest up (less_one c) l Sees so.2 t.1 (λ x w. f x (among_there b rest [] x w) ∙ unless (is_within b [] x) _ _ (apart (has b x.name) (has_any rest x.name) true (so.0 x.name) w)) q bs e (sym (unless (has b q) (kind_of b q) (kind_any rest q) h) ∙ k))
         (two (has b q))
 
-    graph_others : (g w : Graph) (up : Bool) (l : ℕ) (Sees : Address → Address → Type 0) → Sound a Sees g l → RedoOf d chosen redo again up g w → Followed g → (q : ℕ) (bs : Branches) → again q ≡ true → kind_of g q ≡ Some (Choice bs) → (y : Address) → in_others bs (a.taken (a.decide (address q []) r)) [] y ≡ true → kept redo again y.name ≡ true
+    graph_others : (g w : Graph) (up : Bool) (l : ℕ) (Sees : Address → Address → Type 0) → Sound a Sees g l → RedoOf d chosen redo again up g w → Followed g → (q : ℕ) (bs : Branches) → again q ≡ true → kind_of g q ≡ Some (Choice bs) → (y : Address) → in_others bs (a.taken (a.decide (address q []) r)) [] y ≡ true → (kept redo again y.name ≡ true) × (r y ≡ skip_others a bs (a.taken (a.decide (address q []) r)) [] y)
     graph_others done w up l Sees so t f q bs e k = absurd (none-some (Choice bs) k)
     graph_others (add n after kind rest) w up l Sees so t f q bs e k =
         ⊎_elim
@@ -195,15 +196,24 @@ module _ {Row Begun Decision Verdict : Type 0} (a : Source Row Begun Decision Ve
         rule : (x : Address) → is_in n kind [] x ≡ true → r x ≡ cond (gate a after n [] r) (look_in a kind n [] r x) (skip a n kind [] x)
         rule x h = f x (in_within n after kind rest [] x h) ∙ when (is_in n kind [] x) _ (look a rest [] r x) h ∙ fresh_rule n after kind x
 
-        own_others : n ≡ q → kind ≡ Choice bs → (y : Address) → in_others bs (a.taken (a.decide (address q []) r)) [] y ≡ true → kept redo again y.name ≡ true
-        own_others same is y h =
-            branches_kept bs (redo q) (a.taken (a.decide (address q []) r)) l Sees (subst (λ x. redo x ≡ false) same (t.2 (subst (λ x. again x ≡ true) (sym same) e)).0)
-            (subst (λ z. SoundIn a Sees z n l) is so.3).2
-            (subst (λ x. RedoIn d chosen redo again (Choice bs) x) same (subst (λ z. RedoIn d chosen redo again z n) is t.4))
-            (λ x v.
-            subst (λ z. FollowedIn z q) is (subst (λ z. FollowedIn kind z) same (ran_in n after kind w up (t.2, t.4) rule (gate_of n after kind w up (t.2, t.4) rule (subst (λ x. again x ≡ true) (sym same) e)))) x (held_in q (Choice bs) [] x v)
-            ∙ inner_rule' (Choice bs) q _ _ (is_among bs [] x) x (subst (λ x. holds (Choice bs) x ≡ false) same (subst (λ z. holds z n ≡ false) is so.1)) v v)
-            y h
+        own_others : n ≡ q → kind ≡ Choice bs → (y : Address) → in_others bs (a.taken (a.decide (address q []) r)) [] y ≡ true → (kept redo again y.name ≡ true) × (r y ≡ skip_others a bs (a.taken (a.decide (address q []) r)) [] y)
+        own_others same is y h = (kept_there, ruled y (others_among bs c [] y h) ∙ look_others a bs c [] r y h)
+          where
+            c : ℕ
+            c = a.taken (a.decide (address q []) r)
+
+            ruled : (x : Address) → is_among bs [] x ≡ true → r x ≡ look_any a bs c [] r x
+            ruled x v =
+                subst (λ z. FollowedIn z q) is (subst (λ z. FollowedIn kind z) same (ran_in n after kind w up (t.2, t.4) rule (gate_of n after kind w up (t.2, t.4) rule (subst (λ x. again x ≡ true) (sym same) e)))) x (held_in q (Choice bs) [] x v)
+                ∙ inner_rule' (Choice bs) q _ _ (is_among bs [] x) x (subst (λ x. holds (Choice bs) x ≡ false) same (subst (λ z. holds z n ≡ false) is so.1)) v v
+
+            kept_there : kept redo again y.name ≡ true
+            kept_there =
+                branches_kept bs (redo q) (a.taken (a.decide (address q []) r)) l Sees (subst (λ x. redo x ≡ false) same (t.2 (subst (λ x. again x ≡ true) (sym same) e)).0)
+                (subst (λ z. SoundIn a Sees z n l) is so.3).2
+                (subst (λ x. RedoIn d chosen redo again (Choice bs) x) same (subst (λ z. RedoIn d chosen redo again z n) is t.4))
+                ruled
+                y h
 
 module _ {Row Begun Decision Verdict : Type 0} (d : Graph) (depth : ℕ → ℕ) (a b : Source Row Begun Decision Verdict) (chosen redo again : ℕ → Bool) (recall : Address → Decision) (falls : IsDepth d depth) (sa : Sound a (SeenIn d) d 0) (fa : IsFresh a) (rs : IsSetResubmission d depth a b chosen redo again recall) where
   sol : Obeys a d (meaning a depth d)
@@ -217,7 +227,8 @@ module _ {Row Begun Decision Verdict : Type 0} (d : Graph) (depth : ℕ → ℕ)
     closes = rs.closes;
   }
 
-  pub set_keeps_others : OthersKept d a redo again recall
+  pub set_keeps_others : OthersKept d a redo again (meaning a depth d) recall
   set_keeps_others n bs e k y h =
-      graph_others a fa d chosen redo again (meaning a depth d) rs.ran d d false 0 (SeenIn d) sa rs.redone.tree sol n bs e k y
-      (subst (λ p. in_others bs (a.taken p) [] y ≡ true) (rs.recalls n e) h)
+      subst (λ p. (kept redo again y.name ≡ true) × (meaning a depth d y ≡ skip_others a bs (a.taken p) [] y)) (sym (rs.recalls n e))
+      (graph_others a fa d chosen redo again (meaning a depth d) rs.ran d d false 0 (SeenIn d) sa rs.redone.tree sol n bs e k y
+      (subst (λ p. in_others bs (a.taken p) [] y ≡ true) (rs.recalls n e) h))

@@ -58,6 +58,7 @@ module _ {Row Begun Decision Verdict : Type 0} (m : Source Row Begun Decision Ve
 
         holds_it : (Held m d so f sol) (address n i) v
         holds_it = record {
+          is_leaf = ((kind_there m d so f sol) s.opens g i n after Leaf og st).0;
           as_begun = begins;
           so_far = omega arith;
           gives = λ u same. val ∙ ap (λ b. Some (m.finish (address n i) b f)) (sym begins) ∙ ap Some (sym (pl.sound.1 i refl u f (m.start (address n i) s.rows) same));
@@ -91,7 +92,7 @@ module _ {Row Begun Decision Verdict : Type 0} (m : Source Row Begun Decision Ve
         before = k.held (address n i) w e
 
         holds_it : (Held m d so f sol) (address n i) v
-        holds_it = record { as_begun = before.as_begun; so_far = lt; gives = before.gives }
+        holds_it = record { is_leaf = before.is_leaf; as_begun = before.as_begun; so_far = lt; gives = before.gives }
 
         RestAt : Address → Type 0
         RestAt x = (kind : Kind) → kind_of d x.name ≡ Some kind → (y : Address) → is_in x.name kind x.at y ≡ true → is_own x.name x.at y ≡ false → s.rows y ≡ f y

@@ -1,5 +1,5 @@
 -- The facts of each state that a run reaches.
-use Rattle.std.proofs.Common.{ℕ, ◌||◌, Some, refl, sym, ap, ◌∙◌, length}
+use Rattle.std.proofs.Common.{◌≡◌, ℕ, false, ◌||◌, List, [], Some, ⊎_elim, refl, sym, ap, ◌∙◌, length}
 use Rattle.std.proofs.lemmas.Option.{none-some}
 use Rattle.wf_layers.specs.Definition.{Choice, Graph, IsBefore}
 use Rattle.wf_layers.specs.Address.{Table, is_among, SeenIn}
@@ -7,14 +7,26 @@ use Rattle.wf_layers.specs.Source.{Source, gate}
 use Rattle.wf_layers.specs.Meaning.{skip, meaning}
 use Rattle.wf_layers.specs.Rule.{look_any}
 use Rattle.wf_layers.proofs.Basics.{unless, held_in}
-use Rattle.wf_layers.specs.Machine.{fresh}
+use Rattle.wf_layers.specs.Machine.{State, fresh, Event, Run}
 use Rattle.wf_layers.proofs.Places.{within_of}
 use Rattle.wf_layers.specs.Laws.{IsInstance, FactsOfStates}
 use Rattle.wf_layers.proofs.Others.{others_among, look_others}
 use Rattle.wf_layers.proofs.Open.{open_sub, placed_in, kind_there, fact_of, obey_in, inner_rule, follows}
 use Rattle.wf_layers.proofs.Keeps.{Keeps}
 use Rattle.wf_layers.proofs.Limit.{run_limited}
-use Rattle.wf_layers.proofs.Progress.{sol, kept_state}
+use Rattle.wf_layers.proofs.Progress.{sol, closed_is, nothing_special, kept_state}
+use Rattle.wf_layers.proofs.Busy.{Busy, run_busy}
+
+module _ {Row Begun Decision Verdict : Type 0} (d : Graph) (m : Source Row Begun Decision Verdict) (depth : ℕ → ℕ) (is : IsInstance d m depth) where
+  pub plain_of : (n : ℕ) → (m.pinned n || m.reclosed n) ≡ false
+  plain_of n = ap (λ b. b || m.reclosed n) (is.own n).0 ∙ (is.own n).1
+
+  -- in each reached state, what is running or open stands in an open graph and has no row
+  pub busy_state : (es : List Event) (s : State Row Begun Decision Verdict) → Run d m fresh es s → Busy m d is.local (meaning m depth d) (sol d m depth is) plain_of s
+  busy_state es s r =
+      run_busy m d is.local (meaning m depth d) (sol d m depth is) plain_of (closed_is m d is.local (meaning m depth d) (sol d m depth is) is.closed) (nothing_special d m depth is)
+      fresh es s (kept_state d m depth is [] fresh refl)
+      (record { there' = λ x h. absurd (⊎_elim (λ z. none-some z.0 z.1) (λ z. none-some z.0 z.1) h); no_row = λ x h. refl }) r
 
 module _ {Row Begun Decision Verdict : Type 0} (d : Graph) (m : Source Row Begun Decision Verdict) (depth : ℕ → ℕ) (is : IsInstance d m depth) where
   -- the facts of each state that a run reaches
@@ -22,6 +34,8 @@ module _ {Row Begun Decision Verdict : Type 0} (d : Graph) (m : Source Row Begun
   facts_of_states es s r = record {
     rows = k.placed.by;
     running = λ x w e. let h = k.held x w e in (h.as_begun, h.so_far, h.gives f (λ y see. refl) ∙ ap (λ b. Some (m.finish x b f)) h.as_begun);
+    stands = b.there';
+    no_row = b.no_row;
     before_row = k.behind;
     before_running = k.run_behind;
     before_open = λ x w e. k.open_behind x.name x.at w e;
@@ -53,3 +67,6 @@ module _ {Row Begun Decision Verdict : Type 0} (d : Graph) (m : Source Row Begun
 
       k : Keeps m d is.local (meaning m depth d) (sol d m depth is) s
       k = kept_state d m depth is es s r
+
+      b : Busy m d is.local f (sol d m depth is) (plain_of d m depth is) s
+      b = busy_state d m depth is es s r

@@ -30,6 +30,7 @@ module _ {Row Begun Decision Verdict : Type 0} (m : Source Row Begun Decision Ve
 
   -- a running leaf has begun as it does in f, and whatever rows its End sees that are those of f, it gives the row of f
   pub record Held (x : Address) (w : Running Begun) : Type 0 where
+    pub is_leaf : kind_of d x.name ≡ Some Leaf
     pub as_begun : w.begun ≡ m.start x f
     pub so_far : w.tries ≤ m.tries x w.begun
     pub gives : (u : Table Row) → Agrees (SeenIn d) x u f → f x ≡ Some (m.finish x w.begun u)

@@ -22,3 +22,13 @@ pub mod Chosen
 pub mod Bound
 pub mod Ends
 pub mod Bounded
+pub mod OneEvent
+pub mod Positions
+pub mod Busy
+pub mod Store
+pub mod OldTable
+pub mod Tests
+pub mod Shape
+pub mod Shaped
+pub mod Seen
+pub mod ExampleResubmission

@@ -410,7 +410,7 @@ module _ {Row Begun Decision Verdict : Type 0} (s : Source Row Begun Decision Ve
         (λ u. walk rest w l i li k f so.4 (part_rest w i k n after kind rest so.2 p) sees full clear x (other_within n after kind rest i x m u) ∙ sym (unless (is_in n kind i x) _ (look s rest i f x) u))
         (two (is_in n kind i x))
 
-  -- LEMMA M: the layered meaning obeys the local rule at every address of the definition
+  -- The layered meaning obeys the local rule at every address of the definition
   pub meaning_obeys : (g : Graph) → Sound s Sees g 0 → ((y z : Address) → Sees z y → (is_within g [] y ≡ true) × IsEarlier low g [] y z) → (x : Address) → is_within g [] x ≡ true → meaning s depth g x ≡ look s g [] (meaning s depth g) x
   meaning_obeys g so sees x w =
       walk g g 0 [] refl (λ y. None) (meaning s depth g) so (part_all g [] (λ y. None)) (λ z y m e. inl (sees y z e)) (λ y m. refl) (λ y m. refl) x w

@@ -1,8 +1,8 @@
 -- The branches that aren't taken.
-use Rattle.std.proofs.Common.{◌≡◌, ℕ, zero, suc, Bool, true, false, ◌||◌, cond, List, Some, None, ◌⊎◌, inl, inr, ⊎_elim, refl, sym, ap, ◌∙◌, subst, nat_eq, true≢false}
+use Rattle.std.proofs.Common.{◌≡◌, ℕ, zero, suc, Bool, true, false, ◌&&◌, ◌||◌, cond, List, Some, None, ◌⊎◌, inl, inr, ⊎_elim, refl, sym, ap, ◌∙◌, subst, nat_eq, true≢false}
 use Rattle.std.proofs.lemmas.Option.{none-some}
-use Rattle.wf_layers.specs.Definition.{Kind, Branches, no_branch, branch, Graph, is_one, less_one, branch_at, holds, has, has_any, kind_of, kind_any}
-use Rattle.wf_layers.specs.Address.{Address, Table, starts, is_in, is_within, is_among, earlier_any}
+use Rattle.wf_layers.specs.Definition.{Kind, Branches, no_branch, branch, Graph, is_one, less_one, branch_at, holds, has, has_any, plain, kind_of, kind_any}
+use Rattle.wf_layers.specs.Address.{Address, Table, same_at, starts, is_in, is_within, is_among, earlier_any}
 use Rattle.wf_layers.specs.Source.{Source, SoundAny}
 use Rattle.wf_layers.specs.Rule.{look_any}
 use Rattle.wf_layers.proofs.Basics.{two, and_in, and_of, fork, apart, not_true, when, unless, cond_same, any_within, among_here, among_there}
@@ -98,3 +98,19 @@ module _ {Row Begun Decision Verdict : Type 0} (m : Source Row Begun Decision Ve
       let h = others_inner Sees rest l (less_one c) so.2 i x r k e' (sym (unless (has b x.name) (kind_of b x.name) (kind_any rest x.name) nb) ∙ is) y t in
       unless (is_within b i y) _ _ (apart (has b y.name) (has_any rest y.name) (starts i y.at) (so.0 y.name) (others_among rest (less_one c) i y h)) ∙ h)
       (two (is_within b i x))
+
+  -- the rows placed there are Skipped ones
+  pub others_skipped : (bs : Branches) (c : ℕ) (i : List ℕ) (y : Address) (r : Row) → skip_others m bs c i y ≡ Some r → r ≡ m.skipped
+  others_skipped no_branch c i y r e = absurd (none-some r e)
+  others_skipped (branch b rest) c i y r e =
+      ⊎_elim
+      (λ w. ⊎_elim
+      (λ t. absurd (none-some r (sym (when (is_within b i y) _ _ w ∙ when (is_one c) None _ t) ∙ e)))
+      (λ u. of_all (plain b y.name && same_at i y.at) (sym (when (is_within b i y) _ _ w ∙ unless (is_one c) None _ u) ∙ e))
+      (two (is_one c)))
+      (λ w. others_skipped rest (less_one c) i y r (sym (unless (is_within b i y) _ _ w) ∙ e))
+      (two (is_within b i y))
+    where
+      of_all : (p : Bool) → cond p (Some m.skipped) None ≡ Some r → r ≡ m.skipped
+      of_all true e = let z : m.skipped ≡ r = cc in sym z
+      of_all false e = absurd (none-some r e)

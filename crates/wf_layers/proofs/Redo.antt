@@ -170,7 +170,7 @@ module _ (d : Graph) (chosen redo again : ℕ → Bool) where
       (λ u. let r = owner_in rest i y c (sym (unless (is_in n kind i y) (Some n) (owner rest i y) u) ∙ e) in (r.0, r.1, there r.2, r.3))
       (two (is_in n kind i y))
 
-  tree_at : (g w : Graph) (up : Bool) (c : ℕ) (before : List Need) (kind : Kind) → Tree up g w → In g c before kind → (redo c ≡ true → IsHit d chosen up w c) × (IsHit d chosen up w c → redo c ≡ true) × (again c ≡ true → (redo c ≡ false) × HoldsChosen d chosen kind) × (redo c ≡ false → HoldsChosen d chosen kind → again c ≡ true) × Inside kind c
+  pub tree_at : (g w : Graph) (up : Bool) (c : ℕ) (before : List Need) (kind : Kind) → Tree up g w → In g c before kind → (redo c ≡ true → IsHit d chosen up w c) × (IsHit d chosen up w c → redo c ≡ true) × (again c ≡ true → (redo c ≡ false) × HoldsChosen d chosen kind) × (redo c ≡ false → HoldsChosen d chosen kind → again c ≡ true) × Inside kind c
   tree_at _ w up c before kind t here = (t.0, t.1, t.2, t.3, t.4)
   tree_at _ w up c before kind t (there {rest = rest} st) = tree_at rest w up c before kind t.5 st
 

@@ -10,7 +10,7 @@ use Rattle.wf_layers.proofs.Basics.{two, and_in, fork, apart, not_true, index_on
 use Rattle.wf_layers.specs.Machine.{Opening, State, In, here, there, IsOpen, top, scope, chosen, turn, round, in_others, skip_others}
 use Rattle.wf_layers.proofs.Tables.{taken_within}
 use Rattle.wf_layers.proofs.Places.{Stands, within_of, stands}
-use Rattle.wf_layers.specs.Variables.{exclusive_in, exclusive_any, exclusive, SeesFinished}
+use Rattle.wf_layers.specs.Variables.{exclusive_in, exclusive_any, exclusive, IsOrdered, SeesFinished}
 use Rattle.wf_layers.specs.Laws.{IsInstance, VariablesInOrder}
 use Rattle.wf_layers.proofs.Others.{others_among, look_others}
 use Rattle.wf_layers.proofs.Open.{OpenFacts, open_sub, placed_in, fact_of, obey_in, inner_rule, outer, follows}
@@ -163,10 +163,11 @@ module _ {Row Begun Decision Verdict : Type 0} (m : Source Row Begun Decision Ve
   not_own (Foreach t g) n i y nh e = true≢false (sym (and_in (has g n) (starts (i ++ e.0 ∷ []) i) e.1).0 ∙ nh)
   not_own (Until most g) n i y nh e = true≢false (sym (and_in (has g n) (starts (i ++ e.0 ∷ []) i) e.1).0 ∙ nh)
 
-  pub sees_finished : (s : State Row Begun Decision Verdict) → Keeps m d so f sol s → SeesFinished d m s
-  sees_finished s k n i after kind de y r e ne ord =
+  -- at an action of an open graph that has no row yet, a finished access that it is ordered with, or that excludes it, is one that it sees
+  pub point_sees : (s : State Row Begun Decision Verdict) → Keeps m d so f sol s → (g : Graph) (i : List ℕ) (n : ℕ) (after : List Need) (kind : Kind) → IsOpen m.taken d s.opens g i → In g n after kind → (m.pinned n || m.reclosed n) ≡ false → s.rows (address n i) ≡ None → (y : Address) (r : Row) → s.rows y ≡ Some r → (r ≡ m.skipped → ⊥) → IsOrdered d (address n i) y → SeenIn d (address n i) y
+  point_sees s k g i n after kind og st plain_here none y r e ne ord =
       ⊎_elim
-      (λ h. ⊎_elim (λ v. v) (λ v. absurd (own_row m d so f sol s.rows s.opens k.facts g i n after kind og st plain_here (sym (k.behind y r e (address n i) v) ∙ de.no_row))) h)
+      (λ h. ⊎_elim (λ v. v) (λ v. absurd (own_row m d so f sol s.rows s.opens k.facts g i n after kind og st plain_here (sym (k.behind y r e (address n i) v) ∙ none))) h)
       (λ h.
       ⊎_elim
       (λ q. absurd (not_own kind n i y pl.apart_own (in_part (length i) g n after kind (open_sub m d so f sol s.opens g i og).sound st i (address n i) y own q).1))
@@ -174,23 +175,16 @@ module _ {Row Begun Decision Verdict : Type 0} (m : Source Row Begun Decision Ve
       (exclusive_open s.rows s.opens k.facts g i og (address n i) y (within_of m (IsBefore d) (SeenIn d) (length i) g n after kind pl i (address n i) own) h.0 h.1))
       ord
     where
-      g : Graph
-      g = de.is_there.graph
-
-      og : IsOpen m.taken d s.opens g i
-      og = de.is_there.is_open
-
-      st : In g n after kind
-      st = de.is_there.is_in
-
       pl : Stands m (IsBefore d) (SeenIn d) (length i) g n after kind
       pl = placed_in m d so f sol (length i) g n after kind (open_sub m d so f sol s.opens g i og) st
 
       own : is_in n kind i (address n i) ≡ true
       own = own_in n kind i
 
-      plain_here : (m.pinned n || m.reclosed n) ≡ false
-      plain_here = not_true (m.pinned n || m.reclosed n) (λ t. k.special g i n after kind og st t de.no_row de.not_open)
+  pub sees_finished : (s : State Row Begun Decision Verdict) → Keeps m d so f sol s → SeesFinished d m s
+  sees_finished s k n i after kind de y r e ne ord =
+      point_sees s k de.is_there.graph i n after kind de.is_there.is_open de.is_there.is_in
+      (not_true (m.pinned n || m.reclosed n) (λ t. k.special de.is_there.graph i n after kind de.is_there.is_open de.is_there.is_in t de.no_row de.not_open)) de.no_row y r e ne ord
 
 module _ {Row Begun Decision Verdict : Type 0} (d : Graph) (m : Source Row Begun Decision Verdict) (depth : ℕ → ℕ) (is : IsInstance d m depth) where
   pub variables_in_order : VariablesInOrder d m depth

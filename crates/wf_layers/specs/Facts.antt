@@ -1,5 +1,5 @@
 -- What is known of each reached state of the machine: a table f of rows that obeys the rule, as the meaning, is what it comes to.
-use Rattle.std.specs.Prelude.{◌≡◌, ℕ, suc, ◌<◌, ◌≤◌, true, false, List, [], ◌∷◌, ◌++◌, Some}
+use Rattle.std.specs.Prelude.{◌≡◌, ℕ, suc, ◌<◌, ◌≤◌, true, false, List, [], ◌∷◌, ◌++◌, Some, None, ◌⊎◌}
 use Rattle.wf_layers.specs.Definition.{Need, InTurn, AtMost, Kind, Leaf, Scope, Choice, Foreach, Until, Branches, Graph, kind_of}
 use Rattle.wf_layers.specs.Address.{Address, address, Table, is_in, is_within, SeenIn}
 use Rattle.wf_layers.specs.Source.{Source, gate, leaf}
@@ -32,12 +32,19 @@ module _ {Row Begun Decision Verdict : Type 0} (m : Source Row Begun Decision Ve
       × (m.reclosed n ≡ false)
       × (w.decision ≡ m.decide (address n i) f)
 
+-- The instance is running or open.
+abbrev pub IsBusy : {Row Begun Decision Verdict : Type 0} → State Row Begun Decision Verdict → Address → Type 0
+IsBusy {Row} {Begun} {Decision} {Verdict} s x = ((w : Running Begun) × (s.running x ≡ Some w)) ⊎ ((w : Opening Decision Verdict) × (s.opens x ≡ Some w))
+
 -- THE FACTS OF A STATE
 pub record Facts {Row Begun Decision Verdict : Type 0} (d : Graph) (m : Source Row Begun Decision Verdict) (f : Table Row) (s : State Row Begun Decision Verdict) : Type 0 where
   -- each row is that of f
   pub rows : (x : Address) (r : Row) → s.rows x ≡ Some r → f x ≡ Some r
   -- a running leaf has begun as it does in f, has made the first of its attempts there, and f has its row
   pub running : (x : Address) (w : Running Begun) → s.running x ≡ Some w → (w.begun ≡ m.start x f) × (w.tries ≤ m.tries x w.begun) × (f x ≡ Some (leaf m x f))
+  -- a running leaf and an open container stand in an open graph, and have no row yet
+  pub stands : (x : Address) → IsBusy s x → (after : List Need) × (kind : Kind) × IsThere d m s x.name x.at after kind
+  pub no_row : (x : Address) → IsBusy s x → s.rows x ≡ None
   -- all that is earlier than a finished, running or open instance is there as f has it
   pub before_row : (x : Address) (r : Row) → s.rows x ≡ Some r → (y : Address) → SeenIn d x y → s.rows y ≡ f y
   pub before_running : (x : Address) (w : Running Begun) → s.running x ≡ Some w → (y : Address) → SeenIn d x y → s.rows y ≡ f y

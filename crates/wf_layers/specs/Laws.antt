@@ -1,5 +1,5 @@
 -- The laws of order independence, as facts of a definition, a source and its meaning.
-use Rattle.std.specs.Prelude.{◌≡◌, ℕ, Bool, true, false, List, [], Some, ◌≤◌, length}
+use Rattle.std.specs.Prelude.{◌≡◌, ℕ, Bool, true, false, List, [], Some, ◌≤◌, length, Option, None}
 use Rattle.wf_layers.specs.Definition.{Graph, IsDepth, Closed, Turns}
 use Rattle.wf_layers.specs.Address.{Address, SeenIn, is_within}
 use Rattle.wf_layers.specs.Source.{Source, Sound}
@@ -8,10 +8,10 @@ use Rattle.wf_layers.specs.Address.{Table}
 use Rattle.wf_layers.specs.Rule.{look, Obeys}
 use Rattle.wf_layers.specs.Part.{IsPart}
 use Rattle.wf_layers.specs.Called.{IsCalled}
-use Rattle.wf_layers.specs.Variables.{SeesFinished, SeenAreThere}
+use Rattle.wf_layers.specs.Variables.{SeesFinished, SeenAreThere, TestSees, Stores, OneOrder, StoreHolds}
 use Rattle.wf_layers.specs.Bound.{total}
 use Rattle.wf_layers.specs.Facts.{Facts}
-use Rattle.wf_layers.specs.Machine.{State, fresh, has_ended, Event, Run, IsOver}
+use Rattle.wf_layers.specs.Machine.{State, fresh, has_ended, Event, place_of, Step, Run, IsOver}
 
 module _ {Row Begun Decision Verdict : Type 0} where
   -- A source of an environment of its own: no row is kept from an old table, and no container is closed again.
@@ -20,10 +20,15 @@ module _ {Row Begun Decision Verdict : Type 0} where
 
   -- What an instance of the laws has to show of a definition and its source.
   pub record IsInstance (d : Graph) (m : Source Row Begun Decision Verdict) (depth : ℕ → ℕ) : Type 0 where
+    -- names stand once, and each answer looks only at what is earlier
     pub local : Sound m (SeenIn d) d 0
+    -- an action waits only for actions of its own graph
     pub closed : Closed d d
+    -- no action is its own ancestor
     pub falls : IsDepth d depth
+    -- loops can go
     pub turns : Turns d
+    -- nothing is kept from an old table
     pub own : IsFresh m
 
   -- The meaning obeys the local rule at every address.
@@ -66,6 +71,20 @@ module _ {Row Begun Decision Verdict : Type 0} where
   abbrev pub VariablesInOrder : Graph → Source Row Begun Decision Verdict → (ℕ → ℕ) → Type 0
   VariablesInOrder d m depth = (es : List Event) (s : State Row Begun Decision Verdict) → Run d m fresh es s → SeesFinished d m s × SeenAreThere d m (meaning m depth d) s
 
+  -- And the same as an Until is tested.
+  abbrev pub TestsInOrder : Graph → Source Row Begun Decision Verdict → (ℕ → ℕ) → Type 0
+  TestsInOrder d m depth = (es : List Event) (s : State Row Begun Decision Verdict) → Run d m fresh es s → TestSees d m (meaning m depth d) s
+
+  -- So a store that each finished writer overwrites holds, as an action is decided, the value of the last writer that it sees.
+  abbrev pub StoreHoldsTheLast : {Value : Type 0} → Graph → Source Row Begun Decision Verdict → (ℕ → ℕ) → (Address → Row → Option Value) → Type 0
+  StoreHoldsTheLast {Value} d m depth writes =
+      OneOrder d m writes (meaning m depth d) → (es : List Event) (s : State Row Begun Decision Verdict) (v : Option Value) → Stores d m writes fresh es s None v → StoreHolds d m writes (meaning m depth d) s v
+
   -- A run has at most as many events as the meaning's rows give the definition, so each run ends.
   abbrev pub EventsAreBounded : Graph → Source Row Begun Decision Verdict → (ℕ → ℕ) → Type 0
   EventsAreBounded d m depth = (es : List Event) (s : State Row Begun Decision Verdict) → Run d m fresh es s → length es ≤ total m (meaning m depth d) d []
+
+  -- In a state that a run reaches, at most one event is enabled at an address.
+  abbrev pub OneEventAtAnAddress : Graph → Source Row Begun Decision Verdict → (ℕ → ℕ) → Type 0
+  OneEventAtAnAddress d m depth =
+      (es : List Event) (s : State Row Begun Decision Verdict) → Run d m fresh es s → (e e' : Event) (s1 s2 : State Row Begun Decision Verdict) → Step d m s e s1 → Step d m s e' s2 → place_of e ≡ place_of e' → e ≡ e'

@@ -12,3 +12,5 @@ pub mod Bound
 pub mod Laws
 pub mod Redo
 pub mod Resubmission
+pub mod Shape
+pub mod Seen

@@ -85,6 +85,17 @@ pub data Event : Type 0 where
   Test : (n : ℕ) (i : List ℕ) → Event
   Close : (n : ℕ) (i : List ℕ) → Event
 
+-- Where it is.
+abbrev pub place_of : Event → Address
+place_of (Start n i) = address n i
+place_of (Try n i) = address n i
+place_of (End n i) = address n i
+place_of (Skip n i) = address n i
+place_of (Open n i) = address n i
+place_of (Begin n i) = address n i
+place_of (Test n i) = address n i
+place_of (Close n i) = address n i
+
 abbrev pub IsContainer : Kind → Type 0
 IsContainer Leaf = ⊥
 IsContainer (Scope g) = Unit {0}

@@ -1,12 +1,12 @@
 -- Resubmission: rows kept from an old table, what is redone and what is closed again, and an environment with one layer more.
 use Rattle.std.specs.Prelude.{◌≡◌, ℕ, Bool, true, false, ◌&&◌, ◌||◌, cond, not, List, [], Option, Some, None, ◌≤◌, length}
-use Rattle.wf_layers.specs.Definition.{Kind, Leaf, Scope, Choice, Foreach, Until, Branches, no_branch, branch, Graph, done, add, has, holds, kind_of}
+use Rattle.wf_layers.specs.Definition.{Need, Kind, Leaf, Scope, Choice, Foreach, Until, Branches, no_branch, branch, Graph, done, add, has, holds, kind_of}
 use Rattle.wf_layers.specs.Address.{Address, address, Table, same_at, is_within, SeenIn}
 use Rattle.wf_layers.specs.Source.{Source, Sound, gate}
 use Rattle.wf_layers.specs.Meaning.{meaning}
 use Rattle.wf_layers.specs.Bound.{total}
 use Rattle.wf_layers.specs.Redo.{IsRedo}
-use Rattle.wf_layers.specs.Machine.{Opening, State, Event, Run, IsOver, in_others}
+use Rattle.wf_layers.specs.Machine.{Opening, State, In, IsOpen, Event, Run, IsOver, in_others, skip_others}
 
 -- What is neither redone nor closed again is kept.
 abbrev pub kept : (ℕ → Bool) → (ℕ → Bool) → ℕ → Bool
@@ -131,28 +131,35 @@ module _ {Row Begun Decision Verdict : Type 0} where
     opens = λ x. cond (again x.name && same_at [] x.at) (reopened (kind_of d x.name) (recall x)) None;
   }
 
-  -- In a choice that is closed again, all that is in branches that weren't taken is kept.
-  abbrev pub OthersKept : Graph → Source Row Begun Decision Verdict → (ℕ → Bool) → (ℕ → Bool) → (Address → Decision) → Type 0
-  OthersKept d a redo again recall =
-      (n : ℕ) (bs : Branches) → again n ≡ true → kind_of d n ≡ Some (Choice bs) → (y : Address) → in_others bs (a.taken (recall (address n []))) [] y ≡ true → kept redo again y.name ≡ true
+  -- In a choice that is closed again, all that is in branches that weren't taken is kept, and has Skipped rows in the old table r.
+  abbrev pub OthersKept : Graph → Source Row Begun Decision Verdict → (ℕ → Bool) → (ℕ → Bool) → Table Row → (Address → Decision) → Type 0
+  OthersKept d a redo again r recall =
+      (n : ℕ) (bs : Branches) → again n ≡ true → kind_of d n ≡ Some (Choice bs) → (y : Address) → in_others bs (a.taken (recall (address n []))) [] y ≡ true
+      → (kept redo again y.name ≡ true) × (r y ≡ skip_others a bs (a.taken (recall (address n []))) [] y)
+
+  -- What an old table has to hold, whether a run gave it or not: no rows outside the definition, a row at each kept action of a graph that is open from the start, and Skipped rows in the branches
+  -- that weren't taken of what is closed again, all of it kept.
+  pub record IsOldTable (d : Graph) (a : Source Row Begun Decision Verdict) (redo again : ℕ → Bool) (r : Table Row) (recall : Address → Decision) : Type 0 where
+    pub split : IsSplit d redo again
+    pub inside : (y : Address) → is_within d [] y ≡ false → r y ≡ None
+    pub rows : (g : Graph) (n : ℕ) (after : List Need) (kind : Kind) → IsOpen {Decision = Decision} {Verdict = Verdict} a.taken d (λ x. cond (again x.name && same_at [] x.at) (reopened (kind_of d x.name) (recall x)) None) g [] → In g n after kind → kept redo again n ≡ true → r (address n []) ≡ None → ⊥
+    pub others : OthersKept d a redo again r recall
 
   -- From that state, whatever order events are taken in, each row is the resubmitted record's,
-  abbrev pub ResumedRows : Graph → (ℕ → ℕ) → Source Row Begun Decision Verdict → Source Row Begun Decision Verdict → (ℕ → Bool) → (ℕ → Bool) → (Address → Decision) → Type 0
-  ResumedRows d depth a b redo again recall =
-      (es : List Event) (s : State Row Begun Decision Verdict) → Run d (pin a b redo again (meaning a depth d) recall) (resumed d redo again (meaning a depth d) recall) es s
-      → (x : Address) (q : Row) → s.rows x ≡ Some q → meaning (pin a b redo again (meaning a depth d) recall) depth d x ≡ Some q
+  abbrev pub ResumedRows : Graph → (ℕ → ℕ) → Source Row Begun Decision Verdict → Source Row Begun Decision Verdict → (ℕ → Bool) → (ℕ → Bool) → Table Row → (Address → Decision) → Type 0
+  ResumedRows d depth a b redo again r recall =
+      (es : List Event) (s : State Row Begun Decision Verdict) → Run d (pin a b redo again r recall) (resumed d redo again r recall) es s → (x : Address) (q : Row) → s.rows x ≡ Some q → meaning (pin a b redo again r recall) depth d x ≡ Some q
 
   -- and where nothing is enabled, all of its rows are there.
-  abbrev pub ResumedAtTheEnd : Graph → (ℕ → ℕ) → Source Row Begun Decision Verdict → Source Row Begun Decision Verdict → (ℕ → Bool) → (ℕ → Bool) → (Address → Decision) → Type 0
-  ResumedAtTheEnd d depth a b redo again recall =
-      (es : List Event) (s : State Row Begun Decision Verdict) → Run d (pin a b redo again (meaning a depth d) recall) (resumed d redo again (meaning a depth d) recall) es s
-      → IsOver d (pin a b redo again (meaning a depth d) recall) s → (x : Address) → is_within d [] x ≡ true → s.rows x ≡ meaning (pin a b redo again (meaning a depth d) recall) depth d x
+  abbrev pub ResumedAtTheEnd : Graph → (ℕ → ℕ) → Source Row Begun Decision Verdict → Source Row Begun Decision Verdict → (ℕ → Bool) → (ℕ → Bool) → Table Row → (Address → Decision) → Type 0
+  ResumedAtTheEnd d depth a b redo again r recall =
+      (es : List Event) (s : State Row Begun Decision Verdict) → Run d (pin a b redo again r recall) (resumed d redo again r recall) es s
+      → IsOver d (pin a b redo again r recall) s → (x : Address) → is_within d [] x ≡ true → s.rows x ≡ meaning (pin a b redo again r recall) depth d x
 
   -- Each such run has at most as many events as the resubmitted rows give the definition.
-  abbrev pub ResumedEnds : Graph → (ℕ → ℕ) → Source Row Begun Decision Verdict → Source Row Begun Decision Verdict → (ℕ → Bool) → (ℕ → Bool) → (Address → Decision) → Type 0
-  ResumedEnds d depth a b redo again recall =
-      (es : List Event) (s : State Row Begun Decision Verdict) → Run d (pin a b redo again (meaning a depth d) recall) (resumed d redo again (meaning a depth d) recall) es s
-      → length es ≤ total (pin a b redo again (meaning a depth d) recall) (meaning (pin a b redo again (meaning a depth d) recall) depth d) d []
+  abbrev pub ResumedEnds : Graph → (ℕ → ℕ) → Source Row Begun Decision Verdict → Source Row Begun Decision Verdict → (ℕ → Bool) → (ℕ → Bool) → Table Row → (Address → Decision) → Type 0
+  ResumedEnds d depth a b redo again r recall =
+      (es : List Event) (s : State Row Begun Decision Verdict) → Run d (pin a b redo again r recall) (resumed d redo again r recall) es s → length es ≤ total (pin a b redo again r recall) (meaning (pin a b redo again r recall) depth d) d []
 
   -- What is redone has the same answers in both environments.
   pub record SameAnswers (a b : Source Row Begun Decision Verdict) (redo : ℕ → Bool) : Type 0 where

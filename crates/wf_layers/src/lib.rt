@@ -13,14 +13,26 @@
 //! It isn't an engine: no row has a content here, nothing is parsed, evaluated or run, and no memory is taken.
 #![tactic(auto)]
 
-ghost use Rattle.std.specs.Prelude.{[], ◌∷◌, ◌≡◌, Bool, None, Some, ℕ};
-ghost use Rattle.wf_layers.specs.Address.{Address, SeenIn, address};
+ghost use Rattle.std.specs.Prelude.{[], ◌∷◌, ◌≡◌, Bool, None, Option, Some, true, ℕ};
+ghost use Rattle.wf_layers.specs.Address.{Address, SeenIn, Table, address};
 ghost use Rattle.wf_layers.specs.Definition.{Closed, Graph, IsDepth, Turns};
-ghost use Rattle.wf_layers.specs.Laws.{AllRowsAtTheEnd, EventsAreBounded, FactsOfStates, IsFresh, IsInstance, MeaningObeysTheRule, PartIsUnique, RowsAreTheMeanings, RowsAreUnique, RowsWhereCalledFor, VariablesInOrder};
+ghost use Rattle.wf_layers.specs.Laws.{AllRowsAtTheEnd, EventsAreBounded, FactsOfStates, IsFresh, IsInstance, MeaningObeysTheRule, OneEventAtAnAddress, PartIsUnique, RowsAreTheMeanings, RowsAreUnique, RowsWhereCalledFor, StoreHoldsTheLast, TestsInOrder, VariablesInOrder};
 ghost use Rattle.wf_layers.specs.Meaning.{meaning};
 ghost use Rattle.wf_layers.specs.Redo.{IsRedo};
-ghost use Rattle.wf_layers.specs.Resubmission.{IsResubmission, IsSetResubmission, IsSplit, MayBeResubmittedAgain, OldAnswersGiveTheOldRows, OthersKept, ResubmissionIsFresh, ResumedAtTheEnd, ResumedEnds, ResumedRows};
+ghost use Rattle.wf_layers.specs.Resubmission.{IsOldTable, IsResubmission, IsSetResubmission, IsSplit, MayBeResubmittedAgain, OldAnswersGiveTheOldRows, OthersKept, ResubmissionIsFresh, ResumedAtTheEnd, ResumedEnds, ResumedRows, pin};
+ghost use Rattle.wf_layers.specs.Seen.{Answers, Once, Waits};
+ghost use Rattle.wf_layers.specs.Shape.{HasShape, Reading, ReadsBack};
 ghost use Rattle.wf_layers.specs.Source.{Sound, Source};
+
+/// What an action waits for is earlier than it, so that its gate looks only at what is earlier.
+pub fn what_is_waited_for_is_seen()
+    ensures { (d : Graph) → Once d → Closed d d → Waits d d 0 }
+{}
+
+/// So the premise of the laws follows where names stand once, an action waits only for actions of its own graph, and each answer looks only at what is earlier.
+pub fn local_answers_are_sound<Row, Begun, Decision, Verdict>()
+    ensures { (d : Graph) (m : Source Row Begun Decision Verdict) → Once d → Closed d d → Answers d m d 0 → Sound m (SeenIn d) d 0 }
+{}
 
 /// The layered meaning obeys the local rule at every address.
 pub fn meaning_obeys_the_rule<Row, Begun, Decision, Verdict>()
@@ -52,6 +64,11 @@ pub fn facts_of_states<Row, Begun, Decision, Verdict>()
     ensures { (d : Graph) (m : Source Row Begun Decision Verdict) (depth : ℕ → ℕ) → IsInstance d m depth → FactsOfStates d m depth }
 {}
 
+/// In a state that a run reaches, at most one event is enabled at an address.
+pub fn one_event_at_an_address<Row, Begun, Decision, Verdict>()
+    ensures { (d : Graph) (m : Source Row Begun Decision Verdict) (depth : ℕ → ℕ) → IsInstance d m depth → OneEventAtAnAddress d m depth }
+{}
+
 /// Where nothing is enabled, every row of the meaning is there.
 pub fn all_rows_are_there_at_the_end<Row, Begun, Decision, Verdict>()
     ensures { (d : Graph) (m : Source Row Begun Decision Verdict) (depth : ℕ → ℕ) → IsInstance d m depth → AllRowsAtTheEnd d m depth }
@@ -65,6 +82,16 @@ pub fn events_are_bounded<Row, Begun, Decision, Verdict>()
 /// As an action is decided, the finished accesses of a variable are those that it sees.
 pub fn variables_in_order<Row, Begun, Decision, Verdict>()
     ensures { (d : Graph) (m : Source Row Begun Decision Verdict) (depth : ℕ → ℕ) → IsInstance d m depth → VariablesInOrder d m depth }
+{}
+
+/// As an Until is tested, the finished accesses outside it are those that it sees, and its iterations so far are there.
+pub fn tests_in_order<Row, Begun, Decision, Verdict>()
+    ensures { (d : Graph) (m : Source Row Begun Decision Verdict) (depth : ℕ → ℕ) → IsInstance d m depth → TestsInOrder d m depth }
+{}
+
+/// So a store that each finished writer overwrites holds, as an action is decided, the value of the last writer that it sees.
+pub fn store_holds_the_last<Row, Begun, Decision, Verdict, Value>()
+    ensures { (d : Graph) (m : Source Row Begun Decision Verdict) (depth : ℕ → ℕ) (writes : Address → Row → Option Value) → IsInstance d m depth → StoreHoldsTheLast d m depth writes }
 {}
 
 /// The premises can be met: there is a definition whose loop goes one iteration after the other, and iteration 2 sees iteration 1.
@@ -81,7 +108,14 @@ pub fn order_of_a_resubmission()
 pub fn a_set_is_resubmitted<Row, Begun, Decision, Verdict>()
     ensures { (d : Graph) (depth : ℕ → ℕ) (a b : Source Row Begun Decision Verdict) (chosen redo again : ℕ → Bool) (recall : Address → Decision)
         → IsDepth d depth → Sound a (SeenIn d) d 0 → IsFresh a → IsSetResubmission d depth a b chosen redo again recall
-        → IsResubmission d depth a b redo again recall × OthersKept d a redo again recall }
+        → IsResubmission d depth a b redo again recall × OthersKept d a redo again (meaning a depth d) recall }
+{}
+
+/// There is such a set: of three actions one after the other in a Scope the second is chosen. The first keeps its row, and the third is made anew from the second.
+pub fn a_set_can_be_resubmitted()
+    ensures { (d : Graph) × (depth : ℕ → ℕ) × (a : Source ℕ ℕ ℕ Bool) × (b : Source ℕ ℕ ℕ Bool) × (chosen : (ℕ → Bool)) × (redo : (ℕ → Bool)) × (again : (ℕ → Bool)) × (recall : (Address → ℕ))
+        × Sound a (SeenIn d) d 0 × Sound b (SeenIn d) d 0 × IsSetResubmission d depth a b chosen redo again recall
+        × (meaning (pin a b redo again (meaning a depth d) recall) depth d (address 3 []) ≡ Some 21) }
 {}
 
 /// The resubmitted record is that of a fresh run in the environment with one layer more.
@@ -105,23 +139,45 @@ pub fn a_resubmitted_record_may_be_resubmitted<Row, Begun, Decision, Verdict>()
         → MayBeResubmittedAgain d depth a b redo again recall }
 {}
 
-/// From the state of a resubmission, whatever order events are taken in, each row is the resubmitted record's.
-pub fn resumed_rows<Row, Begun, Decision, Verdict>()
+/// A meaning's table has the right shape: rows stand at exactly the addresses that its own rows call for.
+pub fn a_meaning_has_the_right_shape<Row, Begun, Decision, Verdict>()
+    ensures { (d : Graph) (m : Source Row Begun Decision Verdict) (depth : ℕ → ℕ) (read : Reading Row Decision)
+        → IsDepth d depth → Sound m (SeenIn d) d 0 → IsFresh m → ReadsBack m read → HasShape d m read (meaning m depth d) }
+{}
+
+/// A meaning's table is one from which a resubmission may go on.
+pub fn a_meaning_may_be_resumed<Row, Begun, Decision, Verdict>()
     ensures { (d : Graph) (depth : ℕ → ℕ) (a b : Source Row Begun Decision Verdict) (redo again : ℕ → Bool) (recall : Address → Decision)
-        → IsDepth d depth → Closed d d → Sound a (SeenIn d) d 0 → Sound b (SeenIn d) d 0 → IsFresh a → IsResubmission d depth a b redo again recall → OthersKept d a redo again recall
-        → ResumedRows d depth a b redo again recall }
+        → IsDepth d depth → Sound a (SeenIn d) d 0 → IsFresh a → IsResubmission d depth a b redo again recall → OthersKept d a redo again (meaning a depth d) recall
+        → IsOldTable d a redo again (meaning a depth d) recall }
+{}
+
+/// And so is any table of the right shape, whether a run gave it or not, in which each chosen action ran, and whose decisions are recalled as its rows say.
+pub fn a_table_of_the_right_shape_may_be_resumed<Row, Begun, Decision, Verdict>()
+    ensures { (d : Graph) (a : Source Row Begun Decision Verdict) (chosen redo again : ℕ → Bool) (r : Table Row) (read : Reading Row Decision) (recall : Address → Decision)
+        → IsFresh a → IsRedo d chosen redo again → HasShape d a read r
+        → ((n : ℕ) → chosen n ≡ true → r (address n []) ≡ Some a.skipped → ⊥)
+        → ((n : ℕ) (row : Row) → again n ≡ true → r (address n []) ≡ Some row → recall (address n []) ≡ read.decided row)
+        → IsOldTable d a redo again r recall }
+{}
+
+/// From the state of a resubmission of an old table, whether a run gave it or not, and whatever order events are taken in, each row is the resubmitted record's.
+pub fn resumed_rows<Row, Begun, Decision, Verdict>()
+    ensures { (d : Graph) (depth : ℕ → ℕ) (a b : Source Row Begun Decision Verdict) (redo again : ℕ → Bool) (r : Table Row) (recall : Address → Decision)
+        → IsDepth d depth → Closed d d → Sound b (SeenIn d) d 0 → IsOldTable d a redo again r recall
+        → ResumedRows d depth a b redo again r recall }
 {}
 
 /// And where nothing is enabled, all of its rows are there.
 pub fn resumed_at_the_end<Row, Begun, Decision, Verdict>()
-    ensures { (d : Graph) (depth : ℕ → ℕ) (a b : Source Row Begun Decision Verdict) (redo again : ℕ → Bool) (recall : Address → Decision)
-        → IsDepth d depth → Closed d d → Turns d → Sound a (SeenIn d) d 0 → Sound b (SeenIn d) d 0 → IsFresh a → IsResubmission d depth a b redo again recall → OthersKept d a redo again recall
-        → ResumedAtTheEnd d depth a b redo again recall }
+    ensures { (d : Graph) (depth : ℕ → ℕ) (a b : Source Row Begun Decision Verdict) (redo again : ℕ → Bool) (r : Table Row) (recall : Address → Decision)
+        → IsDepth d depth → Closed d d → Turns d → Sound b (SeenIn d) d 0 → IsOldTable d a redo again r recall
+        → ResumedAtTheEnd d depth a b redo again r recall }
 {}
 
 /// And each such run ends.
 pub fn resumed_ends<Row, Begun, Decision, Verdict>()
-    ensures { (d : Graph) (depth : ℕ → ℕ) (a b : Source Row Begun Decision Verdict) (redo again : ℕ → Bool) (recall : Address → Decision)
-        → IsDepth d depth → Closed d d → Sound a (SeenIn d) d 0 → Sound b (SeenIn d) d 0 → IsFresh a → IsResubmission d depth a b redo again recall → OthersKept d a redo again recall
-        → ResumedEnds d depth a b redo again recall }
+    ensures { (d : Graph) (depth : ℕ → ℕ) (a b : Source Row Begun Decision Verdict) (redo again : ℕ → Bool) (r : Table Row) (recall : Address → Decision)
+        → IsDepth d depth → Closed d d → Sound b (SeenIn d) d 0 → IsOldTable d a redo again r recall
+        → ResumedEnds d depth a b redo again r recall }
 {}

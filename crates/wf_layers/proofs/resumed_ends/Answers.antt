@@ -1,5 +1,5 @@
-use Rattle.wf_layers.proofs.Resumed.{resumed_ends}
+use Rattle.wf_layers.proofs.OldTable.{any_ends}
 use Rattle.wf_layers.proofs.resumed_ends.Goals as goal
 
 pub returns : goal.returns
-returns g c = λ d depth a b redo again recall falls cl sa sb fa rs ot. resumed_ends a b redo again d depth falls sa sb fa recall rs ot cl
+returns g c = λ d depth a b redo again r recall falls cl sb old. any_ends a b redo again d depth falls sb r recall old cl

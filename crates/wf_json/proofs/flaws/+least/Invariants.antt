@@ -1,5 +1,5 @@
 use Rattle.std.proofs.Common.{◌≡◌, drop, option_map, string_bytes}
-use Rattle.serde_json.specs.View.{view, items_view, members_view}
+use Rattle.serde_json.specs.View.{items_view, members_view}
 use Rattle.wf_json.specs.Pointer.{lesser, least}
 use Rattle.wf_json.specs.Read.{flawed_items, flawed_members}
 use Rattle.wf_json.proofs.flaws.+least.Given as goal

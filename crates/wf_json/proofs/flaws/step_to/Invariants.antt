@@ -1,5 +1,4 @@
 use Rattle.std.proofs.Common.{◌≡◌, ◌++◌, string_bytes, flat_map}
-use Rattle.std.specs.Str.{chars}
 use Rattle.std.specs.Str.Iter.{chars_rest}
 use Rattle.wf_json.specs.Pointer.{escaped, member_step}
 use Rattle.wf_json.proofs.flaws.step_to.Given as goal

@@ -1,7 +1,7 @@
-use Rattle.std.proofs.Common.{◌≡◌, None, Err, IsUtf8, ap, sym, ◌∙◌, subst}
+use Rattle.std.proofs.Common.{◌≡◌, None, IsUtf8, ap, sym, ◌∙◌, subst}
 use Rattle.std.proofs.lemmas.Str.{is_utf8-from_IsUtf8}
 use Rattle.serde_json.specs.Read.{read}
-use Rattle.wf_json.specs.Read.{after_mark, json_of, read_json}
+use Rattle.wf_json.specs.Read.{after_mark, read_json}
 use Rattle.wf_json.proofs.ReadLemmas.{none_unless_utf8, refuted}
 use Rattle.wf_json.proofs.reading.parse.Goals as goal
 

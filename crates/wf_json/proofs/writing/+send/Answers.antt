@@ -1,4 +1,4 @@
-use Rattle.std.proofs.Common.{◌≡◌, ℕ, List, ◌≤◌, ◌+◌, ◌*◌, arith, rules, length, map, drop, suc, Some, [], ◌∷◌, get_or, sym, ap, ◌∙◌, subst}
+use Rattle.std.proofs.Common.{◌≡◌, ℕ, List, arith, map, drop, Some, [], get_or, sym, ap, ◌∙◌, subst}
 use Rattle.std.proofs.lemmas.List.{drop_all}
 use Rattle.std.proofs.lemmas.Result.{on_ok_weaker}
 use Rattle.serde.specs.Event.{Logs, seq_begins, map_begins}
@@ -14,7 +14,7 @@ pub send_items-send-requires : goal.send_items-send-requires
 send_items-send-requires g t c κs within =
     let vs : List Val = c.as_slice-item-items.result.now in
     let whole : trees_count (trees (map tree vs)) ≡ trees_count (trees c.args.items.now) = ap (λ ts. trees_count (trees ts)) c.as_slice-item-items.ensures in
-    let same : node_count (tree c.item-item.result) ≡ node_count (tree (get_or vs c.loop-item.item-index c.item-item.result)) = ap (λ v. node_count (tree v)) c.item-item.is in
+    let same : node_count (tree c.item-item.result) ≡ node_count (tree (get_or vs c.loop-item.item-index c.item-item.result)) = ap (λ v. node_count (tree v)) {y = get_or vs c.loop-item.item-index c.item-item.result} c.item-item.is in
     let here = item_count-le vs c.loop-item.item-index c.item-item.result (omega arith) in
     (omega (arith, c.decreases, whole, same, here), within)
 
@@ -37,7 +37,7 @@ send_members-send-requires g t c κs within =
     let vs : List (List ℕ × Val) = c.as_slice-name-items.result.now in
     let item = c.loop-name-item.result in
     let whole : members_count (members (map member vs)) ≡ members_count (members c.args.fields.now) = ap (λ ts. members_count (members ts)) c.as_slice-name-items.ensures.members in
-    let same : node_count (tree item.1) ≡ node_count (tree (get_or vs c.loop-name.name-index item).1) = ap (λ (m : List ℕ × Val). node_count (tree m.1)) c.loop-name-item.is in
+    let same : node_count (tree item.1) ≡ node_count (tree (get_or vs c.loop-name.name-index item).1) = ap (λ (m : List ℕ × Val). node_count (tree m.1)) {y = get_or vs c.loop-name.name-index item} c.loop-name-item.is in
     let here = member_count-le vs c.loop-name.name-index item (omega arith) in
     (omega (arith, c.decreases, whole, same, here), within)
 

@@ -1,0 +1,54 @@
+#!/bin/sh
+# Times `wflow run` beside `jq -c .` on the same definition, and prints the ratio of the two.
+#
+#   bench/bench.sh
+#
+# It makes its files in a folder of its own, installs jq from Debian's packages where it is missing, and takes the least of
+# five runs of each.
+set -eu
+top=$(CDPATH='' cd -P -- "$(dirname -- "$0")/.." && pwd -P)
+command -v jq >/dev/null || { apt-get update -qq && apt-get install -y -qq jq; } >&2
+folder=$(mktemp -d)
+trap 'rm -rf "$folder"' EXIT
+export top folder
+"$top/bin/wflow" run "$top/examples/hello/definition.json" "$top/examples/hello/inputs.json" >/dev/null
+python3 - <<'PROGRAM'
+import json, os, subprocess, time
+
+top, folder = os.environ["top"], os.environ["folder"]
+program = os.path.join(top, "bin", ".built", "wflow")
+
+
+def file(name, value):
+    path = os.path.join(folder, name)
+    with open(path, "w") as out:
+        json.dump(value, out)
+    return path
+
+
+def least(words):
+    times, memory = [], 0
+    for _ in range(5):
+        began = time.perf_counter()
+        child = subprocess.Popen(words, stdout=subprocess.DEVNULL)
+        _, status, usage = os.wait4(child.pid, 0)
+        times.append(time.perf_counter() - began)
+        memory = max(memory, usage.ru_maxrss)
+        if status != 0:
+            raise SystemExit("%r ended with %d" % (words, status))
+    return min(times), memory / 1024
+
+
+inputs = file("inputs.json", {"run": "bench", "moment": "2024-05-01T12:00:00Z"})
+rows = [{"id": k, "name": "order %d" % k, "tags": ["a", "b"], "open": k % 2 == 0} for k in range(14000)]
+cases = [
+    ("one action, a value of 0.9 MiB", {"actions": {"A": {"type": "Compose", "inputs": rows}}}),
+    ("4 MiB that isn't looked at", {"metadata": [rows] * 4, "actions": {"A": {"type": "Compose", "inputs": 1}}}),
+]
+print("%-34s %9s %9s %9s %7s" % ("definition", "bytes", "wflow s", "jq s", "ratio"))
+for name, definition in cases:
+    path = file("definition.json", definition)
+    ours, memory = least([program, "run", path, inputs])
+    theirs, _ = least(["jq", "-c", ".", path])
+    print("%-34s %9d %9.3f %9.3f %7.1f  (%d MiB at most)" % (name, os.path.getsize(path), ours, theirs, ours / theirs, memory))
+PROGRAM
