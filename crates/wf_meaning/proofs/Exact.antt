@@ -1,7 +1,7 @@
 -- Where `runAfter` names only actions that are there and goes in no circle, all actions end.
-use Rattle.std.proofs.Common.{◌≡◌, ℕ, zero, suc, ◌+◌, ◌<◌, Bool, true, false, ◌&&◌, cond, List, [], ◌∷◌, length, set, Option, Some, None, is_some, slice_get, ◌⊎◌, inl, inr, ⊎_elim, refl, sym, ap, ◌∙◌, subst, arith, nat_eq, eqb, eq-eqb, replicate, true≢false, length-set}
+use Rattle.std.proofs.Common.{◌≡◌, ℕ, zero, suc, ◌+◌, ◌<◌, Bool, true, false, ◌&&◌, cond, List, [], ◌∷◌, length, set, Option, Some, None, is_some, slice_get, inl, inr, ⊎_elim, refl, sym, ap, ◌∙◌, subst, arith, nat_eq, eq-eqb, replicate, true≢false, length-set}
 use Rattle.std.specs.List.{list_all}
-use Rattle.wf_layers.specs.Definition.{Need, Names, Graph, IsDepth, IsBefore, Closed, has_own, needs_of}
+use Rattle.wf_layers.specs.Definition.{Need, Names, Graph, IsDepth, IsBefore, Closed, has_own}
 use Rattle.wf_layers.proofs.Basics.{two}
 use Rattle.wf_layers.proofs.Meaning.{before_falls}
 use Rattle.wf_meaning.specs.Definition.{ActionTree}
@@ -21,8 +21,8 @@ named_own w n [] m p a closed is names = absurd (true≢false (sym (ap is_some i
 named_own w n (b ∷ more) m p a closed is names =
     ⊎_elim
     (λ same. let one : Some b ≡ Some a = subst (λ t. cond t (Some b) (numbered (suc n) more m) ≡ Some a) same is in
-        let first : b ≡ a = cc in
-        closed.0 p (subst (λ (x : ActionTree). Names x.after p) (sym first) names))
+    let first : b ≡ a = cc in
+    closed.0 p (subst (λ (x : ActionTree). Names x.after p) (sym first) names))
     (λ other. named_own w (suc n) more m p a closed.2 (subst (λ t. cond t (Some b) (numbered (suc n) more m) ≡ Some a) other is) names)
     (two (nat_eq n m))
 
@@ -57,7 +57,7 @@ module _ (actions : List ActionTree) (depth : ℕ → ℕ) (closed : Closed (gra
           ⊎_elim
           (λ ready. (n, in_it, off, ap (is_ready bs) is ∙ ready))
           (λ unready. let next = unmarked_need bs a.after unready in
-              below next.0 (omega (arith, lt, lower n next.0 a is next.1)) (omega (arith, same, there n next.0 a is next.1)) next.2)
+          below next.0 (omega (arith, lt, lower n next.0 a is next.1)) (omega (arith, same, there n next.0 a is next.1)) next.2)
           (two (is_ready bs (Some a)))
 
   by_marks : (left : ℕ) (bs : List Bool) → length bs ≡ length actions → HaveEnded actions bs → left + marked bs ≡ length bs → all_end actions ≡ true

@@ -1,11 +1,10 @@
 -- Worked values of the definitions of this crate.
-use Rattle.std.specs.Prelude.{ℕ, zero, suc, List, [], ◌∷◌, Option, None, Some, codes}
+use Rattle.std.specs.Prelude.{ℕ, zero, suc, List, [], ◌∷◌, Option, Some, codes}
 use Rattle.wf_val.specs.ValueTree.{null}
-use Rattle.wf_layers.specs.Definition.{Status, Succeeded, Failed, Skipped, Need}
-use Rattle.wf_layers.specs.Address.{Address, Table}
+use Rattle.wf_layers.specs.Definition.{Status, Succeeded, Failed, Need}
+use Rattle.wf_layers.specs.Address.{Table}
 use Rattle.wf_meaning.specs.Definition.{ActionTree}
 use Rattle.wf_meaning.specs.Record.{Row}
-use Rattle.wf_meaning.specs.Flat.{composed}
 
 abbrev pub action : List ℕ → List Need → ActionTree
 action name after = record { name = name; after = after; inputs = null }

@@ -5,7 +5,8 @@ ghost use Rattle.wf_top.specs.SeenAction.{action_tree};
 
 use crate::action::Action;
 
-/// A definition: the SHA-256 of its compact text, and its actions in byte order of their names. No `runAfter` goes in a circle.
+/// A definition: the SHA-256 of its compact text, and its actions in byte order of their names. All of them end, since no
+/// `runAfter` goes in a circle.
 #[derive(Drop)]
 pub struct Definition {
     pub digest: [u8; 32],

@@ -50,8 +50,8 @@ fn no_trigger(alloc: Global) -> Result<Val, AllocError>
     Ok(Val::Obj(fields))
 }
 
-// The record that a run of the definition leaves. All actions end, and each waits for the success of others, so each runs, and the
-// run succeeds.
+// The record that a run of the definition leaves. All actions end, and each waits for the success of others, so each
+// runs, and the run succeeds.
 fn record_of(alloc: Global, definition: Definition, inputs: Inputs) -> Result<Record, AllocError>
     ensures { IfOk result (λ finished. record_tree finished ≡ meaning (definition_tree definition) (inputs_tree inputs)) }
 {
