@@ -6,6 +6,7 @@ ghost use Rattle.wf_meaning.specs.Marks.{is_marked, is_ready};
 ghost use Rattle.wf_top.specs.SeenAction.{action_tree};
 
 use crate::action::Action;
+use crate::guess::likely_order;
 use std::alloc::{AllocError, Global};
 
 fn is_marked(marks: &[bool], place: usize) -> bool
@@ -38,7 +39,7 @@ fn is_ready(marks: &[bool], action: &Action) -> bool
 }
 
 // The first action that isn't marked though all that it waits for is.
-fn next_ready(actions: &[Action], marks: &[bool]) -> Option<usize>
+fn first_ready(actions: &[Action], marks: &[bool]) -> Option<usize>
     requires { length marks.now ≡ length actions.now }
     ensures within { IfSome result (λ n. n < length marks.now) }
     ensures ready { IfSome result (λ n. is_ready marks.now (slice_get (map action_tree actions.now) n) ≡ true) }
@@ -53,13 +54,42 @@ fn next_ready(actions: &[Action], marks: &[bool]) -> Option<usize>
     None
 }
 
-/// Whether all actions end: they are marked one after the other, each when all that it waits for is marked.
+// Whether this action isn't marked though all that it waits for is.
+fn is_next(actions: &[Action], marks: &[bool], place: usize) -> bool
+    requires { length marks.now ≡ length actions.now }
+    ensures within { result ≡ true → place < length marks.now }
+    ensures ready { result ≡ true → is_ready marks.now (slice_get (map action_tree actions.now) place) ≡ true }
+    ensures unmarked { result ≡ true → is_marked marks.now place ≡ false }
+{
+    match actions.get(place) {
+        Some(action) => !is_marked(marks, place) && is_ready(marks, action),
+        None => false,
+    }
+}
+
+// The guessed action, if it isn't marked though all that it waits for is; else the first that is so.
+fn next_ready(actions: &[Action], marks: &[bool], guess: Option<usize>) -> Option<usize>
+    requires { length marks.now ≡ length actions.now }
+    ensures within { IfSome result (λ n. n < length marks.now) }
+    ensures ready { IfSome result (λ n. is_ready marks.now (slice_get (map action_tree actions.now) n) ≡ true) }
+    ensures unmarked { IfSome result (λ n. is_marked marks.now n ≡ false) }
+    ensures stuck { IfNone result ((n : ℕ) → n < length marks.now → is_marked marks.now n ≡ false → is_ready marks.now (slice_get (map action_tree actions.now) n) ≡ false) }
+{
+    match guess {
+        Some(place) if is_next(actions, marks, place) => Some(place),
+        _ => first_ready(actions, marks),
+    }
+}
+
+/// Whether all actions end: they are marked one after the other, each when all that it waits for is marked. Which one is next is guessed
+/// first, so that each entry of each `runAfter` is looked at a few times at most; what is answered doesn't rest on the guess.
 pub fn all_end(alloc: Global, actions: &[Action]) -> Result<bool, AllocError>
     ensures { IfOk result (λ all. all ≡ all_end (map action_tree actions.now)) }
 {
+    let guesses = likely_order(alloc, actions)?;
     let mut marks = vec![in alloc; false; actions.len()]?;
     let mut count = 0;
-    while let Some(place) = next_ready(actions, &marks) {
+    while let Some(place) = next_ready(actions, &marks, guesses.get(count).copied()) {
         marks[place] = true;
         count += 1;
     }

@@ -13,6 +13,7 @@ mod after;
 mod definition;
 mod ending;
 mod form;
+mod guess;
 mod inputs;
 mod load;
 mod plain;
