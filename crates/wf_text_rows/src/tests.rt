@@ -15,7 +15,8 @@ const HELLO_RECORD: &str = concat!(
 );
 
 // Written out of the order of the names, so the rows of the record are in another order.
-const TWO: &str = r#"{"actions":{"B":{"type":"Compose","inputs":1},"A":{"type":"Compose","inputs":2,"runAfter":{"B":["Succeeded"]}}}}"#;
+const TWO: &str =
+    r#"{"actions":{"B":{"type":"Compose","inputs":1},"A":{"type":"Compose","inputs":2,"runAfter":{"B":["Succeeded"]}}}}"#;
 
 const TWO_RECORD: &str = concat!(
     r#"{"definition":"f9cc2b6812616ddb52468ea2a04e3b13d5915caceb5165f7e312e7cc9b95b2a0","error":null,"form":1,"outputs":{},"parameters":{},"response":null,"rows":[{"at":[],"attempts":0,"code":"OK","error":null,"inputs":2,"name":"A","outputs":2,"status":"Succeeded","tracked":{}},{"at":[],"attempts":0,"code":"OK","error":null,"inputs":1,"name":"B","outputs":1,"status":"Succeeded","tracked":{}}],"run":"r1","status":"Succeeded","trigger":{"name":null,"outputs":null}}"#,
