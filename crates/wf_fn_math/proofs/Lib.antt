@@ -1,0 +1,4 @@
+pub mod ExtremesLemmas
+pub mod ComparisonLemmas
+pub mod ConversionLemmas
+pub mod WorkedRows
