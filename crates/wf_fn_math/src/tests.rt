@@ -7,12 +7,12 @@ use std::test::Fail;
 use wf_val::{EvalFault, Fun, Text, Val, Vals};
 
 #[derive(Clone, Copy)]
-enum Arg {
+enum Arg<'a> {
     Null,
     Truth(bool),
     Number(i64),
-    Text(&'static str),
-    List(&'static [Arg]),
+    Text(&'a str),
+    List(&'a [Arg<'a>]),
 }
 
 // What a call answers, to compare.
@@ -26,7 +26,7 @@ enum Answer {
     Other,
 }
 
-fn answer(given: Result<Val, EvalFault>) -> Answer {
+fn answered(given: Result<Val, EvalFault>) -> Answer {
     match given {
         Ok(Val::Bool(truth)) => Answer::Truth(truth),
         Ok(Val::Int(number)) => Answer::Number(number),
@@ -37,7 +37,7 @@ fn answer(given: Result<Val, EvalFault>) -> Answer {
     }
 }
 
-fn scalar(alloc: Global, arg: Arg) -> Result<Val, AllocError> {
+fn scalar(alloc: Global, arg: Arg<'_>) -> Result<Val, AllocError> {
     match arg {
         Arg::Truth(truth) => Ok(Val::Bool(truth)),
         Arg::Number(number) => Ok(Val::Int(number)),
@@ -46,7 +46,7 @@ fn scalar(alloc: Global, arg: Arg) -> Result<Val, AllocError> {
     }
 }
 
-fn value(alloc: Global, arg: Arg) -> Result<Val, AllocError> {
+fn value(alloc: Global, arg: Arg<'_>) -> Result<Val, AllocError> {
     match arg {
         Arg::List(items) => {
             let mut list = Vals::new(alloc);
@@ -59,7 +59,7 @@ fn value(alloc: Global, arg: Arg) -> Result<Val, AllocError> {
     }
 }
 
-fn values(alloc: Global, args: &[Arg]) -> Result<Vals, AllocError> {
+fn values(alloc: Global, args: &[Arg<'_>]) -> Result<Vals, AllocError> {
     let mut list = Vals::new(alloc);
     for arg in args {
         list.push(value(alloc, *arg)?)?;
@@ -99,11 +99,11 @@ fn of_one(function: Fun, args: &Vals) -> Result<Val, EvalFault>
     }
 }
 
-fn call(alloc: Global, function: Fun, args: &[Arg]) -> Result<Answer, AllocError> {
+fn call(alloc: Global, function: Fun, args: &[Arg<'_>]) -> Result<Answer, AllocError> {
     let args = values(alloc, args)?;
     match args.len() {
-        1 => Ok(answer(of_one(function, &args))),
-        2 => Ok(answer(of_two(function, &args))),
+        1 => Ok(answered(of_one(function, &args))),
+        2 => Ok(answered(of_two(function, &args))),
         _ => Ok(Answer::Other),
     }
 }
@@ -249,14 +249,17 @@ fn functions_of_one_argument_are_their_rows(rt: HostRuntime) -> Result<(), Fail>
 fn the_leftmost_argument_that_is_no_number_is_named(rt: HostRuntime) -> Result<(), Fail> {
     let args = values(rt.alloc(), &[Arg::Number(2), Arg::Null, Arg::Text("x")])?;
     if args.len() > 0 {
-        assert_eq!(rt; answer(f_max(&args)), Answer::WrongType(2));
+        assert_eq!(rt; answered(f_max(&args)), Answer::WrongType(2));
     }
     Ok(())
 }
 
 #[test]
 fn a_value_that_does_not_fit_is_measured(rt: HostRuntime) -> Result<(), Fail> {
-    assert_eq!(rt; answer(arguments::bounded(Val::Int(7))), Answer::Number(7));
+    assert_eq!(rt;
+        answered(arguments::bounded(Val::Int(7))),
+        Answer::Number(7)
+    );
     let mut deep = Val::Null;
     for _ in 0..65 {
         let mut items = Vals::new(rt.alloc());
