@@ -1,5 +1,5 @@
 -- `parse`, with a leading plus refused, against the text of a whole number.
-use Rattle.std.proofs.Common.{◌≡◌, ◌<◌, ◌^◌, ℕ, List, [], ◌∷◌, Bool, true, false, length, refl, sym, ◌∙◌, Option, Some, None, Result, Ok, Err, arith, cond, drop, ap, subst}
+use Rattle.std.proofs.Common.{◌≡◌, ℕ, List, Bool, true, false, length, refl, Some, None, Result, Ok, Err, arith, cond, drop, ap, subst}
 use Rattle.std.proofs.lemmas.Bool.{and_parts, and_from, lt-ltb, ltb-true, false_from_ne_true}
 use Rattle.std.proofs.lemmas.Int.{ints}
 use Rattle.std.proofs.lemmas.Str.Parse.{IsNumeralModel, numerals_by_value, tells_all_ascii_digits}
@@ -9,7 +9,7 @@ use Rattle.std.specs.Result.{OkIff, result_ok}
 use Rattle.std.specs.Str.{all_ascii_digits}
 use Rattle.std.specs.Str.Parse.{IsNumeral, ParsesSigned, digits_value, signed_digits_value, starts_with_minus, without_leading_sign}
 use Rattle.wf_fn_math.specs.Arguments.{fits_i64}
-use Rattle.wf_fn_math.specs.Conversion.{whole_number, without_minus, is_written_number}
+use Rattle.wf_fn_math.specs.Conversion.{whole_number, without_minus}
 
 fits-true : (v : ℤ) → FitsSigned w64 v → fits_i64 v ≡ true
 fits-true v h = grind (arith, ints)

@@ -1,8 +1,9 @@
 -- What is picked of values, by those before a place and those from it on.
-use Rattle.std.proofs.Common.{◌≡◌, ℕ, suc, List, [], ◌∷◌, map, take, drop, zero, ◌+◌, ◌<◌, length, get_or, refl, sym, ◌∙◌, ap, arith, Option, Some, None, Result, Ok, Err, Bool}
+use Rattle.std.proofs.Common.{◌≡◌, ℕ, suc, List, [], ◌∷◌, map, drop, zero, ◌+◌, ◌<◌, length, get_or, refl, sym, ◌∙◌, ap, arith, Option, Some, None, Result, Ok, Err, Bool}
 use Rattle.std.specs.Prelude.{ℤ}
+use Rattle.std.specs.List.{fold}
 use Rattle.wf_fn_math.specs.Arguments.{Answer, given}
-use Rattle.wf_fn_math.specs.Extremes.{all_numbers, picked, picked_of, better}
+use Rattle.wf_fn_math.specs.Extremes.{all_numbers, picked_of, better}
 use Rattle.wf_val.specs.Seen.{tree}
 use Rattle.wf_val.specs.declared.val.Val.{Val}
 use Rattle.wf_val.specs.ValueTree.{ValueTree, number}
@@ -12,7 +13,7 @@ use Rattle.wf_val.specs.declared.function.Fun.{Fun}
 -- what is picked of the number picked so far, if any, and of further numbers
 abbrev pub picked_on : Fun → (ℤ → ℤ → ℤ) → Option ℤ → List ℤ → Answer
 picked_on f pick None ns = picked_of f pick ns
-picked_on f pick (Some n) ns = Ok (number (picked pick n ns))
+picked_on f pick (Some n) ns = Ok (number (fold pick n ns))
 
 -- the same, of the values from a place on
 abbrev pub picked_from : Fun → (ℤ → ℤ → ℤ) → Bool → Option ℤ → ℕ → List ValueTree → Answer

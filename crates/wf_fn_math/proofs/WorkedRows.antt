@@ -1,9 +1,10 @@
 -- Rows at worked values: what the functions give where a reader can work it out.
-use Rattle.std.proofs.Common.{◌≡◌, ◌-◌, ◌^◌, refl, List, [], ◌∷◌, Ok, Err, true, false}
-use Rattle.std.specs.Prelude.{ℤ, pos, negsuc, codes}
+use Rattle.std.proofs.Common.{◌≡◌, ◌-◌, ◌^◌, refl, [], ◌∷◌, Ok, Err, true, false}
+use Rattle.std.specs.Prelude.{ℤ, Bool, pos, negsuc, codes}
+use Rattle.wf_fn_math.specs.Arguments.{bounded}
 use Rattle.wf_fn_math.specs.Arithmetic.{add_row, sub_row, mul_row, div_row, mod_row}
-use Rattle.wf_fn_math.specs.Comparison.{equals_row, greater_row, greater_or_equals_row, less_row, less_or_equals_row, not_row}
-use Rattle.wf_fn_math.specs.Conversion.{int_row, bool_row, is_int_row}
+use Rattle.wf_fn_math.specs.Comparison.{equals_row, greater_row, greater_or_equals_row, less_row}
+use Rattle.wf_fn_math.specs.Conversion.{int_row, bool_row}
 use Rattle.wf_fn_math.specs.Extremes.{min_row, max_row}
 use Rattle.wf_val.specs.ValueTree.{ValueTree, null, boolean, number, text, list, trees}
 use Rattle.wf_val.specs.declared.fault.EvalFault.{EvalFault}
@@ -112,3 +113,10 @@ bool-any_case = refl
 
 bool-digit : bool_row (text (codes "1") ∷ []) ≡ Err (EvalFault.BadText Fun.Bool)
 bool-digit = refl
+
+-- a number and a truth value always fit
+number-fits : (n : ℤ) → bounded (number n) ≡ Ok (number n)
+number-fits n = refl
+
+truth-fits : (b : Bool) → bounded (boolean b) ≡ Ok (boolean b)
+truth-fits b = refl

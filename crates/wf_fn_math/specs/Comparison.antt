@@ -1,5 +1,5 @@
 -- Comparison and logic (Workflow Definition Language, logical comparison functions).
-use Rattle.std.specs.Prelude.{ℕ, ℤ, pos, Bool, true, false, cond, not, List, Option, Some, None, Result, Ok, Err, slice_get}
+use Rattle.std.specs.Prelude.{ℤ, pos, Bool, cond, not, List, Option, Some, None, Result, Ok, Err, slice_get}
 use Rattle.std.specs.Ordering.{is_eq, is_gt, is_ge, is_lt, is_le, int_cmp}
 use Rattle.std.specs.declared.cmp.Ordering.{Ordering}
 use Rattle.wf_fn_math.specs.Arguments.{Answer, given, number_of, text_of, truth_at, wrong_type}

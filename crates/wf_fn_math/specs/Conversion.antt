@@ -1,5 +1,5 @@
 -- Conversion to numbers and truth values (Workflow Definition Language, conversion functions int, bool and isInt).
-use Rattle.std.specs.Prelude.{ℕ, ℤ, pos, Bool, true, false, not, ◌&&◌, List, [], ◌∷◌, Option, Some, None, Result, Ok, Err, is_some, length, drop, nat_le, nat_lt, slice_get, codes, if◌then◌else◌}
+use Rattle.std.specs.Prelude.{ℕ, ℤ, pos, Bool, true, false, not, ◌&&◌, List, Option, Some, None, Ok, Err, is_some, length, drop, nat_lt, slice_get, codes, if◌then◌else◌}
 use Rattle.std.specs.Ordering.{int_eq}
 use Rattle.std.specs.Str.{all_ascii_digits, str_eq_ignore_ascii_case}
 use Rattle.std.specs.Str.Parse.{starts_with_minus, signed_digits_value}

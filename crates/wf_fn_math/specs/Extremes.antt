@@ -1,6 +1,7 @@
 -- The least and the greatest of numbers (Workflow Definition Language, math functions min and max).
 use Rattle.std.specs.Prelude.{ℕ, suc, ℤ, Bool, true, false, List, [], ◌∷◌, Option, Some, None, Result, Ok, Err, ◌==◌, length, slice_get, if◌then◌else◌}
 use Rattle.std.specs.Int.{int_min, int_max}
+use Rattle.std.specs.List.{reduce}
 use Rattle.wf_fn_math.specs.Arguments.{Answer, given, wrong_type}
 use Rattle.wf_fn_math.specs.declared.extremes.Extreme.{Extreme}
 use Rattle.wf_val.specs.ValueTree.{ValueTree, number, list, items}
@@ -17,15 +18,14 @@ all_numbers f in_list i [] = Ok []
 all_numbers f in_list i (number n ∷ ts) = given (all_numbers f in_list (suc i) ts) (λ ns. Ok (n ∷ ns))
 all_numbers f in_list i (t ∷ ts) = Err (wrong_type f (place_named in_list i))
 
--- the number that is picked of each two, a first one included
-abbrev pub picked : (ℤ → ℤ → ℤ) → ℤ → List ℤ → ℤ
-picked pick n [] = n
-picked pick n (m ∷ ms) = picked pick (pick n m) ms
+-- the number that is there; `Range` where none is
+abbrev pub number_or_range : Fun → Option ℤ → Answer
+number_or_range f (Some n) = Ok (number n)
+number_or_range f None = Err (EvalFault.Range f)
 
--- the number that is picked of all; `Range` where there is none
+-- the number that is left where of each two one is picked
 abbrev pub picked_of : Fun → (ℤ → ℤ → ℤ) → List ℤ → Answer
-picked_of f pick [] = Err (EvalFault.Range f)
-picked_of f pick (n ∷ ns) = Ok (number (picked pick n ns))
+picked_of f pick ns = number_or_range f (reduce pick ns)
 
 -- the items of a value that is a list
 abbrev pub items_of : Option ValueTree → Option (List ValueTree)

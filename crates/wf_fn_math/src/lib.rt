@@ -6,6 +6,9 @@
 //! judged from left to right, and the leftmost wrong one is the fault; then come the faults of the function itself.
 //! No call of this crate takes memory, and no value that it gives is too big.
 //!
+//! Laws stand beside the rows, and say in another way what they mean: `division_is_cut_towards_zero`,
+//! `min_is_the_least`, `max_is_the_greatest` and `equal_values_are_the_same`.
+//!
 //! `arguments` holds what the rows of every function share, also those of other crates: the arguments by their types,
 //! and the test of size.
 //!
@@ -19,6 +22,7 @@ mod arithmetic;
 mod comparison;
 mod conversion;
 mod extremes;
+mod laws;
 #[cfg(test)]
 mod tests;
 
@@ -29,3 +33,4 @@ pub use comparison::{
 };
 pub use conversion::{f_bool, f_int, f_is_int};
 pub use extremes::{f_max, f_min};
+pub use laws::{division_is_cut_towards_zero, max_is_the_greatest, min_is_the_least};

@@ -1,4 +1,3 @@
-use Rattle.std.proofs.Common.{refl}
 use Rattle.wf_fn_math.specs.Comparison.{beside}
 use Rattle.wf_fn_math.proofs.ComparisonLemmas.{same-from_order}
 use Rattle.wf_fn_math.proofs.comparison.equal_values_are_the_same.Goals as goal

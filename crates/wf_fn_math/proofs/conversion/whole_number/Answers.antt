@@ -1,4 +1,4 @@
-use Rattle.std.proofs.Common.{◌≡◌, ◌∙◌, sym, arith}
+use Rattle.std.proofs.Common.{◌∙◌, sym, arith}
 use Rattle.wf_fn_math.proofs.ConversionLemmas.{whole_number-parsed}
 use Rattle.wf_fn_math.proofs.conversion.whole_number.Goals as goal
 

@@ -2,7 +2,6 @@ use Rattle.std.proofs.Common.{◌≡◌, map, drop}
 use Rattle.wf_fn_math.specs.Extremes.{function_of, pick_of}
 use Rattle.wf_fn_math.proofs.ExtremesLemmas.{picked_from}
 use Rattle.wf_val.specs.Seen.{tree}
-use Rattle.wf_val.specs.declared.val.Val.{Val}
 use Rattle.std.specs.Prelude.{None}
 use Rattle.wf_fn_math.proofs.extremes.picked_of_values.Given as goal
 
