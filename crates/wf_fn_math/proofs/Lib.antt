@@ -1,0 +1,5 @@
+pub mod ExtremesLemmas
+pub mod ComparisonLemmas
+pub mod ConversionLemmas
+pub mod LawLemmas
+pub mod WorkedRows

@@ -1,0 +1,5 @@
+pub mod Arguments
+pub mod Arithmetic
+pub mod Extremes
+pub mod Comparison
+pub mod Conversion
