@@ -41,7 +41,20 @@ def least(words):
 
 inputs = file("inputs.json", {"run": "bench", "moment": "2024-05-01T12:00:00Z"})
 rows = [{"id": k, "name": "order %d" % k, "tags": ["a", "b"], "open": k % 2 == 0} for k in range(14000)]
+names = ["A%03d" % k for k in range(500)]
+
+
+def graph(after):
+    return {"actions": {
+        name: {"type": "Compose", "inputs": k, "runAfter": {other: ["Succeeded"] for other in after(k)}} for k, name in enumerate(names)
+    }}
+
+
 cases = [
+    ("500 actions, each after the last", graph(lambda k: names[k - 1:k])),
+    ("500 actions, each after the next", graph(lambda k: names[k + 1:k + 2])),
+    ("500 actions, each after all before", graph(lambda k: names[:k])),
+    ("500 actions, each after all behind", graph(lambda k: names[k + 1:])),
     ("one action, a value of 0.9 MiB", {"actions": {"A": {"type": "Compose", "inputs": rows}}}),
     ("4 MiB that isn't looked at", {"metadata": [rows] * 4, "actions": {"A": {"type": "Compose", "inputs": 1}}}),
 ]

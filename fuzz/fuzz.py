@@ -29,7 +29,7 @@ def value(rng, depth=0):
     if kind == 1:
         return rng.random() < 0.5
     if kind == 2:
-        return rng.choice([0, 1, -1, 2**63 - 1, -(2**63), rng.randrange(-1000, 1000), rng.choice([7, 8, 9, 2**63, 1.5])])
+        return rng.choice([0, 1, -1, 2**63 - 1, -(2**63), rng.randrange(-1000, 1000), 2**63 if rng.random() < 0.1 else 1.5 if rng.random() < 0.1 else 7])
     if kind in (3, 4):
         return "".join(rng.choice('aB0 "\\/\n\t\x1f\x7fé€😀{' + "}@"[rng.random() < 0.02]) for _ in range(rng.randrange(8)))
     if kind in (5, 6):
@@ -37,12 +37,28 @@ def value(rng, depth=0):
     return {str(value(rng, 4)): value(rng, depth + 1) for _ in range(rng.randrange(4))}
 
 
+def action(rng, names):
+    made = {"type": rng.choice(["Compose", "compose", "COMPOSE"] if rng.random() < 0.95 else ["Http", "", 1]), "inputs": value(rng)}
+    if names and rng.random() < 0.7:
+        after = rng.sample(names, rng.randrange(min(4, len(names)) + 1))
+        made["runAfter"] = {name: ["Succeeded" if rng.random() < 0.99 else "Failed"] for name in after}
+    if rng.random() < 0.05:
+        made[rng.choice(["runAfter", "trackedProperties", "x"])] = value(rng)
+    return made
+
+
+# A definition whose actions wait for ones that are made before them, or in one case of twenty for any.
 def definition(rng):
-    action = {"type": rng.choice(["Compose", "compose", "COMPOSE"] if rng.random() < 0.9 else ["Http", "", 1]), "inputs": value(rng)}
-    if rng.random() < 0.2:
-        action[rng.choice(["runAfter", "trackedProperties", "x"])] = value(rng)
-    whole = {"actions": {rng.choice(["A", "B", "é" * 80, "😀"] if rng.random() < 0.9 else ["", "a" * 81, "a\tb", "\x7f"]): action} if rng.random() < 0.9 else value(rng)}
-    if rng.random() < 0.2:
+    names = ["A", "B", "b", "é" * 80, "😀", "A0", "Z z"]
+    if rng.random() < 0.1:
+        names[rng.randrange(len(names))] = rng.choice(["", "a" * 81, "a\tb", "\x7f"])
+    rng.shuffle(names)
+    names = names[:rng.choice([0, 1, 1, 2, 3, 5, 7])]
+    astray = rng.random() < 0.05
+    actions = [(name, action(rng, names if astray else names[:place])) for place, name in enumerate(names)]
+    rng.shuffle(actions)
+    whole = {"actions": dict(actions) if rng.random() < 0.97 else value(rng)}
+    if rng.random() < 0.1:
         whole[rng.choice(["parameters", "triggers", "outputs", "definition", "x"])] = value(rng)
     return whole
 
