@@ -27,16 +27,21 @@ def file(name, value):
 
 
 def least(words):
-    times, memory = [], 0
+    times = []
     for _ in range(5):
         began = time.perf_counter()
-        child = subprocess.Popen(words, stdout=subprocess.DEVNULL)
-        _, status, usage = os.wait4(child.pid, 0)
+        subprocess.run(words, stdout=subprocess.DEVNULL, check=True)
         times.append(time.perf_counter() - began)
-        memory = max(memory, usage.ru_maxrss)
-        if status != 0:
-            raise SystemExit("%r ended with %d" % (words, status))
-    return min(times), memory / 1024
+    return min(times)
+
+
+# The greatest memory of a run in MiB. A fresh interpreter starts it, since a process counts what it had before it became the
+# program; so nothing below that interpreter's own 9 MiB can be seen.
+def memory(words):
+    start = "import os, sys; null = os.open('/dev/null', os.O_WRONLY); " \
+        "pid = os.posix_spawn(sys.argv[1], sys.argv[1:], {}, file_actions=[(os.POSIX_SPAWN_DUP2, null, 1)]); " \
+        "print(os.wait4(pid, 0)[2].ru_maxrss // 1024)"
+    return int(subprocess.run(["python3", "-I", "-S", "-c", start] + words, capture_output=True, check=True).stdout)
 
 
 inputs = file("inputs.json", {"run": "bench", "moment": "2024-05-01T12:00:00Z"})
@@ -58,10 +63,10 @@ cases = [
     ("one action, a value of 0.9 MiB", {"actions": {"A": {"type": "Compose", "inputs": rows}}}),
     ("4 MiB that isn't looked at", {"metadata": [rows] * 4, "actions": {"A": {"type": "Compose", "inputs": 1}}}),
 ]
-print("%-34s %9s %9s %9s %7s" % ("definition", "bytes", "wflow s", "jq s", "ratio"))
+print("%-34s %9s %9s %9s %7s %9s" % ("definition", "bytes", "wflow s", "jq s", "ratio", "memory"))
 for name, definition in cases:
     path = file("definition.json", definition)
-    ours, memory = least([program, "run", path, inputs])
-    theirs, _ = least(["jq", "-c", ".", path])
-    print("%-34s %9d %9.3f %9.3f %7.1f  (%d MiB at most)" % (name, os.path.getsize(path), ours, theirs, ours / theirs, memory))
+    run = [program, "run", path, inputs]
+    ours, theirs = least(run), least(["jq", "-c", ".", path])
+    print("%-34s %9d %9.3f %9.3f %7.1f %5d MiB" % (name, os.path.getsize(path), ours, theirs, ours / theirs, memory(run)))
 PROGRAM
