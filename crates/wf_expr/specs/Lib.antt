@@ -9,3 +9,8 @@ pub mod DataCounts
 pub mod DataCountFalls
 pub mod CondTree
 pub mod CondSeen
+pub mod Kinds
+pub mod Reading
+pub mod Words
+pub mod Grammar
+pub mod Spells

@@ -6,6 +6,10 @@
 //! and a `Cond` is the condition of an `If` or an `Until`. Contracts see each of them as a tree over plain lists and
 //! numbers, so that what is said and proved above this crate speaks of trees and never of buffers or boxes.
 //!
+//! `specs/Grammar.antt` says which characters a text may consist of and what they stand for, and `specs/Spells.antt`
+//! which template a text spells; `no_two_templates` promises that no text spells two, and `a_template_or_a_fault` that
+//! a text that spells none has one place where it goes wrong.
+//!
 //! This crate evaluates no expression, knows no function's name or arity, and reads no JSON. What takes memory takes
 //! its allocator, and answers an error where none is left, with everything that it was lent as before; what the call
 //! was given by value is then dropped.
@@ -13,6 +17,7 @@
 
 mod cond;
 mod expr;
+mod law;
 mod template;
 #[cfg(test)]
 mod tests;
@@ -21,6 +26,7 @@ mod tree_fields;
 
 pub use cond::{Cond, Conds};
 pub use expr::{Expr, Exprs};
+pub use law::{a_template_or_a_fault, no_two_templates};
 pub use template::{Piece, Pieces, Template};
 pub use tree::{Tree, Trees};
 pub use tree_fields::TreeFields;
