@@ -1,7 +1,7 @@
 -- The grammar of templates (Workflow Definition Language, "Expressions" and "Functions"), on characters: each relation
 -- says of a text s that something stands at its front, and that r comes after it. Nothing in it takes as much as it
 -- can: a relation may stop early, and then what comes after has to go on.
-use Rattle.std.specs.Prelude.{◌≡◌, ℕ, suc, ◌+◌, ◌*◌, ◌-◌, ◌<◌, Bool, true, false, List, [], ◌∷◌, ◌++◌}
+use Rattle.std.specs.Prelude.{◌≡◌, ℕ, suc, ◌+◌, ◌*◌, ◌-◌, ◌<◌, Bool, true, false, List, [], ◌∷◌, ◌++◌, length}
 use Rattle.std.specs.Char.{encode_utf8}
 use Rattle.wf_expr.specs.Kinds.{kind, Blank, Digit, Letter, Quote, Open, Close, Bracket, Unbracket, Comma, Dot, Soft, Under, Dollar, Minus, At, Brace, Unbrace}
 use Rattle.wf_expr.specs.Words.{Word}
@@ -99,20 +99,24 @@ pub data Unmarked : List ℕ → Type 0 where
   at_at_end : {a : ℕ} → kind a ≡ At → Unmarked (a ∷ [])
   at_no_mark : {a c : ℕ} {s : List ℕ} → kind a ≡ At → (kind c ≡ Brace → ⊥) → Unmarked (a ∷ c ∷ s)
 
+-- Where the remainder r of a text of T characters begins, counted from 0.
+abbrev pub place : ℕ → List ℕ → ℕ
+place T r = T - length r
+
 -- A text with expressions in it: `@@{` stands for `@{`, `@{` and `}` hold an expression, and every other character
 -- stands for itself.
-pub data Items : List ℕ → List Item → Type 0 where
-  no_items : Items [] []
-  escape : {a b c : ℕ} {s : List ℕ} {items : List Item} → kind a ≡ At → kind b ≡ At → kind c ≡ Brace → Items s items → Items (a ∷ b ∷ c ∷ s) (character b ∷ character c ∷ items)
-  part : {a b u : ℕ} {s m : List ℕ} {e : ExprTree} {items : List Item} → kind a ≡ At → kind b ≡ Brace → Expr 0 s e (u ∷ m) → kind u ≡ Unbrace → Items m items → Items (a ∷ b ∷ s) (embedded e ∷ items)
-  itself_char : {c : ℕ} {s : List ℕ} {items : List Item} → (kind c ≡ At → ⊥) → Items s items → Items (c ∷ s) (character c ∷ items)
-  itself_at : {a : ℕ} {s : List ℕ} {items : List Item} → kind a ≡ At → Unmarked s → Items s items → Items (a ∷ s) (character a ∷ items)
+pub data Items (T : ℕ) : List ℕ → List Item → Type 0 where
+  no_items : Items T [] []
+  escape : {a b c : ℕ} {s : List ℕ} {items : List Item} → kind a ≡ At → kind b ≡ At → kind c ≡ Brace → Items T s items → Items T (a ∷ b ∷ c ∷ s) (character b ∷ character c ∷ items)
+  part : {a b u : ℕ} {s m : List ℕ} {e : ExprTree} {items : List Item} → kind a ≡ At → kind b ≡ Brace → Expr 0 s e (u ∷ m) → kind u ≡ Unbrace → Items T m items → Items T (a ∷ b ∷ s) (embedded e (place T (u ∷ m) - suc (place T (b ∷ s))) ∷ items)
+  itself_char : {c : ℕ} {s : List ℕ} {items : List Item} → (kind c ≡ At → ⊥) → Items T s items → Items T (c ∷ s) (character c ∷ items)
+  itself_at : {a : ℕ} {s : List ℕ} {items : List Item} → kind a ≡ At → Unmarked s → Items T s items → Items T (a ∷ s) (character a ∷ items)
 
 -- A text of a definition: `@` and one expression; or, where `@@` or `@{` stands at the start or no `@` does, a text
 -- with expressions in it. `@@` at the start stands for `@`.
-pub data Reads : List ℕ → Reading → Type 0 where
-  expression : {a : ℕ} {s : List ℕ} {e : ExprTree} → kind a ≡ At → Expr 0 s e [] → Reads (a ∷ s) (whole_of e)
-  two_ats : {a b : ℕ} {s : List ℕ} {items : List Item} → kind a ≡ At → kind b ≡ At → Items s items → Reads (a ∷ b ∷ s) (items_of (character a ∷ items))
-  empty : Reads [] (items_of [])
-  no_at : {c : ℕ} {s : List ℕ} {items : List Item} → (kind c ≡ At → ⊥) → Items (c ∷ s) items → Reads (c ∷ s) (items_of items)
-  part_first : {a b : ℕ} {s : List ℕ} {items : List Item} → kind a ≡ At → kind b ≡ Brace → Items (a ∷ b ∷ s) items → Reads (a ∷ b ∷ s) (items_of items)
+pub data Reads (T : ℕ) : List ℕ → Reading → Type 0 where
+  expression : {a : ℕ} {s : List ℕ} {e : ExprTree} → kind a ≡ At → Expr 0 s e [] → Reads T (a ∷ s) (whole_of e)
+  two_ats : {a b : ℕ} {s : List ℕ} {items : List Item} → kind a ≡ At → kind b ≡ At → Items T s items → Reads T (a ∷ b ∷ s) (items_of (character a ∷ items))
+  empty : Reads T [] (items_of [])
+  no_at : {c : ℕ} {s : List ℕ} {items : List Item} → (kind c ≡ At → ⊥) → Items T (c ∷ s) items → Reads T (c ∷ s) (items_of items)
+  part_first : {a b : ℕ} {s : List ℕ} {items : List Item} → kind a ≡ At → kind b ≡ Brace → Items T (a ∷ b ∷ s) items → Reads T (a ∷ b ∷ s) (items_of items)

@@ -34,10 +34,10 @@ abbrev pub joined : List ExprTree → ExprTrees → ExprTrees
 joined [] es = es
 joined (x ∷ xs) es = expr_then x (joined xs es)
 
--- a character that stands for itself, or an expression that stood in `@{` and `}`
+-- a character that stands for itself, or an expression that stood in `@{` and `}`, with its length in characters
 pub data Item : Type 0 where
   character : ℕ → Item
-  embedded : ExprTree → Item
+  embedded : ExprTree → ℕ → Item
 
 -- the text is one expression, or items in a row
 pub data Reading : Type 0 where
@@ -54,7 +54,7 @@ put_character c (part e ∷ ps) = letters (encode_utf8 c) ∷ part e ∷ ps
 abbrev pub pieces_of : List Item → List PieceTree
 pieces_of [] = []
 pieces_of (character c ∷ items) = put_character c (pieces_of items)
-pieces_of (embedded e ∷ items) = part e ∷ pieces_of items
+pieces_of (embedded e n ∷ items) = part e ∷ pieces_of items
 
 -- a text without an expression is plain
 abbrev pub template_of_pieces : List PieceTree → TemplateTree

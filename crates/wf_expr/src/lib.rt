@@ -6,9 +6,9 @@
 //! and a `Cond` is the condition of an `If` or an `Until`. Contracts see each of them as a tree over plain lists and
 //! numbers, so that what is said and proved above this crate speaks of trees and never of buffers or boxes.
 //!
-//! `specs/Grammar.antt` says which characters a text may consist of and what they stand for, and `specs/Spells.antt`
-//! which template a text spells; `no_two_templates` promises that no text spells two, and `a_template_or_a_fault` that
-//! a text that spells none has one place where it goes wrong.
+//! `specs/Grammar.antt` says what the characters of a text stand for, and `specs/Spells.antt` which template a text
+//! spells, where a text goes wrong that spells none, and which text has too long an expression. `no_two_templates`
+//! promises that no text is two of these, and `a_template_or_a_fault` that each text is one of them.
 //!
 //! This crate evaluates no expression, knows no function's name or arity, and reads no JSON. What takes memory takes
 //! its allocator, and answers an error where none is left, with everything that it was lent as before; what the call
