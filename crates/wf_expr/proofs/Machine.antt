@@ -1,0 +1,199 @@
+-- What reading the next character does.
+use Rattle.std.specs.Prelude.{ℕ, suc, ◌+◌, ◌*◌, ◌-◌, Bool, true, false, List, [], ◌∷◌, ◌++◌, Option, Some, None, Result, Ok, Err, nat_lt, ◌||◌}
+use Rattle.std.specs.Char.{encode_utf8}
+use Rattle.wf_expr.specs.Kinds.{Kind}
+use Rattle.wf_expr.specs.Kinds.{Blank, Digit, Letter, Quote, Open, Close, Bracket, Unbracket, Comma, Dot, Soft, Under, Dollar, Minus, At, Brace, Unbrace}
+use Rattle.wf_expr.specs.Kinds.{kind}
+use Rattle.wf_expr.proofs.WordTests.{word_of, word_front}
+use Rattle.wf_expr.specs.ExprTree.{ExprTree, call, member, index, no_exprs}
+use Rattle.wf_expr.specs.Reading.{number_literal, text_literal, joined, Item, character, embedded, Reading, whole_of, items_of, signed, limit}
+
+-- what is open: a call with the arguments so far, or a base whose key is read
+pub data Stack : Type 0 where
+  whole : Stack
+  in_part : List Item → ℕ → Stack
+  call_of : List ℕ → List ExprTree → Stack → Stack
+  key_of : ExprTree → Bool → Stack → Stack
+
+-- how many brackets are open
+abbrev pub depth : Stack → ℕ
+depth whole = 0
+depth (in_part items p) = 0
+depth (call_of f front k) = suc (depth k)
+depth (key_of b soft k) = suc (depth k)
+
+pub data Mode : Type 0 where
+  at_start : Mode
+  at_sign : ℕ → Mode
+  plain : List Item → Mode
+  one_at : List Item → ℕ → Mode
+  two_at : List Item → ℕ → ℕ → Mode
+  at_first : Mode
+  at_args : List ℕ → Mode
+  at_minus : Mode
+  in_int : Bool → ℕ → Mode
+  in_quoted : List ℕ → Mode
+  at_quote : List ℕ → Mode
+  in_name : List ℕ → Mode
+  at_named : List ℕ → Mode
+  after : ExprTree → Mode
+  at_soft : ExprTree → Mode
+  at_dot : ExprTree → Bool → Mode
+  in_member : ExprTree → Bool → List ℕ → Mode
+
+abbrev pub State : Type 0
+State = Mode × Stack
+
+abbrev pub checked : Bool → State → ℕ → Option State
+checked true s at = Some s
+checked false s at = None
+
+abbrev pub opens : Stack → State → ℕ → Option State
+opens k s at = checked (nat_lt (depth k) 64) s at
+
+abbrev pub closes : ExprTree → Stack → ℕ → Option State
+closes b (call_of f done k) at = Some (after (call f (joined (done ++ b ∷ []) no_exprs)), k)
+closes b (key_of x soft k) at = None
+closes b whole at = None
+closes b (in_part items p) at = None
+
+abbrev pub separates : ExprTree → Stack → ℕ → Option State
+separates b (call_of f done k) at = Some (at_first, call_of f (done ++ b ∷ []) k)
+separates b (key_of x soft k) at = None
+separates b whole at = None
+separates b (in_part items p) at = None
+
+abbrev pub ends_key : ExprTree → Stack → ℕ → Option State
+ends_key b (key_of x soft k) at = Some (after (index x b soft), k)
+ends_key b (call_of f done k) at = None
+ends_key b whole at = None
+ends_key b (in_part items p) at = None
+
+abbrev pub ends_part : ExprTree → Stack → ℕ → Option State
+ends_part b (in_part items p) at = Some (plain (items ++ embedded b (at - suc p) ∷ []), whole)
+ends_part b whole at = None
+ends_part b (call_of f front k) at = None
+ends_part b (key_of x soft k) at = None
+
+-- after the expression b
+abbrev pub follow : ExprTree → Stack → Kind → ℕ → Option State
+follow b k Blank at = Some (after b, k)
+follow b k Dot at = Some (at_dot b false, k)
+follow b k Soft at = Some (at_soft b, k)
+follow b k Bracket at = opens k (at_first, key_of b false k) at
+follow b k Comma at = separates b k at
+follow b k Close at = closes b k at
+follow b k Unbracket at = ends_key b k at
+follow b k Unbrace at = ends_part b k at
+follow b k _ at = None
+
+abbrev pub is_word : Option ExprTree → Bool
+is_word None = false
+is_word (Some v) = true
+
+-- a name that can still be a call's, or a word
+abbrev pub names : List ℕ → Stack → ℕ → Option State
+names t k at = checked (nat_lt (depth k) 64 || word_front t) (in_name t, k) at
+
+-- after a word
+abbrev pub after_word : Option ExprTree → Stack → Kind → ℕ → Option State
+after_word None k x at = None
+after_word (Some v) k x at = follow v k x at
+
+abbrev pub begin : Stack → ℕ → Kind → ℕ → Option State
+begin k c Blank at = Some (at_first, k)
+begin k c Digit at = Some (in_int false (c - 48), k)
+begin k c Minus at = Some (at_minus, k)
+begin k c Quote at = Some (in_quoted [], k)
+begin k c Letter at = names (encode_utf8 c) k at
+begin k c _ at = None
+
+abbrev pub text_step : List Item → ℕ → Kind → ℕ → Option State
+text_step items c At at = Some (one_at items c, whole)
+text_step items c x at = Some (plain (items ++ character c ∷ []), whole)
+
+abbrev pub step_at : Mode → Stack → ℕ → Kind → ℕ → Option State
+step_at at_start k c At at = Some (at_sign c, whole)
+step_at at_start k c x at = text_step [] c x at
+step_at (at_sign a) k c At at = Some (plain (character a ∷ []), whole)
+step_at (at_sign a) k c Brace at = Some (at_first, in_part [] at)
+step_at (at_sign a) k c x at = begin whole c x at
+step_at (plain items) k c x at = text_step items c x at
+step_at (one_at items a) k c At at = Some (two_at items a c, whole)
+step_at (one_at items a) k c Brace at = Some (at_first, in_part items at)
+step_at (one_at items a) k c x at = Some (plain (items ++ character a ∷ character c ∷ []), whole)
+step_at (two_at items a b) k c At at = Some (two_at (items ++ character a ∷ []) b c, whole)
+step_at (two_at items a b) k c Brace at = Some (plain (items ++ character b ∷ character c ∷ []), whole)
+step_at (two_at items a b) k c x at = Some (plain (items ++ character a ∷ character b ∷ character c ∷ []), whole)
+step_at at_first k c x at = begin k c x at
+step_at (at_args f) k c Blank at = Some (at_args f, k)
+step_at (at_args f) k c Close at = Some (after (call f no_exprs), k)
+step_at (at_args f) k c x at = begin (call_of f [] k) c x at
+step_at at_minus k c Digit at = Some (in_int true (c - 48), k)
+step_at at_minus k c x at = None
+step_at (in_int neg v) k c Digit at = let z = 10 * v + (c - 48) in checked (nat_lt z (limit neg)) (in_int neg z, k) at
+step_at (in_int neg v) k c x at = follow (number_literal (signed neg v)) k x at
+step_at (in_quoted t) k c Quote at = Some (at_quote t, k)
+step_at (in_quoted t) k c x at = Some (in_quoted (t ++ encode_utf8 c), k)
+step_at (at_quote t) k c Quote at = Some (in_quoted (t ++ encode_utf8 c), k)
+step_at (at_quote t) k c x at = follow (text_literal t) k x at
+step_at (in_name t) k c Letter at = names (t ++ encode_utf8 c) k at
+step_at (in_name t) k c Digit at = names (t ++ encode_utf8 c) k at
+step_at (in_name t) k c Under at = names (t ++ encode_utf8 c) k at
+step_at (in_name t) k c Blank at = checked (nat_lt (depth k) 64 || is_word (word_of t)) (at_named t, k) at
+step_at (in_name t) k c Open at = opens k (at_args t, k) at
+step_at (in_name t) k c x at = after_word (word_of t) k x at
+step_at (at_named t) k c Blank at = Some (at_named t, k)
+step_at (at_named t) k c Open at = opens k (at_args t, k) at
+step_at (at_named t) k c x at = after_word (word_of t) k x at
+step_at (after b) k c x at = follow b k x at
+step_at (at_soft b) k c Dot at = Some (at_dot b true, k)
+step_at (at_soft b) k c Bracket at = opens k (at_first, key_of b true k) at
+step_at (at_soft b) k c x at = None
+step_at (at_dot b soft) k c Blank at = Some (at_dot b soft, k)
+step_at (at_dot b soft) k c Letter at = Some (in_member b soft (encode_utf8 c), k)
+step_at (at_dot b soft) k c Under at = Some (in_member b soft (encode_utf8 c), k)
+step_at (at_dot b soft) k c Dollar at = Some (in_member b soft (encode_utf8 c), k)
+step_at (at_dot b soft) k c x at = None
+step_at (in_member b soft t) k c Letter at = Some (in_member b soft (t ++ encode_utf8 c), k)
+step_at (in_member b soft t) k c Under at = Some (in_member b soft (t ++ encode_utf8 c), k)
+step_at (in_member b soft t) k c Dollar at = Some (in_member b soft (t ++ encode_utf8 c), k)
+step_at (in_member b soft t) k c Digit at = Some (in_member b soft (t ++ encode_utf8 c), k)
+step_at (in_member b soft t) k c x at = follow (member b t soft) k x at
+
+abbrev pub step : State → ℕ → ℕ → Option State
+step s c at = step_at s.0 s.1 c (kind c) at
+
+abbrev pub word_end : Option ExprTree → Option Reading
+word_end None = None
+word_end (Some v) = Some (whole_of v)
+
+-- the template, where the text may end
+abbrev pub finish : State → Option Reading
+finish (in_int neg v, whole) = Some (whole_of (number_literal (signed neg v)))
+finish (at_quote t, whole) = Some (whole_of (text_literal t))
+finish (in_name t, whole) = word_end (word_of t)
+finish (at_named t, whole) = word_end (word_of t)
+finish (after b, whole) = Some (whole_of b)
+finish (in_member b soft t, whole) = Some (whole_of (member b t soft))
+finish (at_start, k) = Some (items_of [])
+finish (plain items, k) = Some (items_of items)
+finish (one_at items a, k) = Some (items_of (items ++ character a ∷ []))
+finish (two_at items a b, k) = Some (items_of (items ++ character a ∷ character b ∷ []))
+finish _ = None
+
+abbrev pub went : Option State → ℕ → (State → Result Reading ℕ) → Result Reading ℕ
+went None at f = Err at
+went (Some st) at f = f st
+
+abbrev pub ended : Option Reading → ℕ → Result Reading ℕ
+ended None at = Err at
+ended (Some w) at = Ok w
+
+-- the tree, or how many characters were taken
+abbrev pub scan : State → ℕ → List ℕ → Result Reading ℕ
+scan st at [] = ended (finish st) at
+scan st at (c ∷ s) = went (step st c at) at (λ next. scan next (at + 1) s)
+
+abbrev pub start : State
+start = (at_start, whole)

@@ -1,0 +1,16 @@
+pub mod ExprTree
+pub mod ExprSeen
+pub mod TemplateTree
+pub mod TemplateSeen
+pub mod DataTree
+pub mod DataSeen
+pub mod DataCode
+pub mod DataCounts
+pub mod DataCountFalls
+pub mod CondTree
+pub mod CondSeen
+pub mod Kinds
+pub mod Reading
+pub mod Words
+pub mod Grammar
+pub mod Spells
