@@ -279,3 +279,36 @@ fn a_sink_that_fails_keeps_a_front(rt: HostRuntime) -> Result<(), Fail> {
     assert_eq!(rt; sink.faults(), 1);
     Ok(())
 }
+
+// A definition of blanks at its limit is read, and is no JSON; one byte more, and it is too long. So is a file of inputs.
+#[test]
+fn a_file_over_its_limit_is_too_long(rt: HostRuntime) -> Result<(), Fail> {
+    let alloc = rt.alloc();
+    let words = words_of(alloc, &["run", "d", "i"])?;
+    let blanks = vec![in alloc; b' '; 67_108_865]?;
+    let cases = [
+        (4_194_304, 0, 1, "definition NotJson\n"),
+        (4_194_305, 0, 1, "definition too long\n"),
+        (0, 67_108_865, 6, "inputs too long\n"),
+    ];
+    for (definition, inputs, status, text) in cases {
+        let mut files = files(alloc, HELLO, INPUTS)?;
+        if definition > 0 {
+            files.add(
+                Text::of(alloc, "d")?,
+                blanks.get(..definition).unwrap_or(&[]),
+            )?;
+        }
+        if inputs > 0 {
+            files.add(Text::of(alloc, "i")?, blanks.get(..inputs).unwrap_or(&[]))?;
+        }
+        let mut source = MemSource::new(alloc, b"")?;
+        let mut sink = MemSink::new(alloc, 4096, 4096)?;
+        assert_eq!(rt;
+            serve_words(alloc, &words, &mut files, &mut source, &mut sink),
+            status
+        );
+        assert_eq!(rt; sink.taken(), text.as_bytes());
+    }
+    Ok(())
+}
