@@ -8,7 +8,8 @@
 //!
 //! `specs/Grammar.antt` says what the characters of a text stand for, and `specs/Spells.antt` which template a text
 //! spells, where a text goes wrong that spells none, and which text has too long an expression. `no_two_templates`
-//! promises that no text is two of these, and `a_template_or_a_fault` that each text is one of them.
+//! promises that no text has two templates or two such lengths, or spells a template and has such an expression, and
+//! `a_template_or_a_fault` that each text spells a template, goes wrong at a place or has such an expression.
 //!
 //! This crate evaluates no expression, knows no function's name or arity, and reads no JSON. What takes memory takes
 //! its allocator, and answers an error where none is left, with everything that it was lent as before; what the call
