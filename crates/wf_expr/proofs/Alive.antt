@@ -1,14 +1,14 @@
 -- Each state that is reached can be completed.
 use Rattle.std.proofs.Common.{suc, ◌-◌, ◌≡◌, ℕ, ◌<◌, Bool, true, false, List, [], ◌∷◌, ◌++◌, Option, Some, None, nat_lt, ◌||◌, refl, arith, ◌⊎◌, inl, inr}
 use Rattle.std.specs.Char.{encode_utf8}
-use Rattle.wf_expr.specs.Kinds.{At}
+use Rattle.wf_expr.specs.declared.kind.Kind.TheVariants.{At}
 use Rattle.wf_expr.specs.Kinds.{kind}
 use Rattle.wf_expr.specs.ExprTree.{ExprTree, call, member, index, no_exprs, expr_then}
 use Rattle.wf_expr.specs.Reading.{number_literal, text_literal, joined, character, embedded, Reading, whole_of, items_of, signed}
-use Rattle.wf_expr.proofs.WordTests.{word_of, word_front}
+use Rattle.wf_expr.specs.WordTests.{word_of, word_front}
 use Rattle.wf_expr.proofs.WordLemmas.{Word-of, goes_on}
 use Rattle.wf_expr.specs.Grammar.{place, Digits, no_digit, digit, Quoted, closed, twice, itself, IsMore, more_letter, more_digit, more_under, IsFirst, first_letter, first_under, first_dollar, MemberTail, no_more_member, more_digit_member, more_member, MemberName, blank_member, member_name, Tail, no_more, more, Expr, blank, begins, Primary, int, minus_int, quoted, word, calls, Opens, blank_open, open_now, Args, blank_args, no_args, args, More, close, comma, Accesses, no_access, blank_access, access, soft_access, Access, name_access, key_access, Unmarked, no_mark, at_at_end, at_no_mark, Items, no_items, escape, part, itself_char, itself_at, Reads, expression, two_ats, empty, no_at, part_first}
-use Rattle.wf_expr.proofs.Machine.{Stack, whole, in_part, depth, call_of, key_of, Mode, at_start, at_sign, plain, one_at, two_at, at_first, at_args, at_minus, in_int, in_quoted, at_quote, in_name, at_named, after, at_soft, at_dot, in_member, is_word}
+use Rattle.wf_expr.specs.Machine.{Stack, whole, in_part, depth, call_of, key_of, Mode, at_start, at_sign, plain, one_at, two_at, at_first, at_args, at_minus, in_int, in_quoted, at_quote, in_name, at_named, after, at_soft, at_dot, in_member, is_word}
 use Rattle.wf_expr.proofs.Residual.{done, part_done, key, arg, After, accessed, Rest, r_start, r_sign, r_plain, r_one, r_two, r_first, r_args, r_int, r_minus, r_quoted, r_ended, r_call, r_word, r_named_call, r_named_word, r_after, r_soft, r_dot, r_member}
 use Rattle.wf_expr.proofs.Forward.{Good}
 

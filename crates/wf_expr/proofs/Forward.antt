@@ -1,16 +1,16 @@
 -- Whatever the grammar lets follow in a state, the machine takes.
 use Rattle.std.proofs.Common.{◌-◌, ◌≡◌, ℕ, suc, ◌<◌, ◌≤◌, Bool, true, List, [], ◌∷◌, ◌++◌, Some, nat_lt, ◌||◌, refl, sym, subst, arith, append_assoc, append-nil}
 use Rattle.std.specs.Char.{encode_utf8}
-use Rattle.wf_expr.specs.Kinds.{Kind}
-use Rattle.wf_expr.specs.Kinds.{Blank, Digit, Letter, Quote, Open, Under, Dollar, At, Brace}
+use Rattle.wf_expr.specs.declared.kind.Kind.{Kind}
+use Rattle.wf_expr.specs.declared.kind.Kind.TheVariants.{Blank, Digit, Letter, Quote, Open, Under, Dollar, At, Brace}
 use Rattle.wf_expr.specs.Kinds.{kind}
 use Rattle.wf_expr.specs.ExprTree.{ExprTree, call, member, ExprTrees, no_exprs, expr_then}
 use Rattle.wf_expr.specs.Reading.{number_literal, text_literal, Item, character, embedded, Reading, whole_of, items_of, signed, limit}
 use Rattle.wf_expr.specs.Words.{Word}
-use Rattle.wf_expr.proofs.WordTests.{word_of, word_front}
+use Rattle.wf_expr.specs.WordTests.{word_of, word_front}
 use Rattle.wf_expr.proofs.WordLemmas.{of-Word}
 use Rattle.wf_expr.specs.Grammar.{place, Digits, no_digit, digit, Quoted, closed, twice, itself, more_letter, more_digit, more_under, IsFirst, first_letter, first_under, first_dollar, MemberTail, no_more_member, more_digit_member, more_member, MemberName, blank_member, member_name, Tail, no_more, more, Expr, blank, begins, int, minus_int, quoted, word, calls, Opens, blank_open, open_now, Args, blank_args, no_args, args, close, comma, no_access, blank_access, access, soft_access, Access, name_access, key_access, no_mark, at_at_end, at_no_mark, Items, escape, part, itself_char, itself_at, Reads, expression, two_ats, no_at, part_first}
-use Rattle.wf_expr.proofs.Machine.{Stack, whole, in_part, depth, call_of, Mode, at_start, at_sign, plain, one_at, two_at, at_first, at_args, in_int, in_quoted, at_quote, in_name, at_named, after, at_soft, at_dot, in_member, text_step, is_word, follow, begin, step_at, step}
+use Rattle.wf_expr.specs.Machine.{Stack, whole, in_part, depth, call_of, Mode, at_start, at_sign, plain, one_at, two_at, at_first, at_args, in_int, in_quoted, at_quote, in_name, at_named, after, at_soft, at_dot, in_member, text_step, is_word, follow, begin, step_at, step}
 use Rattle.wf_expr.proofs.Residual.{Up, done, part_done, key, arg, After, accessed, Rest, r_start, r_sign, r_plain, r_one, r_two, r_first, r_args, r_int, r_minus, r_quoted, r_ended, r_twice, r_call, r_word, r_named_call, r_named_word, r_after, r_soft, r_dot, r_member, Resumes, joined-snoc, opened, or_left, or_right, can_open, named_call, named_word}
 
 abbrev pub Takes : ℕ → Mode → Stack → ℕ → List ℕ → Reading → Type 0

@@ -1,13 +1,13 @@
 -- What holds of a state that is reached holds of the next one.
 use Rattle.std.proofs.Common.{◌≡◌, ℕ, ◌+◌, ◌*◌, ◌-◌, ◌<◌, Bool, true, false, [], ◌++◌, Option, Some, None, nat_lt, nat_le, ◌&&◌, ◌||◌, if◌then◌else◌, refl, arith}
 use Rattle.std.specs.Char.{encode_utf8}
-use Rattle.wf_expr.specs.Kinds.{Kind}
-use Rattle.wf_expr.specs.Kinds.{Blank, Digit, Letter, Quote, Open, Close, Bracket, Unbracket, Comma, Dot, Soft, Under, Dollar, Minus, At, Brace, Unbrace, Other}
+use Rattle.wf_expr.specs.declared.kind.Kind.{Kind}
+use Rattle.wf_expr.specs.declared.kind.Kind.TheVariants.{Blank, Digit, Letter, Quote, Open, Close, Bracket, Unbracket, Comma, Dot, Soft, Under, Dollar, Minus, At, Brace, Unbrace, Other}
 use Rattle.wf_expr.specs.Kinds.{kind, is_digit, is_blank}
 use Rattle.wf_expr.specs.ExprTree.{ExprTree, member}
 use Rattle.wf_expr.specs.Reading.{number_literal, text_literal, signed, limit}
-use Rattle.wf_expr.proofs.WordTests.{word_of, word_front}
-use Rattle.wf_expr.proofs.Machine.{Stack, whole, in_part, depth, call_of, key_of, Mode, at_start, at_sign, plain, one_at, two_at, at_first, at_args, at_minus, in_int, in_quoted, at_quote, in_name, at_named, after, at_soft, at_dot, in_member, State, checked, closes, separates, ends_key, ends_part, is_word, after_word, follow, begin, step_at}
+use Rattle.wf_expr.specs.WordTests.{word_of, word_front}
+use Rattle.wf_expr.specs.Machine.{Stack, whole, in_part, depth, call_of, key_of, Mode, at_start, at_sign, plain, one_at, two_at, at_first, at_args, at_minus, in_int, in_quoted, at_quote, in_name, at_named, after, at_soft, at_dot, in_member, State, checked, closes, separates, ends_key, ends_part, is_word, after_word, follow, begin, step_at}
 use Rattle.wf_expr.proofs.Forward.{Good}
 use Rattle.wf_expr.proofs.Backward.{GoodIf}
 

@@ -1,7 +1,5 @@
 mod TreeFieldLemmas
-pub mod WordTests
 pub mod WordLemmas
-pub mod Machine
 pub mod Residual
 pub mod Forward
 pub mod Backward

@@ -1,15 +1,15 @@
 -- What may still be read in each state, as a relation: the rest of the text and the tree of the whole.
 use Rattle.std.proofs.Common.{length, ◌≡◌, ℕ, suc, ◌-◌, ◌<◌, Bool, true, false, List, [], ◌∷◌, ◌++◌, Option, Some, None, nat_lt, ◌||◌, refl, ap, arith}
 use Rattle.std.specs.Char.{encode_utf8}
-use Rattle.wf_expr.specs.Kinds.{Digit, Quote, Unbracket, Unbrace}
+use Rattle.wf_expr.specs.declared.kind.Kind.TheVariants.{Digit, Quote, Unbracket, Unbrace}
 use Rattle.wf_expr.specs.Kinds.{kind}
 use Rattle.wf_expr.specs.ExprTree.{ExprTree, call, member, index, ExprTrees, expr_then}
 use Rattle.wf_expr.specs.Reading.{number_literal, text_literal, joined, Item, embedded, Reading, whole_of, items_of, signed, limit}
 use Rattle.wf_expr.specs.Words.{Word}
-use Rattle.wf_expr.proofs.WordTests.{word_front}
+use Rattle.wf_expr.specs.WordTests.{word_front}
 use Rattle.wf_expr.proofs.WordLemmas.{front-Word}
 use Rattle.wf_expr.specs.Grammar.{place, Digits, Quoted, MemberTail, MemberName, Tail, Expr, Opens, Args, More, Accesses, Access, Items, Reads}
-use Rattle.wf_expr.proofs.Machine.{Stack, whole, in_part, depth, call_of, key_of, Mode, at_start, at_sign, plain, one_at, two_at, at_first, at_args, at_minus, in_int, in_quoted, at_quote, in_name, at_named, after, at_soft, at_dot, in_member, State, opens, names}
+use Rattle.wf_expr.specs.Machine.{Stack, whole, in_part, depth, call_of, key_of, Mode, at_start, at_sign, plain, one_at, two_at, at_first, at_args, at_minus, in_int, in_quoted, at_quote, in_name, at_named, after, at_soft, at_dot, in_member, State, opens, names}
 
 mutual
   -- e is read whole, and s follows

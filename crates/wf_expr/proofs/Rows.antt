@@ -7,8 +7,8 @@ use Rattle.wf_expr.specs.TemplateTree.{letters, part, plain, whole, parts}
 use Rattle.wf_expr.specs.Reading.{character, embedded, items_of, Reading, template_of, text_literal, number_literal, boolean_literal}
 use Rattle.wf_expr.specs.Grammar.{Reads}
 use Rattle.wf_expr.specs.Spells.{Spells, IsFault, too_long, over}
-use Rattle.wf_expr.proofs.WordTests.{word_of, word_front}
-use Rattle.wf_expr.proofs.Machine.{scan, start}
+use Rattle.wf_expr.specs.WordTests.{word_of, word_front}
+use Rattle.wf_expr.specs.Machine.{scan, start}
 use Rattle.wf_expr.proofs.Scans.{found, fault}
 
 spelled : (s : List ℕ) (w : Reading) → scan start 0 s ≡ Ok w → too_long s w ≡ None → Spells s (template_of w)

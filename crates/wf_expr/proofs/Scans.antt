@@ -1,16 +1,16 @@
 -- What the machine answers is what the grammar says.
 use Rattle.std.proofs.Common.{◌-◌, zero-add, ◌≡◌, ℕ, suc, ◌+◌, ◌<◌, ◌≤◌, Bool, zero, List, [], ◌∷◌, ◌++◌, length, take, Option, Some, None, Result, Ok, Err, refl, sym, ap, subst, arith, append-nil, ◌∙◌, inl, inr}
-use Rattle.wf_expr.specs.Kinds.{At}
+use Rattle.wf_expr.specs.declared.kind.Kind.TheVariants.{At}
 use Rattle.wf_expr.specs.Kinds.{kind}
 use Rattle.wf_expr.specs.ExprTree.{ExprTree, member}
 use Rattle.wf_expr.specs.Reading.{template_of, number_literal, text_literal, Item, character, Reading, whole_of, items_of, signed}
 use Rattle.wf_expr.specs.Words.{Word}
-use Rattle.wf_expr.proofs.WordTests.{word_of}
+use Rattle.wf_expr.specs.WordTests.{word_of}
 use Rattle.wf_expr.proofs.WordLemmas.{Word-of, of-Word}
 use Rattle.wf_expr.specs.Grammar.{Digits, no_digit, digit, Quoted, Tail, no_more, more, MemberTail, no_more_member, Expr, begins, blank, Accesses, no_access, access, Access, Unmarked, no_mark, at_at_end, at_no_mark, Items, no_items, escape, part, itself_char, itself_at, Reads, expression, two_ats, empty, no_at, part_first}
 use Rattle.wf_expr.specs.Spells.{Derives, Spells, IsFault, IsTooLong, too_long, Outcome}
 use Rattle.wf_expr.specs.TemplateTree.{TemplateTree}
-use Rattle.wf_expr.proofs.Machine.{step_at, Stack, whole, Mode, at_start, at_sign, plain, one_at, two_at, in_int, at_quote, in_name, at_named, after, in_member, State, step, word_end, finish, went, ended, scan, start}
+use Rattle.wf_expr.specs.Machine.{step_at, Stack, whole, Mode, at_start, at_sign, plain, one_at, two_at, in_int, at_quote, in_name, at_named, after, in_member, State, step, word_end, finish, went, ended, scan, start}
 use Rattle.wf_expr.proofs.Residual.{ResumesAt, Up, done, part_done, After, accessed, Rest, r_start, r_sign, r_plain, r_one, r_two, r_first, r_args, r_int, r_quoted, r_ended, r_twice, r_call, r_word, r_named_call, r_named_word, r_after, r_soft, r_dot, r_member, Resumes}
 use Rattle.wf_expr.proofs.Forward.{forward, Good}
 use Rattle.wf_expr.proofs.Backward.{back, GoodIf}

@@ -1,13 +1,13 @@
 -- The tests of words are the relation, and every front of a word can be completed.
 use Rattle.std.proofs.Common.{◌≡◌, ℕ, Bool, true, false, List, [], ◌∷◌, ◌++◌, nat_eq, ◌&&◌, ◌||◌, if◌then◌else◌, Some, None, refl, sym, ap, subst, arith, ◌∙◌, ◌⊎◌, inl, inr}
 use Rattle.std.specs.Char.{to_ascii_lowercase, encode_utf8}
-use Rattle.wf_expr.specs.Kinds.{Letter}
+use Rattle.wf_expr.specs.declared.kind.Kind.TheVariants.{Letter}
 use Rattle.wf_expr.specs.Kinds.{kind}
 use Rattle.wf_expr.specs.ExprTree.{ExprTree}
 use Rattle.wf_expr.specs.Reading.{boolean_literal, null_literal}
 use Rattle.wf_expr.specs.Grammar.{Tail, no_more, more, more_letter}
 use Rattle.wf_expr.specs.Words.{lower, true_text, false_text, null_text, Word, is_true, is_false, is_null}
-use Rattle.wf_expr.proofs.WordTests.{same, is_front, word_of, word_front}
+use Rattle.wf_expr.specs.WordTests.{same, is_front, word_of, word_front}
 
 eq_self : (x : ℕ) → nat_eq x x ≡ true
 eq_self x = grind arith

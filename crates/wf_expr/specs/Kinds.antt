@@ -1,26 +1,8 @@
 -- What each character is to the grammar of expressions (Workflow Definition Language, "Expressions").
 -- Letters and digits are those of ASCII; white space is space, tab, carriage return and line feed.
 use Rattle.std.specs.Prelude.{ℕ, Bool, nat_le, nat_eq, ◌&&◌, ◌||◌, if◌then◌else◌}
-
-pub data Kind : Type 0 where
-  Blank : Kind
-  Digit : Kind
-  Letter : Kind
-  Quote : Kind
-  Open : Kind
-  Close : Kind
-  Bracket : Kind
-  Unbracket : Kind
-  Comma : Kind
-  Dot : Kind
-  Soft : Kind
-  Under : Kind
-  Dollar : Kind
-  Minus : Kind
-  At : Kind
-  Brace : Kind
-  Unbrace : Kind
-  Other : Kind
+use Rattle.wf_expr.specs.declared.kind.Kind.{Kind}
+use Rattle.wf_expr.specs.declared.kind.Kind.TheVariants.{Blank, Digit, Letter, Quote, Open, Close, Bracket, Unbracket, Comma, Dot, Soft, Under, Dollar, Minus, At, Brace, Unbrace, Other}
 
 abbrev pub is_blank : ℕ → Bool
 is_blank c = nat_eq c 32 || nat_eq c 9 || nat_eq c 13 || nat_eq c 10

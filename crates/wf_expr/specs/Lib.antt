@@ -14,3 +14,5 @@ pub mod Reading
 pub mod Words
 pub mod Grammar
 pub mod Spells
+pub mod WordTests
+pub mod Machine

@@ -18,6 +18,7 @@
 
 mod cond;
 mod expr;
+mod kind;
 mod law;
 mod template;
 #[cfg(test)]

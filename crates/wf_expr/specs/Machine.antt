@@ -1,10 +1,10 @@
 -- What reading the next character does.
 use Rattle.std.specs.Prelude.{ℕ, suc, ◌+◌, ◌*◌, ◌-◌, Bool, true, false, List, [], ◌∷◌, ◌++◌, Option, Some, None, Result, Ok, Err, nat_lt, ◌||◌}
 use Rattle.std.specs.Char.{encode_utf8}
-use Rattle.wf_expr.specs.Kinds.{Kind}
-use Rattle.wf_expr.specs.Kinds.{Blank, Digit, Letter, Quote, Open, Close, Bracket, Unbracket, Comma, Dot, Soft, Under, Dollar, Minus, At, Brace, Unbrace}
+use Rattle.wf_expr.specs.declared.kind.Kind.{Kind}
+use Rattle.wf_expr.specs.declared.kind.Kind.TheVariants.{Blank, Digit, Letter, Quote, Open, Close, Bracket, Unbracket, Comma, Dot, Soft, Under, Dollar, Minus, At, Brace, Unbrace}
 use Rattle.wf_expr.specs.Kinds.{kind}
-use Rattle.wf_expr.proofs.WordTests.{word_of, word_front}
+use Rattle.wf_expr.specs.WordTests.{word_of, word_front}
 use Rattle.wf_expr.specs.ExprTree.{ExprTree, call, member, index, no_exprs}
 use Rattle.wf_expr.specs.Reading.{number_literal, text_literal, joined, Item, character, embedded, Reading, whole_of, items_of, signed, limit}
 
