@@ -241,23 +241,23 @@ back_in_int neg v k c x s w lt h r = r_int {neg = neg} no_digit lt (back_follow 
 pub ungroup : {T : ℕ} (m : Mode) (k : Stack) (s : List ℕ) (front own items : List Item) → Rest T m k s (items_of (front ++ (own ++ items))) → Rest T m k s (items_of ((front ++ own) ++ items))
 ungroup {T = T} m k s front own items r = let P : List Item → Type 0 = λ l. Rest T m k s (items_of l) in subst P (sym (append_assoc front own items)) r
 
-pub back_one_at : {T : ℕ} {front : List Item} {k : Stack} {c : ℕ} {s : List ℕ} {w : Reading} → Rest T (one_at front c) whole s w → Rest T (plain front) k (c ∷ s) w
+pub back_one_at : {T : ℕ} {front : List Item} {k : Stack} {c : ℕ} {s : List ℕ} {w : Reading} → Rest T (one_at front c) k s w → Rest T (plain front) k (c ∷ s) w
 back_one_at (r_one i) = r_plain i
 
-pub back_plain : {T : ℕ} (front : List Item) (k : Stack) (c : ℕ) (s : List ℕ) (w : Reading) → (kind c ≡ At → ⊥) → Rest T (plain (front ++ character c ∷ [])) whole s w → Rest T (plain front) k (c ∷ s) w
+pub back_plain : {T : ℕ} (front : List Item) (k : Stack) (c : ℕ) (s : List ℕ) (w : Reading) → (kind c ≡ At → ⊥) → Rest T (plain (front ++ character c ∷ [])) k s w → Rest T (plain front) k (c ∷ s) w
 back_plain front k c s w n (r_plain {items = items} i) = ungroup (plain front) k (c ∷ s) front (character c ∷ []) items (r_plain (itself_char n i))
 
-pub back_text : {T : ℕ} (front : List Item) (k : Stack) (c : ℕ) (x : Kind) (s : List ℕ) (w : Reading) → kind c ≡ x → Resumes T (text_step front c x) s w → Rest T (plain front) k (c ∷ s) w
+pub back_text : {T : ℕ} (front : List Item) (k : Stack) (c : ℕ) (x : Kind) (s : List ℕ) (w : Reading) → kind c ≡ x → Resumes T (text_step front k c x) s w → Rest T (plain front) k (c ∷ s) w
 back_text front k c At s w h r = back_one_at r
 back_text front k c x s w h r = back_plain front k c s w (λ h'. cc) r
 
-pub back_one_two : {T : ℕ} {front : List Item} {a : ℕ} {k : Stack} {c : ℕ} {s : List ℕ} {w : Reading} → Rest T (two_at front a c) whole s w → Rest T (one_at front a) k (c ∷ s) w
+pub back_one_two : {T : ℕ} {front : List Item} {a : ℕ} {k : Stack} {c : ℕ} {s : List ℕ} {w : Reading} → Rest T (two_at front a c) k s w → Rest T (one_at front a) k (c ∷ s) w
 back_one_two (r_two i) = r_one i
 
 pub back_one_part : {T : ℕ} {front : List Item} {a : ℕ} {k : Stack} {c : ℕ} {s : List ℕ} {w : Reading} → kind a ≡ At → kind c ≡ Brace → Rest T at_first (in_part front (place T (c ∷ s))) s w → Rest T (one_at front a) k (c ∷ s) w
 back_one_part ha h (r_first x (part_done hu i)) = r_one (part ha h x hu i)
 
-pub back_one_plain : {T : ℕ} (front : List Item) (a : ℕ) (k : Stack) (c : ℕ) (s : List ℕ) (w : Reading) → kind a ≡ At → (kind c ≡ At → ⊥) → (kind c ≡ Brace → ⊥) → Rest T (plain (front ++ character a ∷ character c ∷ [])) whole s w → Rest T (one_at front a) k (c ∷ s) w
+pub back_one_plain : {T : ℕ} (front : List Item) (a : ℕ) (k : Stack) (c : ℕ) (s : List ℕ) (w : Reading) → kind a ≡ At → (kind c ≡ At → ⊥) → (kind c ≡ Brace → ⊥) → Rest T (plain (front ++ character a ∷ character c ∷ [])) k s w → Rest T (one_at front a) k (c ∷ s) w
 back_one_plain front a k c s w ha n n' (r_plain {items = items} i) = ungroup (one_at front a) k (c ∷ s) front (character a ∷ character c ∷ []) items (r_one (itself_at ha (no_mark n n') (itself_char n i)))
 
 pub back_one : {T : ℕ} (front : List Item) (a : ℕ) (k : Stack) (c : ℕ) (x : Kind) (s : List ℕ) (w : Reading) → kind a ≡ At → kind c ≡ x → Resumes T (step_at (one_at front a) k c x) s w → Rest T (one_at front a) k (c ∷ s) w
@@ -265,13 +265,13 @@ back_one front a k c At s w ha h r = back_one_two r
 back_one front a k c Brace s w ha h r = back_one_part ha h r
 back_one front a k c x s w ha h r = back_one_plain front a k c s w ha (λ h'. cc) (λ h'. cc) r
 
-pub back_two_at : {T : ℕ} (front : List Item) (a b : ℕ) (k : Stack) (c : ℕ) (s : List ℕ) (w : Reading) → kind a ≡ At → kind b ≡ At → (kind c ≡ Brace → ⊥) → Rest T (two_at (front ++ character a ∷ []) b c) whole s w → Rest T (two_at front a b) k (c ∷ s) w
+pub back_two_at : {T : ℕ} (front : List Item) (a b : ℕ) (k : Stack) (c : ℕ) (s : List ℕ) (w : Reading) → kind a ≡ At → kind b ≡ At → (kind c ≡ Brace → ⊥) → Rest T (two_at (front ++ character a ∷ []) b c) k s w → Rest T (two_at front a b) k (c ∷ s) w
 back_two_at front a b k c s w ha hb n' (r_two {items = items} i) = ungroup (two_at front a b) k (c ∷ s) front (character a ∷ []) items (r_two (itself_at ha (at_no_mark hb n') i))
 
-pub back_two_brace : {T : ℕ} (front : List Item) (a b : ℕ) (k : Stack) (c : ℕ) (s : List ℕ) (w : Reading) → kind a ≡ At → kind b ≡ At → kind c ≡ Brace → Rest T (plain (front ++ character b ∷ character c ∷ [])) whole s w → Rest T (two_at front a b) k (c ∷ s) w
+pub back_two_brace : {T : ℕ} (front : List Item) (a b : ℕ) (k : Stack) (c : ℕ) (s : List ℕ) (w : Reading) → kind a ≡ At → kind b ≡ At → kind c ≡ Brace → Rest T (plain (front ++ character b ∷ character c ∷ [])) k s w → Rest T (two_at front a b) k (c ∷ s) w
 back_two_brace front a b k c s w ha hb h (r_plain {items = items} i) = ungroup (two_at front a b) k (c ∷ s) front (character b ∷ character c ∷ []) items (r_two (escape ha hb h i))
 
-pub back_two_plain : {T : ℕ} (front : List Item) (a b : ℕ) (k : Stack) (c : ℕ) (s : List ℕ) (w : Reading) → kind a ≡ At → kind b ≡ At → (kind c ≡ At → ⊥) → (kind c ≡ Brace → ⊥) → Rest T (plain (front ++ character a ∷ character b ∷ character c ∷ [])) whole s w → Rest T (two_at front a b) k (c ∷ s) w
+pub back_two_plain : {T : ℕ} (front : List Item) (a b : ℕ) (k : Stack) (c : ℕ) (s : List ℕ) (w : Reading) → kind a ≡ At → kind b ≡ At → (kind c ≡ At → ⊥) → (kind c ≡ Brace → ⊥) → Rest T (plain (front ++ character a ∷ character b ∷ character c ∷ [])) k s w → Rest T (two_at front a b) k (c ∷ s) w
 back_two_plain front a b k c s w ha hb n n' (r_plain {items = items} i) = ungroup (two_at front a b) k (c ∷ s) front (character a ∷ character b ∷ character c ∷ []) items (r_two (itself_at ha (at_no_mark hb n') (itself_at hb (no_mark n n') (itself_char n i))))
 
 pub back_two : {T : ℕ} (front : List Item) (a b : ℕ) (k : Stack) (c : ℕ) (x : Kind) (s : List ℕ) (w : Reading) → kind a ≡ At → kind b ≡ At → kind c ≡ x → Resumes T (step_at (two_at front a b) k c x) s w → Rest T (two_at front a b) k (c ∷ s) w
@@ -279,17 +279,17 @@ back_two front a b k c At s w ha hb h r = back_two_at front a b k c s w ha hb (�
 back_two front a b k c Brace s w ha hb h r = back_two_brace front a b k c s w ha hb h r
 back_two front a b k c x s w ha hb h r = back_two_plain front a b k c s w ha hb (λ h'. cc) (λ h'. cc) r
 
-pub back_start_at : {T : ℕ} {k : Stack} {c : ℕ} {s : List ℕ} {w : Reading} → Rest T (at_sign c) whole s w → Rest T at_start k (c ∷ s) w
+pub back_start_at : {T : ℕ} {k : Stack} {c : ℕ} {s : List ℕ} {w : Reading} → Rest T (at_sign c) k s w → Rest T at_start k (c ∷ s) w
 back_start_at (r_sign r) = r_start r
 
-pub back_start_text : {T : ℕ} {k : Stack} {c : ℕ} {s : List ℕ} {w : Reading} → (kind c ≡ At → ⊥) → Rest T (plain []) whole (c ∷ s) w → Rest T at_start k (c ∷ s) w
+pub back_start_text : {T : ℕ} {k : Stack} {c : ℕ} {s : List ℕ} {w : Reading} → (kind c ≡ At → ⊥) → Rest T (plain []) k (c ∷ s) w → Rest T at_start k (c ∷ s) w
 back_start_text n (r_plain i) = r_start (no_at n i)
 
 pub back_start : {T : ℕ} (k : Stack) (c : ℕ) (x : Kind) (s : List ℕ) (w : Reading) → kind c ≡ x → Resumes T (step_at at_start k c x) s w → Rest T at_start k (c ∷ s) w
 back_start k c At s w h r = back_start_at r
-back_start k c x s w h r = back_start_text (λ h'. cc) (back_plain [] whole c s w (λ h'. cc) r)
+back_start k c x s w h r = back_start_text (λ h'. cc) (back_plain [] k c s w (λ h'. cc) r)
 
-pub back_sign_two : {T : ℕ} {a : ℕ} {k : Stack} {c : ℕ} {s : List ℕ} {w : Reading} → kind a ≡ At → kind c ≡ At → Rest T (plain (character a ∷ [])) whole s w → Rest T (at_sign a) k (c ∷ s) w
+pub back_sign_two : {T : ℕ} {a : ℕ} {k : Stack} {c : ℕ} {s : List ℕ} {w : Reading} → kind a ≡ At → kind c ≡ At → Rest T (plain (character a ∷ [])) k s w → Rest T (at_sign a) k (c ∷ s) w
 back_sign_two ha h (r_plain i) = r_sign (two_ats ha h i)
 
 pub back_sign_part : {T : ℕ} {a : ℕ} {k : Stack} {c : ℕ} {s : List ℕ} {w : Reading} → kind a ≡ At → kind c ≡ Brace → Rest T at_first (in_part [] (place T (c ∷ s))) s w → Rest T (at_sign a) k (c ∷ s) w

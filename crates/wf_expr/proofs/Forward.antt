@@ -181,15 +181,15 @@ past_char no_sign (part h h' x hu i) = absurd (no_sign h)
 past_char no_sign (itself_char h i) = past i
 past_char no_sign (itself_at h um i) = absurd (no_sign h)
 
-pub regroup : {T : ℕ} (m : List Item → Mode) {s : List ℕ} (front own items : List Item) → Rest T (plain (front ++ own)) whole s (items_of ((front ++ own) ++ items)) → Rest T (plain (front ++ own)) whole s (items_of (front ++ (own ++ items)))
-regroup {T = T} m {s = s} front own items r = let P : List Item → Type 0 = λ l. Rest T (plain (front ++ own)) whole s (items_of l) in subst P (append_assoc front own items) r
+pub regroup : {T : ℕ} {k : Stack} (m : List Item → Mode) {s : List ℕ} (front own items : List Item) → Rest T (plain (front ++ own)) k s (items_of ((front ++ own) ++ items)) → Rest T (plain (front ++ own)) k s (items_of (front ++ (own ++ items)))
+regroup {T = T} {k = k} m {s = s} front own items r = let P : List Item → Type 0 = λ l. Rest T (plain (front ++ own)) k s (items_of l) in subst P (append_assoc front own items) r
 
-pub plain_past : {T : ℕ} (front : List Item) (c : ℕ) {s : List ℕ} {items : List Item} → Past T c s items → Rest T (plain (front ++ character c ∷ [])) whole s (items_of (front ++ items))
+pub plain_past : {T : ℕ} {k : Stack} (front : List Item) (c : ℕ) {s : List ℕ} {items : List Item} → Past T c s items → Rest T (plain (front ++ character c ∷ [])) k s (items_of (front ++ items))
 plain_past front c (past {items = items} i) = regroup plain front (character c ∷ []) items (r_plain i)
 
-pub forward_text : {T : ℕ} (front : List Item) (c : ℕ) (x : Kind) (s : List ℕ) (items : List Item) → kind c ≡ x → Items T (c ∷ s) items → Resumes T (text_step front c x) s (items_of (front ++ items))
-forward_text front c At s items h i = r_one i
-forward_text front c x s items h i = plain_past front c (past_char (λ h'. cc) i)
+pub forward_text : {T : ℕ} (front : List Item) (k : Stack) (c : ℕ) (x : Kind) (s : List ℕ) (items : List Item) → kind c ≡ x → Items T (c ∷ s) items → Resumes T (text_step front k c x) s (items_of (front ++ items))
+forward_text front k c At s items h i = r_one i
+forward_text front k c x s items h i = plain_past front c (past_char (λ h'. cc) i)
 
 pub one_brace : {T : ℕ} {a c : ℕ} {s : List ℕ} {front items : List Item} → kind a ≡ At → kind c ≡ Brace → Items T (a ∷ c ∷ s) items → Rest T at_first (in_part front (place T (c ∷ s))) s (items_of (front ++ items))
 one_brace ha h (escape h1 h2 h3 i) = absurd (cc)
@@ -211,7 +211,7 @@ one_other ha n n' (part h1 h2 x hu i) = absurd (n' h2)
 one_other ha n n' (itself_char h1 i) = absurd (h1 ha)
 one_other {a = a} ha n n' (itself_at h1 um i) = past2_of a (past_char n i)
 
-pub plain_past2 : {T : ℕ} (front : List Item) (a c : ℕ) {s : List ℕ} {items : List Item} → Past2 T a c s items → Rest T (plain (front ++ character a ∷ character c ∷ [])) whole s (items_of (front ++ items))
+pub plain_past2 : {T : ℕ} {k : Stack} (front : List Item) (a c : ℕ) {s : List ℕ} {items : List Item} → Past2 T a c s items → Rest T (plain (front ++ character a ∷ character c ∷ [])) k s (items_of (front ++ items))
 plain_past2 front a c (past2 {items = items} i) = regroup plain front (character a ∷ character c ∷ []) items (r_plain i)
 
 pub forward_one : {T : ℕ} (front : List Item) (a : ℕ) (k : Stack) (c : ℕ) (x : Kind) (s : List ℕ) (items : List Item) → kind a ≡ At → kind c ≡ x → Items T (a ∷ c ∷ s) items → Resumes T (step_at (one_at front a) k c x) s (items_of (front ++ items))
@@ -219,11 +219,11 @@ forward_one front a k c At s items ha h i = r_two i
 forward_one front a k c Brace s items ha h i = one_brace ha h i
 forward_one front a k c x s items ha h i = plain_past2 front a c (one_other ha (λ h'. cc) (λ h'. cc) i)
 
-pub two_at_at : {T : ℕ} (front : List Item) {a b c : ℕ} {s : List ℕ} {items : List Item} → kind a ≡ At → kind b ≡ At → kind c ≡ At → Items T (a ∷ b ∷ c ∷ s) items → Rest T (two_at (front ++ character a ∷ []) b c) whole s (items_of (front ++ items))
+pub two_at_at : {T : ℕ} {k : Stack} (front : List Item) {a b c : ℕ} {s : List ℕ} {items : List Item} → kind a ≡ At → kind b ≡ At → kind c ≡ At → Items T (a ∷ b ∷ c ∷ s) items → Rest T (two_at (front ++ character a ∷ []) b c) k s (items_of (front ++ items))
 two_at_at front ha hb hc (escape h1 h2 h3 i) = absurd (cc)
 two_at_at front ha hb hc (part h1 h2 x hu i) = absurd (cc)
 two_at_at front ha hb hc (itself_char h1 i) = absurd (h1 ha)
-two_at_at {T = T} front {a = a} {b = b} {c = c} {s = s} ha hb hc (itself_at {items = items} h1 um i) = let P : List Item → Type 0 = λ l. Rest T (two_at (front ++ character a ∷ []) b c) whole s (items_of l) in subst P (append_assoc front (character a ∷ []) items) (r_two i)
+two_at_at {T = T} {k = k} front {a = a} {b = b} {c = c} {s = s} ha hb hc (itself_at {items = items} h1 um i) = let P : List Item → Type 0 = λ l. Rest T (two_at (front ++ character a ∷ []) b c) k s (items_of l) in subst P (append_assoc front (character a ∷ []) items) (r_two i)
 
 pub two_brace : {T : ℕ} {a b c : ℕ} {s : List ℕ} {items : List Item} → kind a ≡ At → kind b ≡ At → kind c ≡ Brace → Items T (a ∷ b ∷ c ∷ s) items → Past2 T b c s items
 two_brace ha hb hc (escape h1 h2 h3 i) = past2 i
@@ -244,7 +244,7 @@ two_other ha hb n n' (part h1 h2 x hu i) = absurd (cc)
 two_other ha hb n n' (itself_char h1 i) = absurd (h1 ha)
 two_other {a = a} ha hb n n' (itself_at h1 um i) = past3_of a (one_other hb n n' i)
 
-pub plain_past3 : {T : ℕ} (front : List Item) (a b c : ℕ) {s : List ℕ} {items : List Item} → Past3 T a b c s items → Rest T (plain (front ++ character a ∷ character b ∷ character c ∷ [])) whole s (items_of (front ++ items))
+pub plain_past3 : {T : ℕ} {k : Stack} (front : List Item) (a b c : ℕ) {s : List ℕ} {items : List Item} → Past3 T a b c s items → Rest T (plain (front ++ character a ∷ character b ∷ character c ∷ [])) k s (items_of (front ++ items))
 plain_past3 front a b c (past3 {items = items} i) = regroup plain front (character a ∷ character b ∷ character c ∷ []) items (r_plain i)
 
 pub forward_two : {T : ℕ} (front : List Item) (a b : ℕ) (k : Stack) (c : ℕ) (x : Kind) (s : List ℕ) (items : List Item) → kind a ≡ At → kind b ≡ At → kind c ≡ x → Items T (a ∷ b ∷ c ∷ s) items → Resumes T (step_at (two_at front a b) k c x) s (items_of (front ++ items))
@@ -256,17 +256,17 @@ forward_two front a b k c x s items ha hb h i = plain_past3 front a b c (two_oth
 pub forward_whole : (T : ℕ) {c : ℕ} {e : ExprTree} {s : List ℕ} → (x : Kind) → kind c ≡ x → Expr 0 (c ∷ s) e [] → Resumes T (begin whole c x) s (whole_of e)
 forward_whole T {c = c} {e = e} {s = s} x h ex = let P : Kind → Type 0 = λ x. Resumes T (begin whole c x) s (whole_of e) in subst P h (forward_begin ex done)
 
-pub start_other : {T : ℕ} {c : ℕ} {s : List ℕ} {w : Reading} → (x : Kind) → kind c ≡ x → (kind c ≡ At → ⊥) → Reads T (c ∷ s) w → Resumes T (text_step [] c x) s w
-start_other x h n (expression ha ex) = absurd (n ha)
-start_other x h n (two_ats ha hb i) = absurd (n ha)
-start_other {c = c} {s = s} x h n (no_at {items = items} h' i) = forward_text [] c x s items h i
-start_other x h n (part_first ha hb i) = absurd (n ha)
+pub start_other : {T : ℕ} (k : Stack) {c : ℕ} {s : List ℕ} {w : Reading} → (x : Kind) → kind c ≡ x → (kind c ≡ At → ⊥) → Reads T (c ∷ s) w → Resumes T (text_step [] k c x) s w
+start_other k x h n (expression ha ex) = absurd (n ha)
+start_other k x h n (two_ats ha hb i) = absurd (n ha)
+start_other k {c = c} {s = s} x h n (no_at {items = items} h' i) = forward_text [] k c x s items h i
+start_other k x h n (part_first ha hb i) = absurd (n ha)
 
 pub forward_start : {T : ℕ} (k : Stack) (c : ℕ) (x : Kind) (s : List ℕ) (w : Reading) → kind c ≡ x → Reads T (c ∷ s) w → Resumes T (step_at at_start k c x) s w
 forward_start k c At s w h r = r_sign r
-forward_start k c x s w h r = start_other x h (λ h'. cc) r
+forward_start k c x s w h r = start_other k x h (λ h'. cc) r
 
-pub sign_at : {T : ℕ} {a c : ℕ} {s : List ℕ} {w : Reading} → kind a ≡ At → kind c ≡ At → Reads T (a ∷ c ∷ s) w → Rest T (plain (character a ∷ [])) whole s w
+pub sign_at : {T : ℕ} {k : Stack} {a c : ℕ} {s : List ℕ} {w : Reading} → kind a ≡ At → kind c ≡ At → Reads T (a ∷ c ∷ s) w → Rest T (plain (character a ∷ [])) k s w
 sign_at ha h (expression h1 ex) = absurd (forward_whole 0 At h ex)
 sign_at ha h (two_ats h1 h2 i) = r_plain i
 sign_at ha h (no_at h1 i) = absurd (h1 ha)
@@ -302,7 +302,7 @@ Good m k = Unit {0}
 pub forward : {T : ℕ} {m : Mode} {k : Stack} {c : ℕ} {s : List ℕ} {w : Reading} → Good m k → Rest T m k (c ∷ s) w → Resumes T (step (m, k) c) s w
 forward {k = k} {c = c} {s = s} {w = w} g (r_start r) = forward_start k c (kind c) s w refl r
 forward {k = k} {c = c} {s = s} {w = w} g (r_sign {a = a} r) = forward_sign a k c (kind c) s w g refl r
-forward {c = c} {s = s} g (r_plain {front = front} {items = items} i) = forward_text front c (kind c) s items refl i
+forward {k = k} {c = c} {s = s} g (r_plain {front = front} {items = items} i) = forward_text front k c (kind c) s items refl i
 forward {k = k} {c = c} {s = s} g (r_one {front = front} {items = items} {a = a} i) = forward_one front a k c (kind c) s items g refl i
 forward {k = k} {c = c} {s = s} g (r_two {front = front} {items = items} {a = a} {b = b} i) = forward_two front a b k c (kind c) s items g.0 g.1 refl i
 forward g (r_first x up) = forward_begin x up

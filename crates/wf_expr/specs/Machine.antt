@@ -1,5 +1,5 @@
 -- What reading the next character does.
-use Rattle.std.specs.Prelude.{ℕ, suc, ◌+◌, ◌*◌, ◌-◌, Bool, true, false, List, [], ◌∷◌, ◌++◌, Option, Some, None, Result, Ok, Err, nat_lt, ◌||◌}
+use Rattle.std.specs.Prelude.{ℕ, suc, if◌then◌else◌, ◌+◌, ◌*◌, ◌-◌, Bool, true, false, List, [], ◌∷◌, ◌++◌, Option, Some, None, Result, Ok, Err, nat_lt, ◌||◌}
 use Rattle.std.specs.Char.{encode_utf8}
 use Rattle.wf_expr.specs.declared.kind.Kind.{Kind}
 use Rattle.wf_expr.specs.declared.kind.Kind.TheVariants.{Blank, Digit, Letter, Quote, Open, Close, Bracket, Unbracket, Comma, Dot, Soft, Under, Dollar, Minus, At, Brace, Unbrace}
@@ -51,29 +51,75 @@ checked false s at = None
 abbrev pub opens : Stack → State → ℕ → Option State
 opens k s at = checked (nat_lt (depth k) 64) s at
 
+-- the innermost part that a bracket opened
+pub data Opened : Type 0 where
+  open_call : List ℕ → List ExprTree → Opened
+  open_key : ExprTree → Bool → Opened
+
+abbrev pub top : Stack → Option Opened
+top whole = None
+top (in_part items p) = None
+top (call_of f front k) = Some (open_call f front)
+top (key_of b soft k) = Some (open_key b soft)
+
+-- what is open around it
+abbrev pub below : Stack → Stack
+below whole = whole
+below (in_part items p) = in_part items p
+below (call_of f front k) = k
+below (key_of b soft k) = k
+
+abbrev pub framed : Opened → Stack → Stack
+framed (open_call f front) k = call_of f front k
+framed (open_key b soft) k = key_of b soft k
+
+-- the text before an expression and the place of its `{`, where no bracket of the expression is open
+abbrev pub part_of : Stack → Option (List Item × ℕ)
+part_of whole = None
+part_of (in_part items p) = Some (items, p)
+part_of (call_of f front k) = None
+part_of (key_of b soft k) = None
+
+abbrev pub is_whole : Stack → Bool
+is_whole whole = true
+is_whole (in_part items p) = false
+is_whole (call_of f front k) = false
+is_whole (key_of b soft k) = false
+
+-- a `)` after the expression b
+abbrev pub closed : ExprTree → Option Opened → Stack → Option State
+closed b (Some (open_call f front)) k = Some (after (call f (joined (front ++ b ∷ []) no_exprs)), k)
+closed b (Some (open_key x soft)) k = None
+closed b None k = None
+
 abbrev pub closes : ExprTree → Stack → ℕ → Option State
-closes b (call_of f done k) at = Some (after (call f (joined (done ++ b ∷ []) no_exprs)), k)
-closes b (key_of x soft k) at = None
-closes b whole at = None
-closes b (in_part items p) at = None
+closes b k at = closed b (top k) (below k)
+
+-- a `,` after it
+abbrev pub separated : ExprTree → Option Opened → Stack → Option State
+separated b (Some (open_call f front)) k = Some (at_first, call_of f (front ++ b ∷ []) k)
+separated b (Some (open_key x soft)) k = None
+separated b None k = None
 
 abbrev pub separates : ExprTree → Stack → ℕ → Option State
-separates b (call_of f done k) at = Some (at_first, call_of f (done ++ b ∷ []) k)
-separates b (key_of x soft k) at = None
-separates b whole at = None
-separates b (in_part items p) at = None
+separates b k at = separated b (top k) (below k)
+
+-- a `]` after it
+abbrev pub key_ended : ExprTree → Option Opened → Stack → Option State
+key_ended b (Some (open_key x soft)) k = Some (after (index x b soft), k)
+key_ended b (Some (open_call f front)) k = None
+key_ended b None k = None
 
 abbrev pub ends_key : ExprTree → Stack → ℕ → Option State
-ends_key b (key_of x soft k) at = Some (after (index x b soft), k)
-ends_key b (call_of f done k) at = None
-ends_key b whole at = None
-ends_key b (in_part items p) at = None
+ends_key b k at = key_ended b (top k) (below k)
+
+-- a `}` after it
+abbrev pub part_ended : ExprTree → Option (List Item × ℕ) → ℕ → Option State
+part_ended b (Some part) at = Some (plain (part.0 ++ embedded b (at - suc part.1) ∷ []), whole)
+part_ended b None at = None
 
 abbrev pub ends_part : ExprTree → Stack → ℕ → Option State
-ends_part b (in_part items p) at = Some (plain (items ++ embedded b (at - suc p) ∷ []), whole)
-ends_part b whole at = None
-ends_part b (call_of f front k) at = None
-ends_part b (key_of x soft k) at = None
+ends_part b k at = part_ended b (part_of k) at
 
 -- after the expression b
 abbrev pub follow : ExprTree → Stack → Kind → ℕ → Option State
@@ -108,23 +154,23 @@ begin k c Quote at = Some (in_quoted [], k)
 begin k c Letter at = names (encode_utf8 c) k at
 begin k c _ at = None
 
-abbrev pub text_step : List Item → ℕ → Kind → ℕ → Option State
-text_step items c At at = Some (one_at items c, whole)
-text_step items c x at = Some (plain (items ++ character c ∷ []), whole)
+abbrev pub text_step : List Item → Stack → ℕ → Kind → ℕ → Option State
+text_step items k c At at = Some (one_at items c, k)
+text_step items k c x at = Some (plain (items ++ character c ∷ []), k)
 
 abbrev pub step_at : Mode → Stack → ℕ → Kind → ℕ → Option State
-step_at at_start k c At at = Some (at_sign c, whole)
-step_at at_start k c x at = text_step [] c x at
-step_at (at_sign a) k c At at = Some (plain (character a ∷ []), whole)
+step_at at_start k c At at = Some (at_sign c, k)
+step_at at_start k c x at = text_step [] k c x at
+step_at (at_sign a) k c At at = Some (plain (character a ∷ []), k)
 step_at (at_sign a) k c Brace at = Some (at_first, in_part [] at)
 step_at (at_sign a) k c x at = begin whole c x at
-step_at (plain items) k c x at = text_step items c x at
-step_at (one_at items a) k c At at = Some (two_at items a c, whole)
+step_at (plain items) k c x at = text_step items k c x at
+step_at (one_at items a) k c At at = Some (two_at items a c, k)
 step_at (one_at items a) k c Brace at = Some (at_first, in_part items at)
-step_at (one_at items a) k c x at = Some (plain (items ++ character a ∷ character c ∷ []), whole)
-step_at (two_at items a b) k c At at = Some (two_at (items ++ character a ∷ []) b c, whole)
-step_at (two_at items a b) k c Brace at = Some (plain (items ++ character b ∷ character c ∷ []), whole)
-step_at (two_at items a b) k c x at = Some (plain (items ++ character a ∷ character b ∷ character c ∷ []), whole)
+step_at (one_at items a) k c x at = Some (plain (items ++ character a ∷ character c ∷ []), k)
+step_at (two_at items a b) k c At at = Some (two_at (items ++ character a ∷ []) b c, k)
+step_at (two_at items a b) k c Brace at = Some (plain (items ++ character b ∷ character c ∷ []), k)
+step_at (two_at items a b) k c x at = Some (plain (items ++ character a ∷ character b ∷ character c ∷ []), k)
 step_at at_first k c x at = begin k c x at
 step_at (at_args f) k c Blank at = Some (at_args f, k)
 step_at (at_args f) k c Close at = Some (after (call f no_exprs), k)
@@ -168,19 +214,32 @@ abbrev pub word_end : Option ExprTree → Option Reading
 word_end None = None
 word_end (Some v) = Some (whole_of v)
 
+-- an expression may end the text where it is the whole of it
+abbrev pub in_whole : Stack → Option Reading → Option Reading
+in_whole k r = if is_whole k then r else None
+
 -- the template, where the text may end
+abbrev pub finish_at : Mode → Stack → Option Reading
+finish_at at_start k = Some (items_of [])
+finish_at (at_sign a) k = None
+finish_at (plain items) k = Some (items_of items)
+finish_at (one_at items a) k = Some (items_of (items ++ character a ∷ []))
+finish_at (two_at items a b) k = Some (items_of (items ++ character a ∷ character b ∷ []))
+finish_at at_first k = None
+finish_at (at_args f) k = None
+finish_at at_minus k = None
+finish_at (in_int neg v) k = in_whole k (Some (whole_of (number_literal (signed neg v))))
+finish_at (in_quoted t) k = None
+finish_at (at_quote t) k = in_whole k (Some (whole_of (text_literal t)))
+finish_at (in_name t) k = in_whole k (word_end (word_of t))
+finish_at (at_named t) k = in_whole k (word_end (word_of t))
+finish_at (after b) k = in_whole k (Some (whole_of b))
+finish_at (at_soft b) k = None
+finish_at (at_dot b soft) k = None
+finish_at (in_member b soft t) k = in_whole k (Some (whole_of (member b t soft)))
+
 abbrev pub finish : State → Option Reading
-finish (in_int neg v, whole) = Some (whole_of (number_literal (signed neg v)))
-finish (at_quote t, whole) = Some (whole_of (text_literal t))
-finish (in_name t, whole) = word_end (word_of t)
-finish (at_named t, whole) = word_end (word_of t)
-finish (after b, whole) = Some (whole_of b)
-finish (in_member b soft t, whole) = Some (whole_of (member b t soft))
-finish (at_start, k) = Some (items_of [])
-finish (plain items, k) = Some (items_of items)
-finish (one_at items a, k) = Some (items_of (items ++ character a ∷ []))
-finish (two_at items a b, k) = Some (items_of (items ++ character a ∷ character b ∷ []))
-finish _ = None
+finish st = finish_at st.0 st.1
 
 abbrev pub went : Option State → ℕ → (State → Result Reading ℕ) → Result Reading ℕ
 went None at f = Err at
