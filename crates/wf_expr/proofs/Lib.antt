@@ -1,4 +1,5 @@
 mod TreeFieldLemmas
+pub mod DraftLemmas
 pub mod WordLemmas
 pub mod Residual
 pub mod Forward

@@ -16,3 +16,6 @@ pub mod Grammar
 pub mod Spells
 pub mod WordTests
 pub mod Machine
+pub mod DraftSeen
+pub mod ExprCounts
+pub mod DraftFalls

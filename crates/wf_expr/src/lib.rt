@@ -17,6 +17,7 @@
 #![tactic(auto)]
 
 mod cond;
+mod draft;
 mod expr;
 mod kind;
 mod law;
