@@ -1,5 +1,7 @@
 mod TreeFieldLemmas
 pub mod DraftLemmas
+pub mod FrontLemmas
+pub mod StackLemmas
 pub mod WordLemmas
 pub mod Residual
 pub mod Forward

@@ -1,5 +1,6 @@
 -- The tests of words are the relation, and every front of a word can be completed.
 use Rattle.std.proofs.Common.{◌≡◌, ℕ, Bool, true, false, List, [], ◌∷◌, ◌++◌, nat_eq, ◌&&◌, ◌||◌, if◌then◌else◌, Some, None, refl, sym, ap, subst, arith, ◌∙◌, ◌⊎◌, inl, inr}
+use Rattle.std.specs.Str.{bytes_eq, str_eq_ignore_ascii_case}
 use Rattle.std.specs.Char.{to_ascii_lowercase, encode_utf8}
 use Rattle.wf_expr.specs.declared.kind.Kind.TheVariants.{Letter}
 use Rattle.wf_expr.specs.Kinds.{kind}
@@ -7,7 +8,7 @@ use Rattle.wf_expr.specs.ExprTree.{ExprTree}
 use Rattle.wf_expr.specs.Reading.{boolean_literal, null_literal}
 use Rattle.wf_expr.specs.Grammar.{Tail, no_more, more, more_letter}
 use Rattle.wf_expr.specs.Words.{lower, true_text, false_text, null_text, Word, is_true, is_false, is_null}
-use Rattle.wf_expr.specs.WordTests.{same, is_front, word_of, word_front}
+use Rattle.wf_expr.specs.WordTests.{is_front, word_of, word_front}
 
 eq_self : (x : ℕ) → nat_eq x x ≡ true
 eq_self x = grind arith
@@ -19,15 +20,15 @@ both : (a b : Bool) → (a && b) ≡ true → (a ≡ true) × (b ≡ true)
 both true b h = (refl, h)
 both false b h = absurd (cc)
 
-same_self : (xs : List ℕ) → same xs xs ≡ true
-same_self [] = refl
-same_self (x ∷ xs) = rw (eq_self x) (same_self xs)
+bytes_same_self : (xs : List ℕ) → bytes_eq xs xs ≡ true
+bytes_same_self [] = refl
+bytes_same_self (x ∷ xs) = rw (eq_self x) (bytes_same_self xs)
 
-same_of : (xs ys : List ℕ) → same xs ys ≡ true → xs ≡ ys
-same_of [] [] h = refl
-same_of (x ∷ xs) (y ∷ ys) h = let b = both (nat_eq x y) (same xs ys) h in let e = eq_of x y b.0 in let e' = same_of xs ys b.1 in cc
-same_of [] (y ∷ ys) h = absurd (cc)
-same_of (x ∷ xs) [] h = absurd (cc)
+bytes_same : (xs ys : List ℕ) → bytes_eq xs ys ≡ true → xs ≡ ys
+bytes_same [] [] h = refl
+bytes_same (x ∷ xs) (y ∷ ys) h = let b = both (nat_eq x y) (bytes_eq xs ys) h in let e = eq_of x y b.0 in let e' = bytes_same xs ys b.1 in cc
+bytes_same [] (y ∷ ys) h = absurd (cc)
+bytes_same (x ∷ xs) [] h = absurd (cc)
 
 front_self : (xs ys : List ℕ) → is_front xs (xs ++ ys) ≡ true
 front_self [] ys = refl
@@ -35,7 +36,7 @@ front_self (x ∷ xs) ys = rw (eq_self x) (front_self xs ys)
 
 pub Word-of : (t : List ℕ) (v : ExprTree) → word_of t ≡ Some v → Word t v
 unfolding word_of
-Word-of t v = go (same (lower t) true_text) (same (lower t) false_text) (same (lower t) null_text) (same_of (lower t) true_text) (same_of (lower t) false_text) (same_of (lower t) null_text)
+Word-of t v = go (str_eq_ignore_ascii_case t true_text) (str_eq_ignore_ascii_case t false_text) (str_eq_ignore_ascii_case t null_text) (bytes_same (lower t) true_text) (bytes_same (lower t) false_text) (bytes_same (lower t) null_text)
   where
     go : (a b c : Bool) → (a ≡ true → lower t ≡ true_text) → (b ≡ true → lower t ≡ false_text) → (c ≡ true → lower t ≡ null_text) → (if a then Some (boolean_literal true) else if b then Some (boolean_literal false) else if c then Some null_literal else None) ≡ Some v → Word t v
     go true b c f g h e = let P : ExprTree → Type 0 = Word t in let e' : boolean_literal true ≡ v = cc in subst P e' (is_true (f refl))

@@ -18,4 +18,6 @@ pub mod WordTests
 pub mod Machine
 pub mod DraftSeen
 pub mod ExprCounts
+pub mod FrontSeen
+pub mod StackSeen
 pub mod DraftFalls

@@ -17,15 +17,19 @@
 #![tactic(auto)]
 
 mod cond;
+mod digits;
 mod draft;
 mod expr;
+mod front;
 mod kind;
 mod law;
+mod stack;
 mod template;
 #[cfg(test)]
 mod tests;
 mod tree;
 mod tree_fields;
+mod word;
 
 pub use cond::{Cond, Conds};
 pub use expr::{Expr, Exprs};

@@ -1,0 +1,16 @@
+-- What the part of a text that is read stands for.
+use Rattle.std.specs.Prelude.{ℕ, List, [], ◌∷◌, ◌++◌, map, chars, string_bytes}
+use Rattle.wf_expr.specs.Reading.{Item, character, embedded}
+use Rattle.wf_expr.specs.declared.front.Front.{Front}
+use Rattle.wf_expr.specs.declared.front.Section.{Section}
+
+-- each character of the text stands for itself
+abbrev pub characters : List ℕ → List Item
+characters text = map character (chars text)
+
+abbrev pub sections_seen : List Section → List Item
+sections_seen [] = []
+sections_seen (s ∷ ss) = characters (string_bytes s.literal) ++ embedded s.expression s.length ∷ sections_seen ss
+
+abbrev pub items_seen : Front → List Item
+items_seen f = sections_seen f.sections.items ++ characters (string_bytes f.literal)
