@@ -23,6 +23,7 @@ pub(crate) struct Section {
 }
 
 impl Front {
+    #[tactic(auto, using(crate::proofs::FrontLemmas::none_seen))]
     pub(crate) fn new(alloc: Global) -> Front
         ensures { items_seen result ≡ [] }
     {
