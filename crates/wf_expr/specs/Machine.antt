@@ -44,9 +44,12 @@ pub data Mode : Type 0 where
 abbrev pub State : Type 0
 State = Mode × Stack
 
+abbrev pub allowed : Bool → State → Option State
+allowed true s = Some s
+allowed false s = None
+
 abbrev pub checked : Bool → State → ℕ → Option State
-checked true s at = Some s
-checked false s at = None
+checked b s at = allowed b s
 
 abbrev pub opens : Stack → State → ℕ → Option State
 opens k s at = checked (nat_lt (depth k) 64) s at
@@ -138,21 +141,58 @@ is_word None = false
 is_word (Some v) = true
 
 -- a name that can still be a call's, or a word
+abbrev pub named : List ℕ → Stack → Option State
+named t k = allowed (nat_lt (depth k) 64 || word_front t) (in_name t, k)
+
 abbrev pub names : List ℕ → Stack → ℕ → Option State
-names t k at = checked (nat_lt (depth k) 64 || word_front t) (in_name t, k) at
+names t k at = named t k
 
 -- after a word
 abbrev pub after_word : Option ExprTree → Stack → Kind → ℕ → Option State
 after_word None k x at = None
 after_word (Some v) k x at = follow v k x at
 
+-- where an expression begins
+abbrev pub begun : Stack → ℕ → Kind → Option State
+begun k c Blank = Some (at_first, k)
+begun k c Digit = Some (in_int false (c - 48), k)
+begun k c Minus = Some (at_minus, k)
+begun k c Quote = Some (in_quoted [], k)
+begun k c Letter = named (encode_utf8 c) k
+begun k c _ = None
+
 abbrev pub begin : Stack → ℕ → Kind → ℕ → Option State
-begin k c Blank at = Some (at_first, k)
-begin k c Digit at = Some (in_int false (c - 48), k)
-begin k c Minus at = Some (at_minus, k)
-begin k c Quote at = Some (in_quoted [], k)
-begin k c Letter at = names (encode_utf8 c) k at
-begin k c _ at = None
+begin k c x at = begun k c x
+
+-- where arguments may begin
+abbrev pub args_step : List ℕ → Stack → ℕ → Kind → Option State
+args_step f k c Blank = Some (at_args f, k)
+args_step f k c Close = Some (after (call f no_exprs), k)
+args_step f k c x = begun (call_of f [] k) c x
+
+-- after the minus of a number
+abbrev pub minus_step : Stack → ℕ → Kind → Option State
+minus_step k c Digit = Some (in_int true (c - 48), k)
+minus_step k c x = None
+
+-- in a quoted text
+abbrev pub quoted_step : List ℕ → Stack → ℕ → Kind → Option State
+quoted_step t k c Quote = Some (at_quote t, k)
+quoted_step t k c x = Some (in_quoted (t ++ encode_utf8 c), k)
+
+-- after a `?`
+abbrev pub soft_step : ExprTree → Stack → Kind → Option State
+soft_step b k Dot = Some (at_dot b true, k)
+soft_step b k Bracket = allowed (nat_lt (depth k) 64) (at_first, key_of b true k)
+soft_step b k x = None
+
+-- after a `.`
+abbrev pub dot_step : ExprTree → Bool → Stack → ℕ → Kind → Option State
+dot_step b soft k c Blank = Some (at_dot b soft, k)
+dot_step b soft k c Letter = Some (in_member b soft (encode_utf8 c), k)
+dot_step b soft k c Under = Some (in_member b soft (encode_utf8 c), k)
+dot_step b soft k c Dollar = Some (in_member b soft (encode_utf8 c), k)
+dot_step b soft k c x = None
 
 abbrev pub text_step : List Item → Stack → ℕ → Kind → ℕ → Option State
 text_step items k c At at = Some (one_at items c, k)
@@ -172,15 +212,11 @@ step_at (two_at items a b) k c At at = Some (two_at (items ++ character a ∷ []
 step_at (two_at items a b) k c Brace at = Some (plain (items ++ character b ∷ character c ∷ []), k)
 step_at (two_at items a b) k c x at = Some (plain (items ++ character a ∷ character b ∷ character c ∷ []), k)
 step_at at_first k c x at = begin k c x at
-step_at (at_args f) k c Blank at = Some (at_args f, k)
-step_at (at_args f) k c Close at = Some (after (call f no_exprs), k)
-step_at (at_args f) k c x at = begin (call_of f [] k) c x at
-step_at at_minus k c Digit at = Some (in_int true (c - 48), k)
-step_at at_minus k c x at = None
+step_at (at_args f) k c x at = args_step f k c x
+step_at at_minus k c x at = minus_step k c x
 step_at (in_int neg v) k c Digit at = let z = 10 * v + (c - 48) in checked (nat_lt z (limit neg)) (in_int neg z, k) at
 step_at (in_int neg v) k c x at = follow (number_literal (signed neg v)) k x at
-step_at (in_quoted t) k c Quote at = Some (at_quote t, k)
-step_at (in_quoted t) k c x at = Some (in_quoted (t ++ encode_utf8 c), k)
+step_at (in_quoted t) k c x at = quoted_step t k c x
 step_at (at_quote t) k c Quote at = Some (in_quoted (t ++ encode_utf8 c), k)
 step_at (at_quote t) k c x at = follow (text_literal t) k x at
 step_at (in_name t) k c Letter at = names (t ++ encode_utf8 c) k at
@@ -193,14 +229,8 @@ step_at (at_named t) k c Blank at = Some (at_named t, k)
 step_at (at_named t) k c Open at = opens k (at_args t, k) at
 step_at (at_named t) k c x at = after_word (word_of t) k x at
 step_at (after b) k c x at = follow b k x at
-step_at (at_soft b) k c Dot at = Some (at_dot b true, k)
-step_at (at_soft b) k c Bracket at = opens k (at_first, key_of b true k) at
-step_at (at_soft b) k c x at = None
-step_at (at_dot b soft) k c Blank at = Some (at_dot b soft, k)
-step_at (at_dot b soft) k c Letter at = Some (in_member b soft (encode_utf8 c), k)
-step_at (at_dot b soft) k c Under at = Some (in_member b soft (encode_utf8 c), k)
-step_at (at_dot b soft) k c Dollar at = Some (in_member b soft (encode_utf8 c), k)
-step_at (at_dot b soft) k c x at = None
+step_at (at_soft b) k c x at = soft_step b k x
+step_at (at_dot b soft) k c x at = dot_step b soft k c x
 step_at (in_member b soft t) k c Letter at = Some (in_member b soft (t ++ encode_utf8 c), k)
 step_at (in_member b soft t) k c Under at = Some (in_member b soft (t ++ encode_utf8 c), k)
 step_at (in_member b soft t) k c Dollar at = Some (in_member b soft (t ++ encode_utf8 c), k)
