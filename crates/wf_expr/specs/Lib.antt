@@ -20,4 +20,5 @@ pub mod DraftSeen
 pub mod ExprCounts
 pub mod FrontSeen
 pub mod StackSeen
+pub mod ModeSeen
 pub mod DraftFalls

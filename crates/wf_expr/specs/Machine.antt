@@ -194,13 +194,21 @@ dot_step b soft k c Under = Some (in_member b soft (encode_utf8 c), k)
 dot_step b soft k c Dollar = Some (in_member b soft (encode_utf8 c), k)
 dot_step b soft k c x = None
 
+-- outside every expression
+abbrev pub plain_step : List Item → Stack → ℕ → Kind → Option State
+plain_step items k c At = Some (one_at items c, k)
+plain_step items k c x = Some (plain (items ++ character c ∷ []), k)
+
 abbrev pub text_step : List Item → Stack → ℕ → Kind → ℕ → Option State
-text_step items k c At at = Some (one_at items c, k)
-text_step items k c x at = Some (plain (items ++ character c ∷ []), k)
+text_step items k c x at = plain_step items k c x
+
+-- at the start of the text
+abbrev pub start_step : Stack → ℕ → Kind → Option State
+start_step k c At = Some (at_sign c, k)
+start_step k c x = plain_step [] k c x
 
 abbrev pub step_at : Mode → Stack → ℕ → Kind → ℕ → Option State
-step_at at_start k c At at = Some (at_sign c, k)
-step_at at_start k c x at = text_step [] k c x at
+step_at at_start k c x at = start_step k c x
 step_at (at_sign a) k c At at = Some (plain (character a ∷ []), k)
 step_at (at_sign a) k c Brace at = Some (at_first, in_part [] at)
 step_at (at_sign a) k c x at = begin whole c x at

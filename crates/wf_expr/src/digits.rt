@@ -74,9 +74,5 @@ fn digit_value(c: char) -> u64
 fn limit_of(negative: bool) -> u64
     ensures { result ≡ limit negative }
 {
-    if negative {
-        (1 << 63) + 1
-    } else {
-        1 << 63
-    }
+    if negative { (1 << 63) + 1 } else { 1 << 63 }
 }

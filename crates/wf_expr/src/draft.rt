@@ -1,5 +1,5 @@
 //! An expression as it is read.
-ghost use Rattle.std.specs.Prelude.{◌≡◌, [], ◌∷◌, ◌++◌, IfOk, OnOk};
+ghost use Rattle.std.specs.Prelude.{◌≡◌, [], ◌∷◌, ◌++◌, IfOk};
 ghost use Rattle.wf_val.specs.Seen.{tree};
 ghost use Rattle.wf_expr.specs.ExprTree.{literal, call, member, index, no_exprs};
 ghost use Rattle.wf_expr.specs.Reading.{joined};
@@ -130,10 +130,12 @@ impl Drafts {
         }
     }
 
-    pub(crate) fn push(&mut self, item: Draft) -> Result<(), AllocError>
-        ensures { OnOk result (self.new ≡ self.old ++ item ∷ []) }
+    /// The expressions with another behind them.
+    pub(crate) fn with(self, item: Draft) -> Result<Drafts, AllocError>
+        ensures { IfOk result (λ ds. ds ≡ self ++ item ∷ []) }
     {
-        self.items.push(item)?;
-        Ok(())
+        let mut drafts = self;
+        drafts.items.push(item)?;
+        Ok(drafts)
     }
 }

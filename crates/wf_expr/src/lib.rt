@@ -23,7 +23,9 @@ mod expr;
 mod front;
 mod kind;
 mod law;
+mod mode;
 mod stack;
+mod step;
 mod template;
 #[cfg(test)]
 mod tests;

@@ -39,9 +39,7 @@ fn begins(name: &[u8], word: &[u8]) -> bool
         None => true,
         Some((letter, others)) => match word.split_first() {
             None => false,
-            Some((first, rest)) => {
-                letter.to_ascii_lowercase() == *first && begins(others, rest)
-            }
+            Some((first, rest)) => { letter.to_ascii_lowercase() == *first && begins(others, rest) }
         },
     }
 }
