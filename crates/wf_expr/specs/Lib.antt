@@ -21,4 +21,5 @@ pub mod ExprCounts
 pub mod FrontSeen
 pub mod StackSeen
 pub mod ModeSeen
+pub mod ReadSeen
 pub mod DraftFalls
