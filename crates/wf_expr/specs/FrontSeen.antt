@@ -1,6 +1,7 @@
 -- What the part of a text that is read stands for.
 use Rattle.std.specs.Prelude.{ℕ, List, [], ◌∷◌, ◌++◌, map, chars, string_bytes}
 use Rattle.wf_expr.specs.Reading.{Item, character, embedded}
+use Rattle.wf_expr.specs.TemplateTree.{PieceTree, letters}
 use Rattle.wf_expr.specs.declared.front.Front.{Front}
 use Rattle.wf_expr.specs.declared.front.Section.{Section}
 
@@ -14,3 +15,8 @@ sections_seen (s ∷ ss) = characters (string_bytes s.literal) ++ embedded s.exp
 
 abbrev pub items_seen : Front → List Item
 items_seen f = sections_seen f.sections.items ++ characters (string_bytes f.literal)
+
+-- a text that stands for itself is a piece, unless it is empty
+abbrev pub lettered : List ℕ → List PieceTree
+lettered [] = []
+lettered (b ∷ bs) = letters (b ∷ bs) ∷ []

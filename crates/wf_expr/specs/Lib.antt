@@ -22,4 +22,5 @@ pub mod FrontSeen
 pub mod StackSeen
 pub mod ModeSeen
 pub mod ReadSeen
+pub mod Parsed
 pub mod DraftFalls

@@ -1,9 +1,12 @@
 //! An expression as it is read.
 ghost use Rattle.std.specs.Prelude.{◌≡◌, [], ◌∷◌, ◌++◌, IfOk};
 ghost use Rattle.wf_val.specs.Seen.{tree};
+ghost use Rattle.wf_expr.specs.DraftSeen.{first_tree, linked};
+ghost use Rattle.wf_expr.specs.ExprSeen.{expr_tree, exprs_seen};
 ghost use Rattle.wf_expr.specs.ExprTree.{literal, call, member, index, no_exprs};
 ghost use Rattle.wf_expr.specs.Reading.{joined};
 
+use crate::expr::{Expr, Exprs};
 use std::alloc::{AllocError, Global};
 use std::marker::Model;
 use wf_val::{Text, Val};
@@ -119,6 +122,50 @@ impl Draft {
         draft.links.push(Link::Index { key, soft })?;
         Ok(draft)
     }
+
+    /// The expression, in which each access holds what it stands on.
+    #[cycle(into_expr)]
+    pub(crate) fn into_expr(self, alloc: Global) -> Result<Expr, AllocError>
+        ensures { IfOk result (λ e. expr_tree e ≡ self) }
+    {
+        let mut expression = self.first.into_expr(alloc)?;
+        for link in self.links {
+            expression = link.onto(alloc, expression)?;
+        }
+        Ok(expression)
+    }
+}
+
+impl First {
+    #[cycle(into_expr)]
+    fn into_expr(self, alloc: Global) -> Result<Expr, AllocError>
+        ensures { IfOk result (λ e. expr_tree e ≡ first_tree self) }
+    {
+        match self {
+            First::Literal(value) => Ok(Expr::Lit(value)),
+            First::Call { name, args } => Ok(Expr::Call {
+                name,
+                args: args.into_exprs(alloc)?,
+            }),
+        }
+    }
+}
+
+impl Link {
+    /// The access, on what it stands on.
+    #[cycle(into_expr)]
+    fn onto(self, alloc: Global, base: Expr) -> Result<Expr, AllocError>
+        ensures { IfOk result (λ e. expr_tree e ≡ linked (expr_tree base) self) }
+    {
+        let base = Box::new(alloc, base)?;
+        match self {
+            Link::Member { name, soft } => Ok(Expr::Member { base, name, soft }),
+            Link::Index { key, soft } => {
+                let key = Box::new(alloc, key.into_expr(alloc)?)?;
+                Ok(Expr::Index { base, key, soft })
+            }
+        }
+    }
 }
 
 impl Drafts {
@@ -137,5 +184,16 @@ impl Drafts {
         let mut drafts = self;
         drafts.items.push(item)?;
         Ok(drafts)
+    }
+
+    #[cycle(into_expr)]
+    fn into_exprs(self, alloc: Global) -> Result<Exprs, AllocError>
+        ensures { IfOk result (λ es. exprs_seen es ≡ self) }
+    {
+        let mut expressions = Exprs::new(alloc);
+        for item in self.items {
+            expressions.push(item.into_expr(alloc)?)?;
+        }
+        Ok(expressions)
     }
 }

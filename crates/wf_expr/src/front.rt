@@ -1,10 +1,17 @@
 //! The part of a text that is read.
-ghost use Rattle.std.specs.Prelude.{◌≡◌, [], ◌∷◌, ◌++◌, IfOk};
-ghost use Rattle.wf_expr.specs.FrontSeen.{items_seen};
-ghost use Rattle.wf_expr.specs.Reading.{character, embedded};
+ghost use Rattle.std.specs.Prelude.{◌≡◌, [], ◌∷◌, ◌++◌, IfOk, OnOk, string_bytes};
+ghost use Rattle.wf_expr.specs.FrontSeen.{items_seen, lettered};
+ghost use Rattle.wf_expr.specs.Reading.{character, embedded, items_of, template_of};
+ghost use Rattle.wf_expr.specs.Spells.{first_over};
+ghost use Rattle.wf_expr.specs.TemplateSeen.{template_tree, pieces_seen};
 
 use crate::draft::Draft;
+use crate::template::{Piece, Pieces, Template};
 use std::alloc::{AllocError, Global};
+use wf_val::Text;
+
+/// The greatest length of an expression in characters.
+pub(crate) const LONGEST: u64 = 8192;
 
 /// A text with expressions in it, as far as it is read: each expression with what stands before it, and what stands
 /// after the last.
@@ -64,4 +71,42 @@ impl Front {
             literal: String::new(alloc),
         })
     }
+
+    /// The length of the first expression that is too long.
+    pub(crate) fn first_over(&self) -> Option<u64>
+        ensures { result ≡ first_over (items_seen self.now) }
+    {
+        for section in &self.sections {
+            if section.length > LONGEST {
+                return Some(section.length);
+            }
+        }
+        None
+    }
+
+    /// The template that the whole text spells.
+    pub(crate) fn into_template(self, alloc: Global) -> Result<Template, AllocError>
+        ensures { IfOk result (λ t. template_tree t ≡ template_of (items_of (items_seen self))) }
+    {
+        if self.sections.is_empty() {
+            return Ok(Template::Plain(Text::from_string(self.literal)));
+        }
+        let mut pieces = Pieces::new(alloc);
+        for section in self.sections {
+            push_literal(&mut pieces, section.literal)?;
+            pieces.push(Piece::Part(section.expression.into_expr(alloc)?))?;
+        }
+        push_literal(&mut pieces, self.literal)?;
+        Ok(Template::Parts(pieces))
+    }
+}
+
+/// Adds a text that stands for itself, unless it is empty.
+fn push_literal(pieces: &mut Pieces, literal: String) -> Result<(), AllocError>
+    ensures { OnOk result (pieces_seen pieces.new ≡ pieces_seen pieces.old ++ lettered (string_bytes literal)) }
+{
+    if !literal.is_empty() {
+        pieces.push(Piece::Lit(Text::from_string(literal)))?;
+    }
+    Ok(())
 }

@@ -25,10 +25,13 @@ mod front;
 mod kind;
 mod law;
 mod mode;
+mod parse;
 mod reader;
 mod stack;
 mod step;
 mod template;
+#[cfg(test)]
+mod parse_tests;
 #[cfg(test)]
 mod tests;
 mod tree;
@@ -37,7 +40,9 @@ mod word;
 
 pub use cond::{Cond, Conds};
 pub use expr::{Expr, Exprs};
+pub use fault::ParseFault;
 pub use law::{a_template_or_a_fault, no_two_templates};
+pub use parse::parse_template;
 pub use template::{Piece, Pieces, Template};
 pub use tree::{Tree, Trees};
 pub use tree_fields::TreeFields;
