@@ -9,3 +9,5 @@ pub mod Keeps
 pub mod Alive
 pub mod Scans
 mod Rows
+mod QuoteLemmas
+mod Derivation

@@ -14,3 +14,6 @@ pub mod Reading
 pub mod Words
 pub mod Grammar
 pub mod Spells
+pub mod Printed
+pub mod Printable
+pub mod Unwritten

@@ -19,15 +19,18 @@
 mod cond;
 mod expr;
 mod law;
+mod print;
 mod template;
 #[cfg(test)]
 mod tests;
 mod tree;
 mod tree_fields;
+mod unwritten;
 
 pub use cond::{Cond, Conds};
 pub use expr::{Expr, Exprs};
 pub use law::{a_template_or_a_fault, no_two_templates};
+pub use print::print_expr;
 pub use template::{Piece, Pieces, Template};
 pub use tree::{Tree, Trees};
 pub use tree_fields::TreeFields;
