@@ -1,11 +1,10 @@
 -- What is printed of an expression derives it: by the constructors of the grammar alone.
-use Rattle.std.proofs.Common.{rules, length, None, ◌≡◌, ℕ, zero, suc, pos, negsuc, ℤ, ◌+◌, ◌-◌, ◌*◌, ◌/◌, ◌%◌, ◌<◌, ◌≤◌, ◌^◌, Bool, true, false, if◌then◌else◌, nat_eq, nat_le, nat_lt, ◌&&◌, ◌||◌, List, [], ◌∷◌, ◌++◌, All, flat_map, ◌⊎◌, inl, inr, refl, sym, ap, ◌∙◌, subst, arith, append_assoc, append-nil, lit<}
+use Rattle.std.proofs.Common.{rules, length, None, ◌≡◌, ℕ, suc, pos, negsuc, ℤ, ◌+◌, ◌-◌, ◌*◌, ◌/◌, ◌%◌, ◌<◌, ◌≤◌, ◌^◌, Bool, true, false, if◌then◌else◌, nat_eq, nat_lt, List, [], ◌∷◌, ◌++◌, All, flat_map, ◌⊎◌, inl, inr, refl, sym, ap, ◌∙◌, subst, arith, append_assoc, append-nil, lit<}
 use Rattle.std.specs.Char.{encode_utf8}
 use Rattle.std.specs.Str.{chars, IsUtf8, IsAscii, encode_utf8_all}
 use Rattle.std.specs.Fmt.{decimal, signed_decimal}
 use Rattle.std.specs.Prelude.{FitsSigned}
 use Rattle.std.specs.Int.{w64}
-use Rattle.std.proofs.lemmas.Int.{ints}
 use Rattle.std.proofs.lemmas.Fmt.{decimal_by_steps, IsAscii-signed}
 use Rattle.std.proofs.lemmas.Str.{chars-append, IsUtf8-append, IsUtf8-from_ascii, chars-IsAscii, IsAscii-append, encode_ascii, encodes-chars}
 use Rattle.std.proofs.lemmas.Str.Ascii.{IsAscii-nil, IsAscii-cons}
@@ -14,14 +13,14 @@ use Rattle.wf_val.specs.WellFormed.{IsWellFormed}
 use Rattle.wf_expr.specs.Kinds.{Kind, kind, is_blank, is_digit, is_letter, Blank, Digit, Letter, Quote, Open, Close, Bracket, Unbracket, Comma, Dot, Soft, Under, Dollar, Minus, At, Brace, Unbrace, Other}
 use Rattle.wf_expr.specs.TemplateTree.{whole}
 use Rattle.wf_expr.specs.Spells.{over, Derives, Spells}
-use Rattle.wf_expr.specs.Words.{Word, is_true, is_false, is_null, true_text, false_text, null_text}
-use Rattle.wf_expr.specs.Reading.{whole_of, number_literal, text_literal, null_literal, boolean_literal, signed, limit}
+use Rattle.wf_expr.specs.Words.{is_true, is_false, is_null, true_text, false_text, null_text}
+use Rattle.wf_expr.specs.Reading.{whole_of, number_literal, text_literal, null_literal, boolean_literal}
 use Rattle.wf_expr.specs.ExprTree.{ExprTree, literal, call, member, index, ExprTrees, no_exprs, expr_then}
-use Rattle.wf_expr.specs.Grammar.{expression, Digits, no_digit, digit, Quoted, closed, twice, itself, IsMore, more_letter, more_digit, more_under, Tail, no_more, more, IsFirst, first_letter, first_under, first_dollar, MemberTail, no_more_member, more_digit_member, more_member, MemberName, member_name, Opens, open_now, Expr, blank, begins, Primary, int, minus_int, quoted, word, calls, Args, no_args, args, More, close, comma, Accesses, no_access, blank_access, access, soft_access, Access, name_access, key_access}
+use Rattle.wf_expr.specs.Grammar.{expression, Digits, no_digit, digit, Quoted, closed, twice, itself, IsMore, more_letter, more_digit, more_under, Tail, no_more, more, IsFirst, first_letter, first_under, first_dollar, MemberTail, no_more_member, more_digit_member, more_member, MemberName, member_name, Opens, open_now, Expr, blank, begins, Primary, int, minus_int, quoted, word, calls, Args, no_args, args, More, close, comma, Accesses, no_access, blank_access, access, soft_access, name_access, key_access}
 use Rattle.wf_expr.specs.Printed.{quoted_byte, printed_value, dot, bracket, printed, printed_args, printed_more}
 use Rattle.wf_expr.specs.Printable.{IsPrintableValue, IsFunctionName, IsMemberMore, IsMemberName, IsPrintable, ArePrintable}
 use Rattle.wf_expr.specs.Unwritten.{HasWellFormedLiterals, HaveWellFormedLiterals}
-use Rattle.wf_expr.proofs.QuoteLemmas.{is_quote, is_other, IsUtf8-quoted, chars-quoted}
+use Rattle.wf_expr.proofs.QuoteLemmas.{is_quote, IsUtf8-quoted, chars-quoted}
 
 -- the bytes are UTF-8, and R relates their characters, whatever comes after them, to what comes after them
 pub record Stands (R : List ℕ → List ℕ → Type 0) (bs : List ℕ) : Type 0 where
@@ -86,7 +85,7 @@ low c x h differs = by (order c 128)
     by (inl l) = l
     by (inr l) = let e = high c l in absurd (differs (sym h ∙ e))
 
-low_letter : (c : ℕ) → kind c ≡ Letter → c < 128
+pub low_letter : (c : ℕ) → kind c ≡ Letter → c < 128
 low_letter c h = low c Letter h (λ e. cc)
 
 low_digit : (c : ℕ) → kind c ≡ Digit → c < 128
@@ -99,18 +98,18 @@ low_dollar : (c : ℕ) → kind c ≡ Dollar → c < 128
 low_dollar c h = low c Dollar h (λ e. cc)
 
 -- ---- names
-low_more : (c : ℕ) → IsMore c → c < 128
+pub low_more : (c : ℕ) → IsMore c → c < 128
 low_more c (more_letter h) = low_letter c h
 low_more c (more_digit h) = low_digit c h
 low_more c (more_under h) = low_under c h
 
-low_first : (c : ℕ) → IsFirst c → c < 128
+pub low_first : (c : ℕ) → IsFirst c → c < 128
 low_first c (first_letter h) = low_letter c h
 low_first c (first_under h) = low_under c h
 low_first c (first_dollar h) = low_dollar c h
 
 -- a name in ASCII is its own bytes
-own : (c : ℕ) (t : List ℕ) → c < 128 → encode_utf8 c ++ t ≡ c ∷ t
+pub own : (c : ℕ) (t : List ℕ) → c < 128 → encode_utf8 c ++ t ≡ c ∷ t
 own c t h = ap (λ l. l ++ t) (encode_ascii c h)
 
 head_of : (P : ℕ → Type 0) (c : ℕ) (t : List ℕ) → All P (c ∷ t) → P c
@@ -126,7 +125,7 @@ tail (c ∷ t) r h =
     let first : IsMore c = head_of IsMore c t h in
     subst P (own c t (low_more c first)) (more first (tail t r (tail_of IsMore c t h)))
 
-low_member : (c : ℕ) → IsMemberMore c → c < 128
+pub low_member : (c : ℕ) → IsMemberMore c → c < 128
 low_member c (inl f) = low_first c f
 low_member c (inr d) = low_digit c d
 

@@ -11,3 +11,4 @@ pub mod Scans
 mod Rows
 mod QuoteLemmas
 mod Derivation
+mod Rederivation

@@ -11,6 +11,8 @@
 //! promises that no text has two templates or two such lengths, or spells a template and has such an expression, and
 //! `a_template_or_a_fault` that each text spells a template, goes wrong at a place or has such an expression.
 //!
+//! `print_expr` gives the text of an expression, which derives it wherever any text does.
+//!
 //! This crate evaluates no expression, knows no function's name or arity, and reads no JSON. What takes memory takes
 //! its allocator, and answers an error where none is left, with everything that it was lent as before; what the call
 //! was given by value is then dropped.
@@ -20,6 +22,8 @@ mod cond;
 mod expr;
 mod law;
 mod print;
+#[cfg(test)]
+mod print_tests;
 mod template;
 #[cfg(test)]
 mod tests;

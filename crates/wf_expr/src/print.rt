@@ -26,6 +26,9 @@ pub fn print_expr(alloc: Global, expression: &Expr) -> Result<Text, AllocError>
     ensures written { IfOk result (λ t. t ≡ printed (expr_tree expression.now)) }
     ensures reads { IsPrintable 0 (expr_tree expression.now)
         → IfOk result (λ t. grammar.Expr 0 (chars t) (expr_tree expression.now) []) }
+    // Where any text reads as the expression, this one does.
+    ensures again { (s r : List ℕ) → grammar.Expr 0 s (expr_tree expression.now) r
+        → IfOk result (λ t. grammar.Expr 0 (chars t) (expr_tree expression.now) []) }
     // `@` before it makes it a text of a definition, unless it is too long.
     ensures derives { IsPrintable 0 (expr_tree expression.now)
         → IfOk result (λ t. Derives (64 ∷ chars t) (whole (expr_tree expression.now))) }
