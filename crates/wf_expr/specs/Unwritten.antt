@@ -35,7 +35,7 @@ abbrev pub text_left : List PartTree → List ℕ
 text_left [] = []
 text_left (u ∷ us) = text_of_part u ++ text_left us
 
--- how many parts are still to be taken, more than those that each of them leaves
+-- a bound on how many parts are still to be taken: each counts for more than those that it leaves
 abbrev mutual
   pub work : ExprTree → ℕ
   work (literal v) = 1
