@@ -8,7 +8,7 @@ use Rattle.std.specs.Prelude.{ℤ, FitsSigned, ◌&&◌, ◌==◌, nat_lt, slice
 use Rattle.std.specs.Result.{OkIff, result_ok}
 use Rattle.std.specs.Str.{all_ascii_digits}
 use Rattle.std.specs.Str.Parse.{IsNumeral, ParsesSigned, digits_value, signed_digits_value, starts_with_minus, without_leading_sign}
-use Rattle.wf_fn_math.specs.Arguments.{fits_i64}
+use Rattle.wf_val.specs.Arguments.{fits_i64}
 use Rattle.wf_fn_math.specs.Conversion.{whole_number, without_minus}
 
 fits-true : (v : ℤ) → FitsSigned w64 v → fits_i64 v ≡ true

@@ -2,7 +2,7 @@
 use Rattle.std.proofs.Common.{◌≡◌, ℕ, suc, List, [], ◌∷◌, map, drop, zero, ◌+◌, ◌<◌, length, get_or, refl, sym, ◌∙◌, ap, arith, Option, Some, None, Result, Ok, Err, Bool}
 use Rattle.std.specs.Prelude.{ℤ}
 use Rattle.std.specs.List.{fold}
-use Rattle.wf_fn_math.specs.Arguments.{Answer, given}
+use Rattle.wf_val.specs.Arguments.{Answer, given}
 use Rattle.wf_fn_math.specs.Extremes.{all_numbers, picked_of, better}
 use Rattle.wf_val.specs.Seen.{tree}
 use Rattle.wf_val.specs.declared.val.Val.{Val}

@@ -1,7 +1,7 @@
 -- Rows at worked values: what the functions give where a reader can work it out.
 use Rattle.std.proofs.Common.{◌≡◌, ◌-◌, ◌^◌, refl, [], ◌∷◌, Ok, Err, true, false}
 use Rattle.std.specs.Prelude.{ℤ, Bool, pos, negsuc, codes}
-use Rattle.wf_fn_math.specs.Arguments.{bounded}
+use Rattle.wf_val.specs.Arguments.{bounded}
 use Rattle.wf_fn_math.specs.Arithmetic.{add_row, sub_row, mul_row, div_row, mod_row}
 use Rattle.wf_fn_math.specs.Comparison.{equals_row, greater_row, greater_or_equals_row, less_row}
 use Rattle.wf_fn_math.specs.Conversion.{int_row, bool_row}

@@ -1,7 +1,7 @@
 -- Arithmetic on whole numbers (Workflow Definition Language, math functions add, sub, mul, div and mod).
 use Rattle.std.specs.Prelude.{ℤ, pos, ◌+ℤ◌, ◌-ℤ◌, ◌*ℤ◌, List, Ok, Err, int_div, int_rem, if◌then◌else◌}
 use Rattle.std.specs.Ordering.{int_eq}
-use Rattle.wf_fn_math.specs.Arguments.{Answer, given, number_at, in_range}
+use Rattle.wf_val.specs.Arguments.{Answer, given, number_at, in_range}
 use Rattle.wf_val.specs.ValueTree.{ValueTree, number}
 use Rattle.wf_val.specs.declared.fault.EvalFault.{EvalFault}
 use Rattle.wf_val.specs.declared.function.Fun.{Fun}

@@ -2,7 +2,7 @@
 use Rattle.std.specs.Prelude.{ℤ, pos, Bool, cond, not, List, Option, Some, None, Result, Ok, Err, slice_get}
 use Rattle.std.specs.Ordering.{is_eq, is_gt, is_ge, is_lt, is_le, int_cmp}
 use Rattle.std.specs.declared.cmp.Ordering.{Ordering}
-use Rattle.wf_fn_math.specs.Arguments.{Answer, given, number_of, text_of, truth_at, wrong_type}
+use Rattle.wf_val.specs.Arguments.{Answer, given, number_of, text_of, truth_at, wrong_type}
 use Rattle.wf_val.specs.NameOrder.{bytes_cmp}
 use Rattle.wf_val.specs.ValueOrder.{order}
 use Rattle.wf_val.specs.ValueTree.{ValueTree, boolean, number, text}

@@ -3,7 +3,7 @@ use Rattle.std.specs.Prelude.{ℕ, ℤ, pos, Bool, true, false, not, ◌&&◌, L
 use Rattle.std.specs.Ordering.{int_eq}
 use Rattle.std.specs.Str.{all_ascii_digits, str_eq_ignore_ascii_case}
 use Rattle.std.specs.Str.Parse.{starts_with_minus, signed_digits_value}
-use Rattle.wf_fn_math.specs.Arguments.{Answer, given, text_at, wrong_type, fits_i64}
+use Rattle.wf_val.specs.Arguments.{Answer, given, text_at, wrong_type, fits_i64}
 use Rattle.wf_val.specs.ValueTree.{ValueTree, boolean, number, text}
 use Rattle.wf_val.specs.declared.fault.EvalFault.{EvalFault}
 use Rattle.wf_val.specs.declared.function.Fun.{Fun}

@@ -2,7 +2,7 @@
 use Rattle.std.specs.Prelude.{ℕ, suc, ℤ, Bool, true, false, List, [], ◌∷◌, Option, Some, None, Result, Ok, Err, ◌==◌, length, slice_get, if◌then◌else◌}
 use Rattle.std.specs.Int.{int_min, int_max}
 use Rattle.std.specs.List.{reduce}
-use Rattle.wf_fn_math.specs.Arguments.{Answer, given, wrong_type}
+use Rattle.wf_val.specs.Arguments.{Answer, given, wrong_type}
 use Rattle.wf_fn_math.specs.declared.extremes.Extreme.{Extreme}
 use Rattle.wf_val.specs.ValueTree.{ValueTree, number, list, items}
 use Rattle.wf_val.specs.declared.fault.EvalFault.{EvalFault}

@@ -1,4 +1,3 @@
-pub mod Arguments
 pub mod Arithmetic
 pub mod Extremes
 pub mod Comparison

@@ -1,10 +1,9 @@
 //! Arithmetic on whole numbers of 64 bits.
 ghost use Rattle.std.specs.Prelude.{◌≡◌, length};
-ghost use Rattle.wf_fn_math.specs.Arguments.{seen};
+ghost use Rattle.wf_val.specs.Arguments.{seen};
 ghost use Rattle.wf_fn_math.specs.Arithmetic.{add_row, sub_row, mul_row, div_row, mod_row};
 
-use crate::arguments::number_at;
-use wf_val::{EvalFault, Fun, Val, Vals};
+use wf_val::{EvalFault, Fun, Val, Vals, number_at};
 
 /// `add`: the sum of two numbers; `Range` past i64.
 pub fn f_add(args: &Vals) -> Result<Val, EvalFault>

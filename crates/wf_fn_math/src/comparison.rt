@@ -1,13 +1,12 @@
 //! Comparison and logic.
 ghost use Rattle.std.specs.Prelude.{◌≡◌, ◌↔◌, length, Some, IsTrue, slice_get};
-ghost use Rattle.wf_fn_math.specs.Arguments.{seen};
+ghost use Rattle.wf_val.specs.Arguments.{seen};
 ghost use Rattle.wf_fn_math.specs.Comparison.{are_equal, beside, compared, equals_row, greater_row, greater_or_equals_row, less_row, less_or_equals_row, not_row};
 ghost use Rattle.wf_val.specs.Seen.{tree};
 ghost use Rattle.wf_val.specs.ValueTree.{ValueTree};
 
-use crate::arguments::{number_at, text_at, truth_at, wrong_type};
 use std::cmp::Ordering;
-use wf_val::{EvalFault, Fun, Val, Vals};
+use wf_val::{EvalFault, Fun, Val, Vals, number_at, text_at, truth_at, wrong_type};
 
 /// `equals`: whether two values are the same. A truth value beside a number counts as 1 or 0; inside lists and
 /// objects types have to agree.

@@ -1,10 +1,9 @@
 //! Conversion to numbers and truth values.
 ghost use Rattle.std.specs.Prelude.{◌≡◌, length};
-ghost use Rattle.wf_fn_math.specs.Arguments.{seen};
+ghost use Rattle.wf_val.specs.Arguments.{seen};
 ghost use Rattle.wf_fn_math.specs.Conversion.{whole_number, int_row, bool_row, is_int_row, named_truth};
 
-use crate::arguments::{text_at, wrong_type};
-use wf_val::{EvalFault, Fun, Text, Val, Vals};
+use wf_val::{EvalFault, Fun, Text, Val, Vals, text_at, wrong_type};
 
 /// `int`: a number is itself, and a text the number that it writes, as digits behind a minus or nothing; leading zeros
 /// and `-0` are fine. `BadText` for another text and past i64.

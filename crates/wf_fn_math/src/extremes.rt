@@ -1,11 +1,10 @@
 //! The least and the greatest of numbers.
 ghost use Rattle.std.specs.Prelude.{◌≡◌, ◌<◌, length, map, option_map};
-ghost use Rattle.wf_fn_math.specs.Arguments.{seen, given};
+ghost use Rattle.wf_val.specs.Arguments.{seen, given};
 ghost use Rattle.wf_fn_math.specs.Extremes.{min_row, max_row, extreme_row, items_of_only, all_numbers, picked_of, place_named, function_of, pick_of, better};
 ghost use Rattle.wf_val.specs.Seen.{tree};
 
-use crate::arguments::wrong_type;
-use wf_val::{EvalFault, Fun, Val, Vals};
+use wf_val::{EvalFault, Fun, Val, Vals, wrong_type};
 
 // Which number is picked of several.
 #[derive(Clone, Copy)]

@@ -9,15 +9,13 @@
 //! Laws stand beside the rows, and say in another way what they mean: `division_is_cut_towards_zero`,
 //! `min_is_the_least`, `max_is_the_greatest` and `equal_values_are_the_same`.
 //!
-//! `arguments` holds what the rows of every function share, also those of other crates: the arguments by their types,
-//! and the test of size.
+//! What the rows of every function share, the arguments by their types and the test of size, is in `wf_val`.
 //!
 //! This crate reads no expression and evaluates none: it is given values. How many arguments a function takes is
 //! judged before a call; each call asks for a count of its row. `if`, `and`, `or` and what else may leave an argument
 //! without a value are not here.
 #![tactic(auto)]
 
-pub mod arguments;
 mod arithmetic;
 mod comparison;
 mod conversion;

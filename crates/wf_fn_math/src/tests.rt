@@ -253,27 +253,3 @@ fn the_leftmost_argument_that_is_no_number_is_named(rt: HostRuntime) -> Result<(
     }
     Ok(())
 }
-
-#[test]
-fn a_value_that_does_not_fit_is_measured(rt: HostRuntime) -> Result<(), Fail> {
-    assert_eq!(rt;
-        answered(arguments::bounded(Val::Int(7))),
-        Answer::Number(7)
-    );
-    let mut deep = Val::Null;
-    for _ in 0..65 {
-        let mut items = Vals::new(rt.alloc());
-        items.push(deep)?;
-        deep = Val::List(items);
-    }
-    assert!(rt;
-        matches!(
-            arguments::bounded(deep),
-            Err(EvalFault::TooBig {
-                depth: 65,
-                weight: 66
-            })
-        )
-    );
-    Ok(())
-}

@@ -1,13 +1,10 @@
 -- The text of a value that is sent, and its parts.
-use Rattle.std.proofs.Common.{◌≡◌, ◌<◌, ◌≤◌, ℕ, zero, suc, pos, negsuc, List, [], ◌∷◌, ◌++◌, length, map, get_or, true, false, flat_map, inl, inr, refl, ap, ap₂, sym, ◌∙◌, subst, arith, append_assoc, ne_eqb}
+use Rattle.std.proofs.Common.{◌≡◌, ℕ, suc, pos, negsuc, List, [], ◌∷◌, ◌++◌, length, true, false, flat_map, inl, inr, refl, ap, ap₂, sym, ◌∙◌, subst, append_assoc, ne_eqb}
 use Rattle.std.proofs.lemmas.Bool.{cases_eq}
 use Rattle.json.specs.Print.{escape_byte, quoted}
 use Rattle.serde_json.specs.Written.{has_float, items_have_float, members_have_float, compact_text, items_text, members_text}
 use Rattle.serde_json.specs.Events.{items_len, members_len}
-use Rattle.wf_val.specs.Seen.{tree, member}
 use Rattle.wf_val.specs.ValueTree as value
-use Rattle.wf_val.specs.ValueTree.{node_count, trees, trees_count, members_count}
-use Rattle.wf_val.specs.declared.val.Val.{Val}
 use Rattle.wf_json.specs.Json.{escaped, string, json, values, more_values, members, more_members}
 use Rattle.wf_json.specs.Sent.{data_of, items_of, members_of}
 
@@ -106,14 +103,3 @@ mutual
   members-more (value.member_then k t ms) =
       ap (λ s. 44 ∷ s) (ap₂ (λ (a b : List ℕ). a ++ (58 ∷ b)) (quoted-string k) (ap₂ (λ (a b : List ℕ). a ++ b) (compact-json t) (members-more ms))
       ∙ member-assoc (string k) (json t) (more_members ms) (125 ∷ []))
-
--- an item and a member have no more nodes than the whole
-pub item_count-le : (vs : List Val) (i : ℕ) (d : Val) → i < length vs → node_count (tree (get_or vs i d)) ≤ trees_count (trees (map tree vs))
-item_count-le [] i d within = absurd (omega arith)
-item_count-le (v ∷ vs) zero d within = omega arith
-item_count-le (v ∷ vs) (suc i) d within = omega (arith, item_count-le vs i d (omega arith))
-
-pub member_count-le : (ms : List (List ℕ × Val)) (i : ℕ) (d : List ℕ × Val) → i < length ms → node_count (tree (get_or ms i d).1) ≤ members_count (value.members (map member ms))
-member_count-le [] i d within = absurd (omega arith)
-member_count-le (m ∷ ms) zero d within = omega arith
-member_count-le (m ∷ ms) (suc i) d within = omega (arith, member_count-le ms i d (omega arith))

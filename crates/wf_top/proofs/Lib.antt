@@ -2,7 +2,6 @@ pub mod Asked
 pub mod Endings
 pub mod Following
 pub mod Written
-pub mod Literals
 pub mod Places
 pub mod Succeeding
 pub mod Ends

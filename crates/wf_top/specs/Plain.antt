@@ -1,11 +1,11 @@
 -- Which values are definitions and inputs of the plain form, the one that this program runs so far.
 -- Members that aren't named here are ignored.
-use Rattle.std.specs.Prelude.{ℕ, suc, ◌^◌, List, [], ◌∷◌, length, Bool, true, false, not, ◌&&◌, ◌==◌, Option, None, Some, is_none, if◌then◌else◌, nat_le, bytes_eq, codes}
+use Rattle.std.specs.Prelude.{ℕ, suc, List, [], ◌∷◌, length, Bool, true, false, not, ◌&&◌, ◌==◌, Option, None, Some, is_none, if◌then◌else◌, nat_le, bytes_eq, codes}
 use Rattle.std.specs.List.{list_all}
 use Rattle.std.specs.Option.{option_map, option_map_or, option_and_then}
 use Rattle.std.specs.Str.{chars, str_eq_ignore_ascii_case}
 use Rattle.sha2.specs.Sha256.{sha256}
-use Rattle.wf_val.specs.ValueTree.{ValueTree, null, boolean, number, text, list, object, items, ValueTrees, no_values, value_then, MemberTrees, no_members, member_then, Member, pairs, depth, weight}
+use Rattle.wf_val.specs.ValueTree.{ValueTree, null, boolean, number, text, list, object, items, ValueTrees, no_values, value_then, MemberTrees, no_members, member_then, Member, pairs, fits}
 use Rattle.wf_val.specs.Get.{get, item, is_object}
 use Rattle.wf_json.specs.Json.{json}
 use Rattle.wf_layers.specs.Definition.{Succeeded, Need}
@@ -40,10 +40,6 @@ is_text t = false
 abbrev pub is_word : List ℕ → Option ValueTree → Bool
 is_word word (Some (text s)) = str_eq_ignore_ascii_case s word
 is_word word t = false
-
--- The bounds of a value of an expression.
-abbrev pub fits : ValueTree → Bool
-fits t = nat_le (depth t) 64 && nat_le (weight t) (2 ^ 20)
 
 -- A text without `@` stands for itself; one with it may hold an expression.
 abbrev pub is_literal_text : List ℕ → Bool

@@ -13,7 +13,7 @@ use Rattle.wf_top.specs.declared.record.Status.{Status}
 use Rattle.wf_top.specs.declared.record.Status.TheVariants.{Succeeded, Failed, Skipped, TimedOut, Cancelled}
 
 abbrev pub definition_tree : Definition → DefinitionTree
-definition_tree d = record { digest = d.digest; actions = map action_tree d.actions.items }
+definition_tree d = record { digest = d.digest.bytes; actions = map action_tree d.actions.items }
 
 abbrev pub inputs_tree : Inputs → InputsTree
 inputs_tree i = record { run = i.run }
@@ -43,7 +43,7 @@ row_tree r = record {
 abbrev pub record_tree : Record → RecordTree
 record_tree r = record {
   run = r.run;
-  digest = r.digest;
+  digest = r.digest.bytes;
   trigger = tree r.trigger;
   parameters = tree r.parameters;
   status = status_tree r.status;

@@ -18,9 +18,9 @@ use crate::MOST_ACTIONS;
 use crate::action::{Action, actions_of};
 use crate::definition::Definition;
 use crate::ending::all_end;
-use sha2::{Digest, Sha256};
+use sha2::{Digest as _, Sha256};
 use std::alloc::{AllocError, Global};
-use wf_val::{Fields, Text, Val, Vals};
+use wf_val::{Digest, Fields, Text, Val, Vals};
 
 fn is_printable(byte: u8) -> bool
     ensures { result ≡ is_printable byte }
@@ -198,7 +198,9 @@ pub fn read_definition(alloc: Global, value: &Val) -> Result<Option<Definition>,
     }
     match plain_actions(alloc, value.member("actions"))? {
         Some(actions) => Ok(Some(Definition {
-            digest: Sha256::digest(wf_json::write(alloc, value)?.as_slice()),
+            digest: Digest {
+                bytes: Sha256::digest(wf_json::write(alloc, value)?.as_slice()),
+            },
             actions,
         })),
         None => Ok(None),

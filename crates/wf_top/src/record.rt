@@ -7,7 +7,7 @@ ghost use Rattle.wf_top.specs.Record.{record_value, row_value, status_name};
 ghost use Rattle.wf_top.specs.Seen.{record_tree, row_tree, status_tree};
 
 use std::alloc::{AllocError, Global};
-use wf_val::{Fields, Text, Val, Vals};
+use wf_val::{Digest, Fields, Text, Val, Vals};
 
 /// How an action or a run ended.
 #[derive(Clone, Copy, Debug, PartialEq, Eq)]
@@ -51,7 +51,7 @@ pub struct Row {
 #[derive(Drop)]
 pub struct Record {
     pub run: Text,
-    pub digest: [u8; 32],
+    pub digest: Digest,
     pub trigger: Val,
     pub parameters: Val,
     pub status: Status,
@@ -105,7 +105,7 @@ impl Record { /// The record as a value.
         ensures { IfOk result (λ value. tree value ≡ record_value (record_tree self)) }
     {
         let fields = Fields::new(alloc);
-        let digest = Text::from_string(hex::encode(alloc, self.digest)?);
+        let digest = Text::from_string(hex::encode(alloc, self.digest.bytes)?);
         let fields = with(alloc, fields, "definition", Val::Text(digest))?;
         let fields = with(alloc, fields, "error", self.error)?;
         let fields = with(alloc, fields, "form", Val::Int(1))?;

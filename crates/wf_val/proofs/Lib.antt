@@ -5,3 +5,4 @@ pub mod WellFormedLemmas
 pub mod ValueTreeLemmas
 pub mod ValueOrderLemmas
 pub mod ValueOrderLaws
+pub mod NodeCountLemmas

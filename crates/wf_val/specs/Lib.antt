@@ -10,3 +10,4 @@ pub mod Function
 pub mod ValueCode
 pub mod NodeCounts
 pub mod NodeCountFalls
+pub mod Arguments

@@ -1,6 +1,6 @@
 -- A value as contracts see it: a tree over plain lists and numbers.
 -- It is what JSON can write (RFC 8259, section 3), but that a number is whole. A text and a name are their bytes in UTF-8.
-use Rattle.std.specs.Prelude.{ℕ, suc, ◌+◌, ◌≤◌, ◌^◌, max, ℤ, Bool, List, [], ◌∷◌, length}
+use Rattle.std.specs.Prelude.{ℕ, suc, ◌+◌, ◌≤◌, ◌^◌, max, ℤ, Bool, ◌&&◌, List, [], ◌∷◌, length, nat_le}
 
 mutual
   pub data ValueTree : Type 0 where
@@ -82,6 +82,10 @@ abbrev mutual
 -- an expression may have the value: it nests at most 64 deep and weighs at most 2^20
 abbrev pub Fits : ValueTree → Type 0
 Fits t = (depth t ≤ 64) × (weight t ≤ 2 ^ 20)
+
+-- the same as a test
+abbrev pub fits : ValueTree → Bool
+fits t = nat_le (depth t) 64 && nat_le (weight t) (2 ^ 20)
 
 -- how many values there are in a value, itself included: less in each part, so a recursion over values ends
 abbrev mutual

@@ -122,6 +122,63 @@ fn a_value_fits_up_to_its_bounds(rt: HostRuntime) -> Result<(), Fail> {
     Ok(())
 }
 
+#[test]
+fn a_value_that_does_not_fit_is_measured(rt: HostRuntime) -> Result<(), Fail> {
+    let alloc = rt.alloc();
+    assert!(rt; bounded(Val::Int(7)).is_ok_and(|value| value.same(&Val::Int(7))));
+    assert!(rt;
+        matches!(
+            bounded(nested(alloc, 65, Val::Null)?),
+            Err(EvalFault::TooBig {
+                depth: 65,
+                weight: 66
+            })
+        )
+    );
+    Ok(())
+}
+
+// A fault counts places from 1.
+#[test]
+fn an_argument_is_of_its_type_or_its_place_is_named(rt: HostRuntime) -> Result<(), Fail> {
+    let alloc = rt.alloc();
+    let mut args = Vals::new(alloc);
+    args.push(Val::Int(7))?;
+    args.push(text(alloc, "x")?)?;
+    args.push(Val::Bool(true))?;
+    assert!(rt; matches!(number_at(Fun::Add, &args, 0), Ok(7)));
+    assert!(rt; text_at(Fun::IsInt, &args, 1).is_ok_and(|text| text.as_str() == "x"));
+    assert!(rt; matches!(truth_at(Fun::Not, &args, 2), Ok(true)));
+    assert!(rt;
+        matches!(
+            number_at(Fun::Add, &args, 3),
+            Err(EvalFault::WrongType {
+                function: Fun::Add,
+                place: 4
+            })
+        )
+    );
+    assert!(rt;
+        matches!(
+            text_at(Fun::IsInt, &args, 0),
+            Err(EvalFault::WrongType {
+                function: Fun::IsInt,
+                place: 1
+            })
+        )
+    );
+    assert!(rt;
+        matches!(
+            truth_at(Fun::Not, &args, 1),
+            Err(EvalFault::WrongType {
+                function: Fun::Not,
+                place: 2
+            })
+        )
+    );
+    Ok(())
+}
+
 // By kind, and then false before true, numbers by size, texts by bytes, and a front before what it is a front of.
 #[test]
 fn values_are_ordered_by_kind_and_content(rt: HostRuntime) -> Result<(), Fail> {

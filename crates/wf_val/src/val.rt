@@ -5,7 +5,7 @@ ghost use Rattle.wf_val.specs.Cut.{cut_u32, cut_u64};
 ghost use Rattle.wf_val.specs.Get.{get, item, put, without, is_object};
 ghost use Rattle.wf_val.specs.Seen.{tree};
 ghost use Rattle.wf_val.specs.ValueOrder.{order, rank};
-ghost use Rattle.wf_val.specs.ValueTree.{ValueTree, depth, weight, Fits};
+ghost use Rattle.wf_val.specs.ValueTree.{ValueTree, depth, weight, fits, Fits};
 ghost use Rattle.wf_val.specs.WellFormed.{IsWellFormed};
 
 use crate::fields::Fields;
@@ -55,7 +55,8 @@ impl Val {
 
     /// Whether an expression may have the value.
     pub fn fits(&self) -> bool
-        ensures { IsTrue result ↔ Fits (tree self.now) }
+        ensures within { IsTrue result ↔ Fits (tree self.now) }
+        ensures test { result ≡ fits (tree self.now) }
     {
         self.depth() <= 64 && self.weight() <= 1 << 20
     }

@@ -7,7 +7,8 @@ use Rattle.wf_val.specs.Seen.{tree, member}
 use Rattle.wf_val.specs.ValueTree.{node_count, trees, trees_count, members, members_count}
 use Rattle.wf_val.specs.declared.val.Val.{Val}
 use Rattle.wf_json.specs.Sent.{items_of, members_of}
-use Rattle.wf_json.proofs.SentLemmas.{item_count-le, member_count-le, items_len-trees, members_len-members}
+use Rattle.wf_val.proofs.NodeCountLemmas.{item_count-le, member_count-le}
+use Rattle.wf_json.proofs.SentLemmas.{items_len-trees, members_len-members}
 use Rattle.wf_json.proofs.writing.+send.Goals as goal
 
 pub send_items-send-requires : goal.send_items-send-requires

@@ -2,7 +2,7 @@ use Rattle.std.proofs.Common.{◌≡◌, ℕ, List, map, get_or, ap, arith}
 use Rattle.wf_val.specs.Seen.{tree, member}
 use Rattle.wf_val.specs.ValueTree.{node_count, trees, trees_count, members, members_count}
 use Rattle.wf_val.specs.declared.val.Val.{Val}
-use Rattle.wf_top.proofs.Literals.{item_count-le, member_count-le}
+use Rattle.wf_val.proofs.NodeCountLemmas.{item_count-le, member_count-le}
 use Rattle.wf_top.proofs.plain.+is_literal.Goals as goal
 
 pub are_literal-is_literal-requires : goal.are_literal-is_literal-requires

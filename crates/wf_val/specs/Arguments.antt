@@ -1,9 +1,9 @@
 -- What the rows of all functions share: an answer is a value or a fault, the arguments are judged from left to right,
 -- a whole number has 64 bits with a sign, and a value has to fit.
-use Rattle.std.specs.Prelude.{ℕ, suc, ◌-◌, ◌^◌, ℤ, pos, negsuc, Bool, ◌&&◌, List, Option, Some, Result, Ok, Err, int_le, nat_le, slice_get, if◌then◌else◌}
+use Rattle.std.specs.Prelude.{ℕ, suc, ◌-◌, ◌^◌, ℤ, pos, negsuc, Bool, ◌&&◌, List, Option, Some, Result, Ok, Err, int_le, slice_get, if◌then◌else◌}
 use Rattle.wf_val.specs.Cut.{cut_u32, cut_u64}
 use Rattle.wf_val.specs.Seen.{tree}
-use Rattle.wf_val.specs.ValueTree.{ValueTree, boolean, number, text, depth, weight}
+use Rattle.wf_val.specs.ValueTree.{ValueTree, boolean, number, text, depth, weight, fits}
 use Rattle.wf_val.specs.declared.fault.EvalFault.{EvalFault}
 use Rattle.wf_val.specs.declared.function.Fun.{Fun}
 use Rattle.wf_val.specs.declared.val.Val.{Val}
@@ -59,4 +59,4 @@ in_range f n = if fits_i64 n then Ok (number n) else Err (EvalFault.Range f)
 
 -- the value, or `TooBig` where it doesn't fit
 abbrev pub bounded : ValueTree → Answer
-bounded t = if (nat_le (depth t) 64 && nat_le (weight t) (2 ^ 20)) then Ok t else Err (EvalFault.TooBig (cut_u32 (depth t)) (cut_u64 (weight t)))
+bounded t = if fits t then Ok t else Err (EvalFault.TooBig (cut_u32 (depth t)) (cut_u64 (weight t)))

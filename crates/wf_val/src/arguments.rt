@@ -1,9 +1,13 @@
 //! The arguments of a function by their types, and the test of a value's size.
 ghost use Rattle.std.specs.Prelude.{◌≡◌, Ok, Err, IfOk, IfErr};
-ghost use Rattle.wf_fn_math.specs.Arguments.{seen, wrong_type, number_at, text_at, truth_at, bounded};
+ghost use Rattle.wf_val.specs.Arguments.{seen, wrong_type, number_at, text_at, truth_at, bounded};
 ghost use Rattle.wf_val.specs.Seen.{tree};
 
-use wf_val::{EvalFault, Fun, Text, Val, Vals};
+use crate::fault::EvalFault;
+use crate::function::Fun;
+use crate::text::Text;
+use crate::val::Val;
+use crate::vals::Vals;
 
 /// The fault of an argument that isn't of a type that the function takes there. The place is counted from 0 here, and
 /// from 1 in the fault; one past the greatest u32 is cut to it.
