@@ -26,12 +26,12 @@ mod kind;
 mod law;
 mod mode;
 mod parse;
+#[cfg(test)]
+mod parse_tests;
 mod reader;
 mod stack;
 mod step;
 mod template;
-#[cfg(test)]
-mod parse_tests;
 #[cfg(test)]
 mod tests;
 mod tree;
