@@ -1,6 +1,7 @@
 mod TreeFieldLemmas
 pub mod DraftLemmas
 pub mod FrontLemmas
+pub mod PieceLemmas
 pub mod StackLemmas
 pub mod WordLemmas
 pub mod Residual

@@ -1,14 +1,13 @@
 -- What a `Draft` stands for.
 use Rattle.std.specs.Prelude.{ℕ, Bool, List, [], ◌∷◌, map}
 use Rattle.wf_val.specs.Seen.{tree}
-use Rattle.wf_expr.specs.ExprTree.{ExprTree, literal, call, member, index, no_exprs}
-use Rattle.wf_expr.specs.Reading.{joined}
+use Rattle.wf_expr.specs.ExprTree.{ExprTree, literal, call, member, index, expr_trees}
 use Rattle.wf_expr.specs.declared.draft.First.{First}
 use Rattle.wf_expr.specs.declared.draft.Link.{Link}
 
 abbrev pub first_tree : First → ExprTree
 first_tree (First.Literal v) = literal (tree v)
-first_tree (First.Call name args) = call name (joined args no_exprs)
+first_tree (First.Call name args) = call name (expr_trees args)
 
 abbrev pub linked : ExprTree → Link → ExprTree
 linked b (Link.Member name soft) = member b name soft

@@ -1,7 +1,6 @@
 -- How large an expression is: itself and its parts, and one for each argument; more than each part, so a recursion ends.
 use Rattle.std.specs.Prelude.{ℕ, ◌+◌, List}
-use Rattle.wf_expr.specs.ExprTree.{ExprTree, literal, call, member, index, ExprTrees, no_exprs, expr_then}
-use Rattle.wf_expr.specs.Reading.{joined}
+use Rattle.wf_expr.specs.ExprTree.{ExprTree, literal, call, member, index, ExprTrees, no_exprs, expr_then, expr_trees}
 
 abbrev mutual
   pub expr_count : ExprTree → ℕ
@@ -15,4 +14,4 @@ abbrev mutual
   exprs_count (expr_then e es) = 1 + (expr_count e + exprs_count es)
 
 abbrev pub count_of_exprs : List ExprTree → ℕ
-count_of_exprs es = exprs_count (joined es no_exprs)
+count_of_exprs es = exprs_count (expr_trees es)

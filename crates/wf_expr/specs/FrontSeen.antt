@@ -1,7 +1,8 @@
 -- What the part of a text that is read stands for.
-use Rattle.std.specs.Prelude.{ℕ, List, [], ◌∷◌, ◌++◌, map, chars, string_bytes}
+use Rattle.std.specs.Prelude.{ℕ, Option, None, List, [], ◌∷◌, ◌++◌, map, chars, string_bytes}
 use Rattle.wf_expr.specs.Reading.{Item, character, embedded}
-use Rattle.wf_expr.specs.TemplateTree.{PieceTree, letters}
+use Rattle.wf_expr.specs.TemplateTree.{PieceTree, letters, part}
+use Rattle.wf_expr.specs.Spells.{over}
 use Rattle.wf_expr.specs.declared.front.Front.{Front}
 use Rattle.wf_expr.specs.declared.front.Section.{Section}
 
@@ -20,3 +21,13 @@ items_seen f = sections_seen f.sections.items ++ characters (string_bytes f.lite
 abbrev pub lettered : List ℕ → List PieceTree
 lettered [] = []
 lettered (b ∷ bs) = letters (b ∷ bs) ∷ []
+
+-- the pieces of sections
+abbrev pub sections_pieces : List Section → List PieceTree
+sections_pieces [] = []
+sections_pieces (s ∷ ss) = lettered (string_bytes s.literal) ++ part s.expression ∷ sections_pieces ss
+
+-- the length of the first expression of sections that is too long
+abbrev pub sections_over : List Section → Option ℕ
+sections_over [] = None
+sections_over (s ∷ ss) = over s.length (sections_over ss)

@@ -3,8 +3,7 @@ ghost use Rattle.std.specs.Prelude.{◌≡◌, [], ◌∷◌, ◌++◌, IfOk};
 ghost use Rattle.wf_val.specs.Seen.{tree};
 ghost use Rattle.wf_expr.specs.DraftSeen.{first_tree, linked};
 ghost use Rattle.wf_expr.specs.ExprSeen.{expr_tree, exprs_seen};
-ghost use Rattle.wf_expr.specs.ExprTree.{literal, call, member, index, no_exprs};
-ghost use Rattle.wf_expr.specs.Reading.{joined};
+ghost use Rattle.wf_expr.specs.ExprTree.{literal, call, member, index, expr_trees};
 
 use crate::expr::{Expr, Exprs};
 use std::alloc::{AllocError, Global};
@@ -97,7 +96,7 @@ impl Draft {
     }
 
     pub(crate) fn call(alloc: Global, name: Text, args: Drafts) -> Draft
-        ensures { result ≡ call name (joined args no_exprs) }
+        ensures { result ≡ call name (expr_trees args) }
     {
         Draft {
             first: First::Call { name, args },

@@ -1,6 +1,6 @@
 //! The part of a text that is read.
 ghost use Rattle.std.specs.Prelude.{◌≡◌, [], ◌∷◌, ◌++◌, IfOk, OnOk, string_bytes};
-ghost use Rattle.wf_expr.specs.FrontSeen.{items_seen, lettered};
+ghost use Rattle.wf_expr.specs.FrontSeen.{items_seen, lettered, sections_over, sections_pieces};
 ghost use Rattle.wf_expr.specs.Reading.{character, embedded, items_of, template_of};
 ghost use Rattle.wf_expr.specs.Spells.{first_over};
 ghost use Rattle.wf_expr.specs.TemplateSeen.{template_tree, pieces_seen};
@@ -73,15 +73,11 @@ impl Front {
     }
 
     /// The length of the first expression that is too long.
+    #[tactic(auto, using(crate::proofs::PieceLemmas::first_over_seen))]
     pub(crate) fn first_over(&self) -> Option<u64>
         ensures { result ≡ first_over (items_seen self.now) }
     {
-        for section in &self.sections {
-            if section.length > LONGEST {
-                return Some(section.length);
-            }
-        }
-        None
+        first_too_long(&self.sections)
     }
 
     /// The template that the whole text spells.
@@ -91,14 +87,32 @@ impl Front {
         if self.sections.is_empty() {
             return Ok(Template::Plain(Text::from_string(self.literal)));
         }
-        let mut pieces = Pieces::new(alloc);
-        for section in self.sections {
-            push_literal(&mut pieces, section.literal)?;
-            pieces.push(Piece::Part(section.expression.into_expr(alloc)?))?;
-        }
+        let mut pieces = pieces_of(alloc, self.sections)?;
         push_literal(&mut pieces, self.literal)?;
         Ok(Template::Parts(pieces))
     }
+}
+
+fn first_too_long(sections: &[Section]) -> Option<u64>
+    ensures { result ≡ sections_over sections.now }
+{
+    for section in sections {
+        if section.length > LONGEST {
+            return Some(section.length);
+        }
+    }
+    None
+}
+
+fn pieces_of(alloc: Global, sections: Vec<Section>) -> Result<Pieces, AllocError>
+    ensures { IfOk result (λ ps. pieces_seen ps ≡ sections_pieces sections.items) }
+{
+    let mut pieces = Pieces::new(alloc);
+    for section in sections {
+        push_literal(&mut pieces, section.literal)?;
+        pieces.push(Piece::Part(section.expression.into_expr(alloc)?))?;
+    }
+    Ok(pieces)
 }
 
 /// Adds a text that stands for itself, unless it is empty.

@@ -44,6 +44,7 @@ fn open_key(base: Draft, soft: bool, stack: &mut Stack) -> Result<Option<Mode>, 
     Ok(Some(Mode::First))
 }
 
+#[tactic(auto, using(crate::proofs::DraftLemmas::joined_none))]
 fn close(alloc: Global, last: Draft, stack: &mut Stack) -> Result<Option<Mode>, AllocError>
     ensures { IfOk result (λ m. state_seen m stack.new ≡ closed last (top (stack_seen stack.old)) (below (stack_seen stack.old))) }
 {
