@@ -225,6 +225,9 @@ nulls() => Syntax 133
 1?[ => Syntax 131
 true[ => Syntax 133"#;
 
+// Above the greatest nesting of a row.
+const LEVELS: u8 = 100;
+
 fn show_literal(alloc: Global, out: &mut String, value: &Val) -> Result<(), AllocError> {
     match value {
         Val::Null => out.push_str("null"),
@@ -243,40 +246,36 @@ fn show_text(out: &mut String, text: &str) -> Result<(), AllocError> {
 }
 
 // The tree, with what each node is before its parts: a call by its name, an access by how it is written.
-#[cycle(shown)]
-fn show(alloc: Global, out: &mut String, expression: &Expr) -> Result<(), AllocError> {
+fn show(alloc: Global, out: &mut String, expression: &Expr, levels: u8) -> Result<(), AllocError> {
+    let Some(below) = levels.checked_sub(1) else {
+        return out.push_str("too deep");
+    };
     match expression {
         Expr::Lit(value) => show_literal(alloc, out, value),
         Expr::Call { name, args } => {
             out.push('(')?;
             out.push_str(name.as_str())?;
-            show_all(alloc, out, args)?;
+            for argument in args.as_slice() {
+                out.push(' ')?;
+                show(alloc, out, argument, below)?;
+            }
             out.push(')')
         }
         Expr::Member { base, name, soft } => {
             out.push_str(if *soft { "(?. " } else { "(. " })?;
-            show(alloc, out, base)?;
+            show(alloc, out, base, below)?;
             out.push(' ')?;
             out.push_str(name.as_str())?;
             out.push(')')
         }
         Expr::Index { base, key, soft } => {
             out.push_str(if *soft { "(?[] " } else { "([] " })?;
-            show(alloc, out, base)?;
+            show(alloc, out, base, below)?;
             out.push(' ')?;
-            show(alloc, out, key)?;
+            show(alloc, out, key, below)?;
             out.push(')')
         }
     }
-}
-
-#[cycle(shown)]
-fn show_all(alloc: Global, out: &mut String, args: &Exprs) -> Result<(), AllocError> {
-    for argument in args.as_slice() {
-        out.push(' ')?;
-        show(alloc, out, argument)?;
-    }
-    Ok(())
 }
 
 fn show_pieces(alloc: Global, out: &mut String, pieces: &Pieces) -> Result<(), AllocError> {
@@ -286,7 +285,7 @@ fn show_pieces(alloc: Global, out: &mut String, pieces: &Pieces) -> Result<(), A
             Piece::Lit(text) => show_text(out, text.as_str())?,
             Piece::Part(expression) => {
                 out.push('{')?;
-                show(alloc, out, expression)?;
+                show(alloc, out, expression, LEVELS)?;
                 out.push('}')?;
             }
         }
@@ -303,7 +302,7 @@ fn shown(alloc: Global, template: &Template) -> Result<String, AllocError> {
         }
         Template::Whole(expression) => {
             out.push_str("whole ")?;
-            show(alloc, &mut out, expression)?;
+            show(alloc, &mut out, expression, LEVELS)?;
         }
         Template::Parts(pieces) => {
             out.push_str("parts")?;
