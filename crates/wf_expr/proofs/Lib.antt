@@ -10,4 +10,5 @@ pub mod Backward
 pub mod Keeps
 pub mod Alive
 pub mod Scans
+pub mod ParseLemmas
 mod Rows

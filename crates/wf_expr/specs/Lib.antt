@@ -23,4 +23,5 @@ pub mod StackSeen
 pub mod ModeSeen
 pub mod ReadSeen
 pub mod Parsed
+pub mod Parses
 pub mod DraftFalls

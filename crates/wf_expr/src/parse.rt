@@ -1,6 +1,7 @@
 //! Which template a text spells.
 ghost use Rattle.std.specs.Prelude.{◌≡◌, ℕ, IfOk, IfErr, chars};
 ghost use Rattle.wf_expr.specs.Parsed.{IsTemplate, IsSyntaxAt, IsTooLongBy, HasFault};
+ghost use Rattle.wf_expr.specs.Parses.{Concludes, Parses};
 ghost use Rattle.wf_expr.specs.ReadSeen.{read_seen};
 ghost use Rattle.wf_expr.specs.Reading.{template_of};
 ghost use Rattle.wf_expr.specs.Spells.{Spells, IsFault, IsTooLong, too_long};
@@ -36,6 +37,25 @@ fn template(alloc: Global, read: Read) -> Result<Template, AllocError>
     }
 }
 
+/// The template of what was read, unless an expression in it is too long.
+fn concluded(alloc: Global, characters: &[char], read: Read) -> Result<Template, ParseFault>
+    ensures { Concludes result characters.now (read_seen read) }
+{
+    match first_too_long(characters, &read) {
+        Some(length) => Err(ParseFault::TooLong {
+            length: cut(length),
+        }),
+        None => Ok(template(alloc, read)?),
+    }
+}
+
+fn parse_characters(alloc: Global, characters: &[char]) -> Result<Template, ParseFault>
+    ensures { Parses result characters.now }
+{
+    let read = read_text(alloc, characters)?;
+    concluded(alloc, characters, read)
+}
+
 /// The template that a text of a definition spells (Workflow Definition Language, "Expressions"): an expression after
 /// `@`, which keeps the type of its value, or a text with expressions in `@{` and `}`. `@@` at the start stands for
 /// `@`, and `@@{` elsewhere for `@{`.
@@ -52,11 +72,5 @@ pub fn parse_template(alloc: Global, text: &Text) -> Result<Template, ParseFault
     ensures too_long { (length : ℕ) → IsTooLong (chars text.now) length → IsTooLongBy result length }
 {
     let characters = characters_of(alloc, text.as_str())?;
-    let read = read_text(alloc, &characters)?;
-    match first_too_long(&characters, &read) {
-        Some(length) => Err(ParseFault::TooLong {
-            length: cut(length),
-        }),
-        None => Ok(template(alloc, read)?),
-    }
+    parse_characters(alloc, &characters)
 }
