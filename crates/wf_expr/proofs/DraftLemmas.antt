@@ -1,6 +1,6 @@
 -- Accesses in a row.
 use Rattle.std.proofs.Common.{◌≡◌, List, [], ◌∷◌, ◌++◌, refl, ap}
-use Rattle.wf_expr.specs.ExprTree.{ExprTree, ExprTrees, no_exprs, expr_then, expr_trees}
+use Rattle.wf_expr.specs.ExprTree.{ExprTree, no_exprs, expr_then, expr_trees}
 use Rattle.wf_expr.specs.Reading.{joined}
 use Rattle.wf_expr.specs.DraftSeen.{linked, chained}
 use Rattle.wf_expr.specs.declared.draft.Link.{Link}

@@ -3,8 +3,8 @@ use Rattle.std.proofs.Common.{◌≡◌, ℕ, List, [], ◌∷◌, ◌++◌, map
 use Rattle.std.specs.Char.{encode_utf8, IsScalar}
 use Rattle.std.specs.declared.string.String.{String}
 use Rattle.std.proofs.lemmas.Str.{chars-append, chars_past_char, chars-nil, IsUtf8-string_bytes, IsUtf8-encode}
-use Rattle.wf_expr.specs.Reading.{Item, character, embedded}
-use Rattle.wf_expr.specs.FrontSeen.{characters, sections_seen, items_seen}
+use Rattle.wf_expr.specs.Reading.{character, embedded}
+use Rattle.wf_expr.specs.FrontSeen.{characters, sections_seen}
 use Rattle.wf_expr.specs.declared.front.Section.{Section}
 
 map_append : (xs ys : List ℕ) → map character (xs ++ ys) ≡ map character xs ++ map character ys

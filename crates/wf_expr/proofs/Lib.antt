@@ -12,3 +12,6 @@ pub mod Alive
 pub mod Scans
 pub mod ParseLemmas
 mod Rows
+mod QuoteLemmas
+mod Derivation
+mod Rederivation

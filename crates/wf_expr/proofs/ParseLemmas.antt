@@ -1,16 +1,13 @@
 -- From what the machine gave to what the text spells.
-use Rattle.std.proofs.Common.{◌≡◌, ℕ, List, Option, Some, None, Result, Ok, Err, IfOk, IfErr, refl, sym, subst, ap, ◌∙◌, ◌<◌, ◌⊎◌, inl, inr, arith}
+use Rattle.std.proofs.Common.{◌≡◌, ℕ, List, Some, None, Result, Ok, Err, IfOk, IfErr, refl, sym, subst, ap, ◌∙◌, ◌<◌, ◌⊎◌, inl, inr, arith}
 use Rattle.wf_val.specs.Cut.{cut_u32}
-use Rattle.wf_expr.specs.Machine.{scan, start}
 use Rattle.wf_expr.specs.Parsed.{IsTemplate, IsSyntaxAt, IsTooLongBy, HasFault}
-use Rattle.wf_expr.specs.Parses.{Concludes, Parses}
-use Rattle.wf_expr.specs.ReadSeen.{read_seen, Gives}
+use Rattle.wf_expr.specs.Parses.{Parses}
 use Rattle.wf_expr.specs.Reading.{Reading, template_of}
-use Rattle.wf_expr.specs.Spells.{Spells, IsFault, IsTooLong, too_long, Derives}
+use Rattle.wf_expr.specs.Spells.{Spells, IsFault, IsTooLong, too_long}
 use Rattle.wf_expr.specs.TemplateSeen.{template_tree}
 use Rattle.wf_expr.specs.TemplateTree.{TemplateTree}
 use Rattle.wf_expr.specs.declared.fault.ParseFault.{ParseFault}
-use Rattle.wf_expr.specs.declared.reader.Read.{Read}
 use Rattle.wf_expr.specs.declared.template.Template.{Template}
 use Rattle.wf_expr.proofs.Scans.{found, only, fault}
 
@@ -46,6 +43,7 @@ one_place s x y p q = go (order x y)
   where
     order : (x y : ℕ) → (x ≡ y) ⊎ ((x < y) ⊎ (y < x))
     order x y = grind arith
+
     go : (x ≡ y) ⊎ ((x < y) ⊎ (y < x)) → x ≡ y
     go (inl e) = e
     go (inr (inl lt)) = absurd (p.longest y lt q.within q.viable)

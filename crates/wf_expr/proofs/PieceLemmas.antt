@@ -1,11 +1,11 @@
 -- The pieces of a text, and the length of its first expression that is too long, by its sections.
-use Rattle.std.proofs.Common.{◌≡◌, ℕ, ◌≤◌, suc, List, [], ◌∷◌, ◌++◌, length, map, chars, string_bytes, Global, Option, Some, None, nat_eq, Bool, true, false, refl, sym, ap, ◌∙◌, append_assoc, append-nil, arith, nat_lt, if◌then◌else◌}
+use Rattle.std.proofs.Common.{◌≡◌, ℕ, ◌≤◌, List, [], ◌∷◌, ◌++◌, length, map, chars, string_bytes, Global, None, nat_eq, true, false, refl, sym, ap, ◌∙◌, append_assoc, append-nil, arith}
 use Rattle.std.specs.Char.{encode_utf8}
 use Rattle.std.specs.declared.string.String.{String}
 use Rattle.std.proofs.lemmas.Str.{encodes-chars, IsUtf8-string_bytes, length-encode, len_utf8_bounds}
 use lib.Utf8.{encodes}
 use Rattle.wf_expr.specs.ExprTree.{ExprTree}
-use Rattle.wf_expr.specs.TemplateTree.{PieceTree, letters, part, TemplateTree, plain, parts}
+use Rattle.wf_expr.specs.TemplateTree.{PieceTree, letters, part, plain, parts}
 use Rattle.wf_expr.specs.Reading.{Item, character, embedded, put_character, pieces_of, template_of_pieces}
 use Rattle.wf_expr.specs.Spells.{over, first_over}
 use Rattle.wf_expr.specs.FrontSeen.{characters, sections_seen, items_seen, lettered, sections_pieces, sections_over}

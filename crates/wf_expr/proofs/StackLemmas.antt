@@ -1,5 +1,5 @@
 -- What is open, by its frames.
-use Rattle.std.proofs.Common.{◌≡◌, ℕ, ◌+◌, suc, Bool, false, nat_eq, ◌&&◌, List, [], ◌∷◌, ◌++◌, length, Option, Some, None, option_map, option_to_list, IfNone, MatchOption, take, ◌-◌, refl, sym, arith}
+use Rattle.std.proofs.Common.{◌≡◌, ℕ, ◌+◌, suc, false, nat_eq, ◌&&◌, List, [], ◌∷◌, ◌++◌, length, Option, Some, None, option_map, option_to_list, IfNone, MatchOption, take, ◌-◌, refl, sym, arith}
 use Rattle.wf_expr.specs.Machine as M
 use Rattle.wf_expr.specs.StackSeen.{frame_seen, bottom_seen, stacked}
 use Rattle.wf_expr.specs.declared.stack.Bottom.{Bottom}

@@ -1,5 +1,5 @@
 -- Each part of a draft has fewer expressions in it than the whole, so a recursion over drafts ends.
-use Rattle.std.specs.Prelude.{ℕ, ◌+◌, ◌≤◌, max, List, [], ◌∷◌}
+use Rattle.std.specs.Prelude.{◌+◌, ◌≤◌, max, List, [], ◌∷◌}
 use Rattle.std.proofs.Common.{arith}
 use denote.Param.Weighed.{most}
 use Rattle.wf_expr.specs.ExprTree.{ExprTree}

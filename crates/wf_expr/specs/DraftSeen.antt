@@ -1,5 +1,5 @@
 -- What a `Draft` stands for.
-use Rattle.std.specs.Prelude.{ℕ, Bool, List, [], ◌∷◌, map}
+use Rattle.std.specs.Prelude.{List, [], ◌∷◌}
 use Rattle.wf_val.specs.Seen.{tree}
 use Rattle.wf_expr.specs.ExprTree.{ExprTree, literal, call, member, index, expr_trees}
 use Rattle.wf_expr.specs.declared.draft.First.{First}

@@ -25,3 +25,6 @@ pub mod ReadSeen
 pub mod Parsed
 pub mod Parses
 pub mod DraftFalls
+pub mod Printed
+pub mod Printable
+pub mod Unwritten

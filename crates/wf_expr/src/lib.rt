@@ -11,6 +11,8 @@
 //! promises that no text has two templates or two such lengths, or spells a template and has such an expression, and
 //! `a_template_or_a_fault` that each text spells a template, goes wrong at a place or has such an expression.
 //!
+//! `print_expr` gives the text of an expression, which derives it wherever any text does.
+//!
 //! This crate evaluates no expression, knows no function's name or arity, and reads no JSON. What takes memory takes
 //! its allocator, and answers an error where none is left, with everything that it was lent as before; what the call
 //! was given by value is then dropped.
@@ -28,6 +30,9 @@ mod mode;
 mod parse;
 #[cfg(test)]
 mod parse_tests;
+mod print;
+#[cfg(test)]
+mod print_tests;
 mod reader;
 mod stack;
 mod step;
@@ -36,6 +41,7 @@ mod template;
 mod tests;
 mod tree;
 mod tree_fields;
+mod unwritten;
 mod word;
 
 pub use cond::{Cond, Conds};
@@ -43,6 +49,7 @@ pub use expr::{Expr, Exprs};
 pub use fault::ParseFault;
 pub use law::{a_template_or_a_fault, no_two_templates};
 pub use parse::parse_template;
+pub use print::print_expr;
 pub use template::{Piece, Pieces, Template};
 pub use tree::{Tree, Trees};
 pub use tree_fields::TreeFields;

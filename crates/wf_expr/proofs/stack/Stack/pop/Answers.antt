@@ -1,4 +1,3 @@
-use Rattle.std.proofs.Common.{rules}
 use Rattle.wf_expr.proofs.StackLemmas.{top_seen, below_seen, none_left}
 use Rattle.wf_expr.proofs.stack.Stack.pop.Goals as goal
 
