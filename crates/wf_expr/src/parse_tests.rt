@@ -424,48 +424,58 @@ fn brackets_are_counted_in_each_expression(rt: HostRuntime) -> Result<(), Fail> 
     Ok(())
 }
 
+// Expressions of 8,192, 8,193 and 8,194 characters stand at L, M and N.
+const LONG: &str = r#"@L => taken
+@{L} => taken
+@M => TooLong 8193
+a@{L}@{M} => TooLong 8193
+@{N}@{M} => TooLong 8194
+@{M}@{N} => TooLong 8193
+aN@{1}N => taken
+@Mx => Syntax 8194
+@{M}@{ => Syntax 8198"#;
+
 // An expression of so many characters, of which all but the first are white space.
 fn blank_expression(alloc: Global, length: usize) -> Result<String, AllocError> {
     repeated(alloc, "1", " ", length.saturating_sub(1), "")
 }
 
+// The row's text with the expression of each letter.
+fn lengthened(alloc: Global, row: &str) -> Result<String, AllocError> {
+    let mut text = String::new(alloc);
+    for c in row.chars() {
+        match c {
+            'L' => text.push_str(&blank_expression(alloc, 8192)?)?,
+            'M' => text.push_str(&blank_expression(alloc, 8193)?)?,
+            'N' => text.push_str(&blank_expression(alloc, 8194)?)?,
+            _ => text.push(c)?,
+        }
+    }
+    Ok(text)
+}
+
 #[test]
 fn an_expression_has_at_most_8192_characters(rt: HostRuntime) -> Result<(), Fail> {
     let alloc = rt.alloc();
-    let longest = blank_expression(alloc, 8192)?;
-    let longer = blank_expression(alloc, 8193)?;
-    let longer_yet = blank_expression(alloc, 8194)?;
-    let rows = [
-        (format!(in alloc; "@{longest}")?, "taken"),
-        (format!(in alloc; "@{{{longest}}}")?, "taken"),
-        (format!(in alloc; "@{longer}")?, "TooLong 8193"),
-        (
-            format!(in alloc; "a@{{{longest}}}@{{{longer}}}")?,
-            "TooLong 8193",
-        ),
-        (
-            format!(in alloc; "@{{{longer_yet}}}@{{{longer}}}")?,
-            "TooLong 8194",
-        ),
-        (
-            format!(in alloc; "@{{{longer}}}@{{{longer_yet}}}")?,
-            "TooLong 8193",
-        ),
-        // the text outside may be of any length
-        (format!(in alloc; "a{longer}@{{1}}{longer}")?, "taken"),
-        // a text that spells nothing is wrong, however long its expressions are
-        (format!(in alloc; "@{longer}x")?, "Syntax 8194"),
-        (format!(in alloc; "@{{{longer}}}@{{")?, "Syntax 8198"),
-        // characters are counted, and not bytes
-        (repeated(alloc, "@'", "é", 8190, "'")?, "taken"),
-        (repeated(alloc, "@'", "é", 8191, "'")?, "TooLong 8193"),
-        // an access has no length of its own
-        (repeated(alloc, "@1", ".a", 4095, "")?, "taken"),
-        (repeated(alloc, "@1", ".a", 4096, "")?, "TooLong 8193"),
-        (repeated(alloc, "@f(1", ",1", 4094, ")")?, "taken"),
-    ];
-    for (text, wanted) in &rows {
-        assert_eq!(rt; verdict(alloc, text)?.as_str(), *wanted);
+    for row in LONG.lines() {
+        let (text, wanted) = row.split_once(" => ").ok_or("an arrow")?;
+        let long = lengthened(alloc, text)?;
+        assert_eq!(rt; verdict(alloc, &long)?.as_str(), wanted, "at {text}");
+    }
+    // characters are counted, and not bytes; accesses and arguments have no limit of their own
+    for (before, part, times, behind, wanted) in [
+        ("@'", "é", 8190, "'", "taken"),
+        ("@'", "é", 8191, "'", "TooLong 8193"),
+        ("@1", ".a", 4095, "", "taken"),
+        ("@1", ".a", 4096, "", "TooLong 8193"),
+        ("@f(1", ",1", 4094, ")", "taken"),
+    ] {
+        let text = repeated(alloc, before, part, times, behind)?;
+        assert_eq!(rt;
+            verdict(alloc, &text)?.as_str(),
+            wanted,
+            "{times} of {part}"
+        );
     }
     Ok(())
 }
