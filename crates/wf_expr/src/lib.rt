@@ -18,11 +18,14 @@
 //! was given by value is then dropped.
 #![tactic(auto)]
 
+mod character;
 mod cond;
 mod digits;
 mod draft;
 mod expr;
+mod expression_step;
 mod fault;
+mod follow;
 mod front;
 mod kind;
 mod law;
@@ -39,6 +42,7 @@ mod step;
 mod template;
 #[cfg(test)]
 mod tests;
+mod text_step;
 mod tree;
 mod tree_fields;
 mod unwritten;

@@ -25,8 +25,8 @@ pub(crate) enum Mode {
     /// There, after two of them.
     TwoAt {
         front: Front,
-        sign: char,
-        next: char,
+        first: char,
+        second: char,
     },
     /// Where an expression begins.
     First,

@@ -57,8 +57,12 @@ fn end(alloc: Global, mode: Mode, stack: &Stack) -> Result<Option<Read>, AllocEr
         Mode::OneAt { front, sign } => Ok(Some(Read::Items {
             front: front.with(sign)?,
         })),
-        Mode::TwoAt { front, sign, next } => Ok(Some(Read::Items {
-            front: front.with(sign)?.with(next)?,
+        Mode::TwoAt {
+            front,
+            first,
+            second,
+        } => Ok(Some(Read::Items {
+            front: front.with(first)?.with(second)?,
         })),
         Mode::Int { digits } => Ok(whole(Draft::literal(alloc, Val::Int(digits.value())), stack)),
         Mode::Quote { text } => Ok(whole(
