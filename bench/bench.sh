@@ -1,5 +1,7 @@
 #!/bin/sh
-# Times `wflow run` beside `jq -c .` on the same definition, and prints the ratio of the two.
+# Times `wflow run` beside `jq -c .` on the same definition, and prints the ratio of the two. Then times the parsing of
+# texts as templates, which no command does yet, beside reading their bytes alone, with the ratio of these two, and beside
+# `jq -c .` on the same text as JSON.
 #
 #   bench/bench.sh
 #
@@ -12,6 +14,7 @@ folder=$(mktemp -d)
 trap 'rm -rf "$folder"' EXIT
 export top folder
 "$top/bin/wflow" run "$top/examples/hello/definition.json" "$top/examples/hello/inputs.json" >/dev/null
+(cd "$top/crates/template_times" && rt run -- parse <stdin) >"$folder/log" 2>&1 || { cat "$folder/log" >&2 && exit 1; }
 python3 - <<'PROGRAM'
 import json, os, subprocess, time
 
@@ -26,22 +29,25 @@ def file(name, value):
     return path
 
 
-def least(words):
+def least(words, given=os.devnull):
     times = []
     for _ in range(5):
-        began = time.perf_counter()
-        subprocess.run(words, stdout=subprocess.DEVNULL, check=True)
-        times.append(time.perf_counter() - began)
+        with open(given) as text:
+            began = time.perf_counter()
+            subprocess.run(words, stdin=text, stdout=subprocess.DEVNULL, check=True)
+            times.append(time.perf_counter() - began)
     return min(times)
 
 
 # The greatest memory of a run in MiB. A fresh interpreter starts it, since a process counts what it had before it became the
 # program; so nothing below that interpreter's own 9 MiB can be seen.
-def memory(words):
+def memory(words, given=os.devnull):
     start = "import os, sys; null = os.open('/dev/null', os.O_WRONLY); " \
         "pid = os.posix_spawn(sys.argv[1], sys.argv[1:], {}, file_actions=[(os.POSIX_SPAWN_DUP2, null, 1)]); " \
         "print(os.wait4(pid, 0)[2].ru_maxrss // 1024)"
-    return int(subprocess.run(["python3", "-I", "-S", "-c", start] + words, capture_output=True, check=True).stdout)
+    run = ["python3", "-I", "-S", "-c", start] + words
+    with open(given) as text:
+        return int(subprocess.run(run, stdin=text, stdout=subprocess.PIPE, check=True).stdout)
 
 
 inputs = file("inputs.json", {"run": "bench", "moment": "2024-05-01T12:00:00Z"})
@@ -69,4 +75,26 @@ for name, definition in cases:
     run = [program, "run", path, inputs]
     ours, theirs = least(run), least(["jq", "-c", ".", path])
     print("%-34s %9d %9.3f %9.3f %7.1f %5d MiB" % (name, os.path.getsize(path), ours, theirs, ours / theirs, memory(run)))
+
+# What each text is parsed as is told too, so that a parser that gives up early can't be taken for a fast one.
+program = os.path.join(top, "crates", "template_times", "out", "template_times")
+size = 4 * 2**20
+texts = [
+    ("plain text", "x" * size),
+    ("`@{1}` over and over", "@{1}" * (size // 4)),
+    ("one quoted text", "@'" + "x" * (size - 3) + "'"),
+    ("`@1`, and `.a` over and over", "@1" + ".a" * (size // 2 - 1)),
+]
+print()
+print("%-34s %9s %9s %9s %7s %9s %9s  %s" % ("text", "bytes", "parse s", "read s", "ratio", "jq s", "memory", "parsed as"))
+for name, text in texts:
+    path = os.path.join(folder, "text")
+    with open(path, "w") as out:
+        out.write(text)
+    parse = [program, "parse"]
+    with open(path) as given:
+        parsed = subprocess.run(parse, stdin=given, capture_output=True, check=True, text=True).stdout.strip()
+    ours, reading, theirs = least(parse, path), least([program, "read"], path), least(["jq", "-c", ".", file("text.json", text)])
+    print("%-34s %9d %9.3f %9.3f %7.1f %9.3f %5d MiB  %s" % (
+        name, os.path.getsize(path), ours, reading, ours / reading, theirs, memory(parse, path), parsed))
 PROGRAM
