@@ -21,6 +21,7 @@ pub mod ExprCounts
 pub mod FrontSeen
 pub mod StackSeen
 pub mod ModeSeen
+pub mod InPlace
 pub mod ReadSeen
 pub mod Parsed
 pub mod Parses

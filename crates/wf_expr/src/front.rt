@@ -40,13 +40,20 @@ impl Front {
         }
     }
 
-    /// The text with a character behind it that stands for itself.
+    /// Adds a character that stands for itself.
     #[tactic(auto, using(crate::proofs::FrontLemmas::push_seen))]
+    pub(crate) fn push(&mut self, c: char) -> Result<(), AllocError>
+        ensures { OnOk result (items_seen self.new ≡ items_seen self.old ++ character c ∷ []) }
+    {
+        self.literal.push(c)
+    }
+
+    /// The text with a character behind it that stands for itself.
     pub(crate) fn with(self, c: char) -> Result<Front, AllocError>
         ensures { IfOk result (λ f. items_seen f ≡ items_seen self ++ character c ∷ []) }
     {
         let mut front = self;
-        front.literal.push(c)?;
+        front.push(c)?;
         Ok(front)
     }
 

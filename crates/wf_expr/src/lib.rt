@@ -27,6 +27,7 @@ mod expression_step;
 mod fault;
 mod follow;
 mod front;
+mod in_place;
 mod kind;
 mod law;
 mod mode;

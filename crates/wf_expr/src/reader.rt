@@ -10,6 +10,7 @@ ghost use Rattle.wf_expr.specs.WordTests.{word_of};
 use crate::draft::Draft;
 use crate::fault::{ParseFault, cut};
 use crate::front::Front;
+use crate::in_place::take_in_place;
 use crate::mode::Mode;
 use crate::stack::Stack;
 use crate::step::next;
@@ -98,6 +99,9 @@ pub(crate) fn read_text(alloc: Global, text: &[char]) -> Result<Read, ParseFault
     let mut mode = Mode::Start;
     let mut stack = Stack::whole(alloc);
     for (at, c) in text.iter().enumerate() {
+        if take_in_place(&mut mode, *c)? {
+            continue;
+        }
         match next(alloc, mode, &mut stack, *c, at as u64)? {
             Some(then) => {
                 mode = then;
