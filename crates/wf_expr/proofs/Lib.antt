@@ -1,4 +1,5 @@
 mod TreeFieldLemmas
+pub mod ChainLemmas
 pub mod DraftLemmas
 pub mod FrontLemmas
 pub mod PieceLemmas

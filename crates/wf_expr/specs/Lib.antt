@@ -1,5 +1,6 @@
 pub mod ExprTree
 pub mod ExprSeen
+pub mod ChainSeen
 pub mod TemplateTree
 pub mod TemplateSeen
 pub mod DataTree

@@ -2,6 +2,7 @@
 ghost use Rattle.std.specs.Prelude.{◌≡◌, [], ◌∷◌, ◌++◌, length, map, IfOk, OnOk, OnErr, option_map, slice_get};
 ghost use Rattle.wf_expr.specs.ExprSeen.{expr_tree, exprs_seen};
 
+use crate::chain::chain_of;
 use std::alloc::{AllocError, Global};
 use wf_val::{Text, Val};
 
@@ -91,33 +92,6 @@ impl Expr {
     pub fn copy(&self, alloc: Global) -> Result<Expr, AllocError>
         ensures { IfOk result (λ e. expr_tree e ≡ expr_tree self.now) }
     {
-        match self {
-            Expr::Lit(value) => Ok(Expr::Lit(value.copy(alloc)?)),
-            Expr::Call { name, args } => {
-                let name = name.copy(alloc)?;
-                Ok(Expr::Call {
-                    name,
-                    args: args.copy(alloc)?,
-                })
-            }
-            Expr::Member { base, name, soft } => {
-                let base = Box::new(alloc, base.copy(alloc)?)?;
-                let name = name.copy(alloc)?;
-                Ok(Expr::Member {
-                    base,
-                    name,
-                    soft: *soft,
-                })
-            }
-            Expr::Index { base, key, soft } => {
-                let base = Box::new(alloc, base.copy(alloc)?)?;
-                let key = Box::new(alloc, key.copy(alloc)?)?;
-                Ok(Expr::Index {
-                    base,
-                    key,
-                    soft: *soft,
-                })
-            }
-        }
+        chain_of(alloc, self)?.copy(alloc)
     }
 }

@@ -18,6 +18,7 @@
 //! was given by value is then dropped.
 #![tactic(auto)]
 
+mod chain;
 mod character;
 mod cond;
 mod digits;

@@ -56,6 +56,47 @@ fn expressions_are_copied_with_all_their_parts(rt: HostRuntime) -> Result<(), Fa
     Ok(())
 }
 
+// How many accesses stand on one another, and the literal that they stand on.
+fn accesses(expression: &Expr) -> (u64, Option<&Val>) {
+    let mut count: u64 = 0;
+    let mut at = expression;
+    loop {
+        at = match at {
+            Expr::Lit(value) => return (count, Some(value)),
+            Expr::Call { name: _, args: _ } => return (count, None),
+            Expr::Member {
+                base,
+                name: _,
+                soft: _,
+            } => base,
+            Expr::Index {
+                base,
+                key: _,
+                soft: _,
+            } => base,
+        };
+        count = count.saturating_add(1);
+    }
+}
+
+// The copy takes no more of the stack for more accesses.
+#[test]
+fn thousands_of_accesses_are_copied(rt: HostRuntime) -> Result<(), Fail> {
+    let alloc = rt.alloc();
+    let mut text = String::from_str(alloc, "@1")?;
+    for _ in 0..4095 {
+        text.push_str(".a")?;
+    }
+    let Ok(Template::Whole(expression)) = parse_template(alloc, &Text::from_string(text)) else {
+        return Err(Fail::from("an expression"));
+    };
+    let copy = expression.copy(alloc)?;
+    let (count, start) = accesses(&copy);
+    assert_eq!(rt; count, 4095);
+    assert!(rt; matches!(start, Some(Val::Int(1))));
+    Ok(())
+}
+
 #[test]
 fn a_text_keeps_its_pieces_in_order(rt: HostRuntime) -> Result<(), Fail> {
     let mut pieces = Pieces::new(rt.alloc());
