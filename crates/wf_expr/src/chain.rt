@@ -35,6 +35,7 @@ enum Top<'a> {
     Access { base: &'a Expr, access: Access<'a> },
 }
 
+/// The accesses of an expression, and what they stand on.
 #[tactic(auto, using(crate::proofs::ChainLemmas::built_snoc, crate::proofs::ChainLemmas::base_lt_accessed))]
 pub fn chain_of<'a>(alloc: Global, expression: &'a Expr) -> Result<Chain<'a>, AllocError>
     ensures { IfOk result (λ c. chain_tree c ≡ expr_tree expression.now) }
