@@ -2,7 +2,7 @@ use Rattle.std.proofs.Common.{◌≡◌, ◌++◌, flat_map, string_bytes, arith
 use Rattle.std.specs.Str.Iter.{chars_rest}
 use Rattle.wf_json.specs.Pointer.{escaped}
 use Rattle.wf_json.proofs.PointerLemmas.{escaped_char_then}
-use Rattle.wf_json.proofs.flaws.step_to.Goals as goal
+use Rattle.wf_json.proofs.pointer.step_to.Goals as goal
 
 pub loop-c-preserved : goal.loop-c-preserved
 loop-c-preserved c =
