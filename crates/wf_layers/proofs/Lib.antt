@@ -37,3 +37,5 @@ pub mod Decide
 pub mod Whole
 pub mod Cost
 pub mod Equal
+pub mod Enabled
+pub mod Waiting

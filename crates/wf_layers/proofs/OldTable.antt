@@ -21,7 +21,8 @@ use Rattle.wf_layers.proofs.Tests.{test_sees}
 use Rattle.wf_layers.proofs.Store.{stores_run, run_last, decided_last, tested_last}
 use Rattle.wf_layers.proofs.Variables.{Lull, sees_finished}
 use Rattle.wf_layers.proofs.Keeps.{decided_own}
-use Rattle.wf_layers.specs.Resubmission.{kept, SplitIn, SplitAny, Split, IsSplit, pin, reopened, resumed, IsOldTable, ResumedRows, ResumedAtTheEnd, ResumedEnds, ResumedFacts, ResumedOneEvent, ResumedInOrder, ResumedStore}
+use Rattle.wf_layers.proofs.Enabled.{exact}
+use Rattle.wf_layers.specs.Resubmission.{kept, SplitIn, SplitAny, Split, IsSplit, pin, reopened, resumed, IsOldTable, ResumedRows, ResumedAtTheEnd, ResumedEnds, ResumedExact, ResumedFacts, ResumedOneEvent, ResumedInOrder, ResumedStore}
 use Rattle.wf_layers.proofs.Others.{look_others, others_or, others_old}
 use Rattle.wf_layers.proofs.Meaning.{meaning_solves}
 use Rattle.wf_layers.proofs.Open.{OpenFacts, open_sub, placed_in, kind_there}
@@ -64,6 +65,7 @@ mutual
       (two (nat_eq c n))
 
 -- what is said of a definition's actions, at one of them
+
 module _ (redo again : ℕ → Bool) where
   abbrev SplitAt : ℕ → Kind → Type 0
   SplitAt n k = SplitIn redo again k n × (kept redo again n ≡ true → (q : ℕ) → holds k q ≡ true → kept redo again q ≡ true)
@@ -727,6 +729,9 @@ module _ {Row Begun Decision Verdict : Type 0} (a b : Source Row Begun Decision 
 
     pub any_one_event : ResumedOneEvent d depth a b redo again r recall
     any_one_event es s run = one_event m d so f sol s (any_keeps es s run)
+
+    pub any_exact : ResumedExact d a b redo again r recall
+    any_exact es s run = exact m d so f sol s (any_keeps es s run) (any_busy es s run)
 
     -- what a decided action has an order with, and is finished, is seen by it; and all that it sees is there; and so for tests
     pub any_order : ResumedInOrder d depth a b redo again r recall

@@ -1,5 +1,5 @@
 -- The laws of order independence, as facts of a definition, a source and its meaning.
-use Rattle.std.specs.Prelude.{◌≡◌, ℕ, Bool, true, false, List, [], Some, ◌+◌, ◌*◌, ◌≤◌, length, Option, None}
+use Rattle.std.specs.Prelude.{◌≡◌, ℕ, Bool, true, false, List, [], Some, ◌+◌, ◌*◌, ◌≤◌, length, Option, None, ◌++◌, ◌∷◌}
 use Rattle.wf_layers.specs.Definition.{Graph, IsDepth, Closed, Turns}
 use Rattle.wf_layers.specs.Address.{Address, SeenIn, is_within}
 use Rattle.wf_layers.specs.Source.{Source, Sound}
@@ -11,6 +11,7 @@ use Rattle.wf_layers.specs.Called.{IsCalled}
 use Rattle.wf_layers.specs.Variables.{SeesFinished, SeenAreThere, TestSees, Stores, OneOrder, IsLastWritten, StoreHolds, StoreHoldsAtTests}
 use Rattle.wf_layers.specs.Bound.{total, left, made}
 use Rattle.wf_layers.specs.Facts.{Facts}
+use Rattle.wf_layers.specs.Enabled.{events}
 use Rattle.wf_layers.specs.Machine.{State, fresh, has_ended, Event, place_of, Step, Run, IsOver}
 
 module _ {Row Begun Decision Verdict : Type 0} where
@@ -116,3 +117,18 @@ module _ {Row Begun Decision Verdict : Type 0} where
       (es : List Event) (s : State Row Begun Decision Verdict) → Run d m fresh es s
       → (e e' : Event) (s1 s2 : State Row Begun Decision Verdict) → Step d m s e s1 → Step d m s e' s2 → place_of e ≡ place_of e'
       → e ≡ e'
+
+  -- The table of events has at an address exactly the event that is enabled there.
+  pub record Exact (d : Graph) (m : Source Row Begun Decision Verdict) (s : State Row Begun Decision Verdict) : Type 0 where
+    pub each : (e : Event) (s' : State Row Begun Decision Verdict) → Step d m s e s' → events m s d [] (place_of e) ≡ Some e
+    pub only : (x : Address) (e : Event) → events m s d [] x ≡ Some e
+        → (x ≡ place_of e) × ((s' : State Row Begun Decision Verdict) × Step d m s e s')
+
+  abbrev pub EventsAreExact : Graph → Source Row Begun Decision Verdict → Type 0
+  EventsAreExact d m = (es : List Event) (s : State Row Begun Decision Verdict) → Run d m fresh es s → Exact d m s
+
+  -- A run goes on by one event at its end.
+  abbrev pub RunsGrow : Graph → Source Row Begun Decision Verdict → Type 0
+  RunsGrow d m =
+      (s mid s' : State Row Begun Decision Verdict) (es : List Event) (e : Event) → Run d m s es mid → Step d m mid e s'
+      → Run d m s (es ++ e ∷ []) s'

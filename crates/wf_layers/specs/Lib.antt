@@ -9,6 +9,8 @@ pub mod Called
 pub mod Facts
 pub mod Variables
 pub mod Bound
+pub mod Enabled
+pub mod Waiting
 pub mod Laws
 pub mod Redo
 pub mod Resubmission

@@ -8,6 +8,7 @@ use Rattle.wf_layers.specs.Bound.{total, left, made}
 use Rattle.wf_layers.specs.Redo.{IsRedo}
 use Rattle.wf_layers.specs.Machine.{Opening, State, In, IsOpen, Event, place_of, Step, Run, IsOver, in_others, skip_others}
 use Rattle.wf_layers.specs.Facts.{Facts}
+use Rattle.wf_layers.specs.Laws.{Exact}
 use Rattle.wf_layers.specs.Variables.{IsIdle, SeesFinished, SeenAreThere, TestSees, Stores, OneOrder, IsLastWritten, StoreHolds, StoreHoldsAtTests}
 
 -- What is neither redone nor closed again is kept.
@@ -211,6 +212,13 @@ module _ {Row Begun Decision Verdict : Type 0} where
       (es : List Event) (s : State Row Begun Decision Verdict) → Run d (pin a b redo again r recall) (resumed d redo again r recall) es s
       → (e e' : Event) (s1 s2 : State Row Begun Decision Verdict) → Step d (pin a b redo again r recall) s e s1
       → Step d (pin a b redo again r recall) s e' s2 → place_of e ≡ place_of e' → e ≡ e'
+
+  -- and the table of events is exact
+  abbrev pub ResumedExact : Graph → Source Row Begun Decision Verdict → Source Row Begun Decision Verdict → (ℕ → Bool) → (ℕ → Bool)
+      → Table Row → (Address → Decision) → Type 0
+  ResumedExact d a b redo again r recall =
+      (es : List Event) (s : State Row Begun Decision Verdict) → Run d (pin a b redo again r recall) (resumed d redo again r recall) es s
+      → Exact d (pin a b redo again r recall) s
 
   abbrev pub ResumedInOrder : Graph → (ℕ → ℕ) → Source Row Begun Decision Verdict → Source Row Begun Decision Verdict → (ℕ → Bool)
       → (ℕ → Bool) → Table Row → (Address → Decision) → Type 0

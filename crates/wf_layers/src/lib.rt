@@ -19,13 +19,14 @@ ghost use Rattle.std.specs.Prelude.{[], ◌∷◌, ◌≡◌, Bool, None, Option
 ghost use Rattle.wf_layers.specs.Address.{Address, SeenIn, Table, address, is_within};
 ghost use Rattle.wf_layers.specs.Bound.{total};
 ghost use Rattle.wf_layers.specs.Definition.{Closed, Graph, IsDepth, Kind, Leaf, Turns};
-ghost use Rattle.wf_layers.specs.Laws.{AllRowsAtTheEnd, EventsAreCounted, EventsAreFew, EventsAtTheEnd, FactsOfStates, IsFresh, IsInstance, MeaningObeysTheRule, OneEventAtAnAddress, PartIsUnique, RowsAreTheMeanings, RowsAreUnique, RowsWhereCalledFor, StoreHoldsTheLast, TestsInOrder, VariablesInOrder};
+ghost use Rattle.wf_layers.specs.Laws.{AllRowsAtTheEnd, EventsAreCounted, EventsAreExact, EventsAreFew, EventsAtTheEnd, FactsOfStates, IsFresh, IsInstance, MeaningObeysTheRule, OneEventAtAnAddress, PartIsUnique, RowsAreTheMeanings, RowsAreUnique, RowsWhereCalledFor, RunsGrow, StoreHoldsTheLast, TestsInOrder, VariablesInOrder};
 ghost use Rattle.wf_layers.specs.Meaning.{meaning};
 ghost use Rattle.wf_layers.specs.Redo.{IsRedo};
-ghost use Rattle.wf_layers.specs.Resubmission.{IsOldTable, IsResubmission, IsSetResubmission, IsSplit, MayBeResubmittedAgain, OldAnswersGiveTheOldRows, OthersKept, ResubmissionIsFresh, ResumedAtTheEnd, ResumedEnds, ResumedFacts, ResumedInOrder, ResumedOneEvent, ResumedRows, ResumedStore, kept, pin};
+ghost use Rattle.wf_layers.specs.Resubmission.{IsOldTable, IsResubmission, IsSetResubmission, IsSplit, MayBeResubmittedAgain, OldAnswersGiveTheOldRows, OthersKept, ResubmissionIsFresh, ResumedAtTheEnd, ResumedEnds, ResumedExact, ResumedFacts, ResumedInOrder, ResumedOneEvent, ResumedRows, ResumedStore, kept, pin};
 ghost use Rattle.wf_layers.specs.Seen.{Answers, Once, Waits};
 ghost use Rattle.wf_layers.specs.Shape.{HasShape, Reading, ReadsBack};
 ghost use Rattle.wf_layers.specs.Source.{Sound, Source};
+ghost use Rattle.wf_layers.specs.Waiting.{Counts};
 ghost use Rattle.wf_layers.specs.Variables.{IsIdle, OneOrder, WritersHaveOrder};
 
 /// What an action waits for is earlier than it, so that its gate looks only at what is earlier.
@@ -96,6 +97,22 @@ pub fn runs_have_as_many_events<Row, Begun, Decision, Verdict>()
 /// At each moment the events so far are at most two for each row, running leaf, open container, attempt and begun iteration.
 pub fn events_are_few<Row, Begun, Decision, Verdict>()
     ensures { (d : Graph) (m : Source Row Begun Decision Verdict) (depth : ℕ → ℕ) → IsInstance d m depth → EventsAreFew d m depth }
+{}
+
+/// The table of events has at each address exactly the event that is enabled there.
+pub fn events_are_exact<Row, Begun, Decision, Verdict>()
+    ensures { (d : Graph) (m : Source Row Begun Decision Verdict) (depth : ℕ → ℕ) → IsInstance d m depth → EventsAreExact d m }
+{}
+
+/// A run goes on by one event at its end. So what is proved of runs is proved of a state that is stepped on.
+pub fn runs_grow<Row, Begun, Decision, Verdict>()
+    ensures { (d : Graph) (m : Source Row Begun Decision Verdict) → RunsGrow d m }
+{}
+
+/// How many entries of an action's `runAfter`, and how many actions of a graph, have no row: none exactly where all have ended, and one
+/// less as one ends.
+pub fn what_is_waited_for_is_counted<Row>()
+    ensures { Counts Row }
 {}
 
 /// As an action is decided, the finished accesses of a variable are those that it sees.
@@ -239,6 +256,14 @@ pub fn one_event_of_resumed_states<Row, Begun, Decision, Verdict>()
         (recall : Address → Decision)
         → IsDepth d depth → Closed d d → Sound b (SeenIn d) d 0 → IsOldTable d a redo again r recall
         → ResumedOneEvent d depth a b redo again r recall }
+{}
+
+/// And the table of events is exact there.
+pub fn events_of_resumed_states_are_exact<Row, Begun, Decision, Verdict>()
+    ensures { (d : Graph) (depth : ℕ → ℕ) (a b : Source Row Begun Decision Verdict) (redo again : ℕ → Bool) (r : Table Row)
+        (recall : Address → Decision)
+        → IsDepth d depth → Closed d d → Sound b (SeenIn d) d 0 → IsOldTable d a redo again r recall
+        → ResumedExact d a b redo again r recall }
 {}
 
 /// As an action is decided there, or an Until tested, the finished accesses of a variable are those that it sees.
