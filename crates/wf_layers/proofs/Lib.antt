@@ -35,7 +35,7 @@ pub mod Rooted
 pub mod Left
 pub mod Decide
 pub mod Whole
-pub mod Cost
+pub mod Worth
 pub mod Equal
 pub mod Enabled
 pub mod Waiting

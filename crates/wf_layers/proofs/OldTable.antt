@@ -22,7 +22,7 @@ use Rattle.wf_layers.proofs.Store.{stores_run, run_last, decided_last, tested_la
 use Rattle.wf_layers.proofs.Variables.{Lull, sees_finished}
 use Rattle.wf_layers.proofs.Keeps.{decided_own}
 use Rattle.wf_layers.proofs.Enabled.{exact}
-use Rattle.wf_layers.specs.Resubmission.{kept, SplitIn, SplitAny, Split, IsSplit, pin, reopened, resumed, IsOldTable, ResumedRows, ResumedAtTheEnd, ResumedEnds, ResumedExact, ResumedFacts, ResumedOneEvent, ResumedInOrder, ResumedStore}
+use Rattle.wf_layers.specs.Resubmission.{kept, SplitIn, SplitAny, Split, IsSplit, pin, reopened, resumed, IsOldTable, ResumedRows, ResumedAtTheEnd, ResumedEnds, ResumedExact, ResumedFacts, ResumedFew, ResumedOneEvent, ResumedInOrder, ResumedStore}
 use Rattle.wf_layers.proofs.Others.{look_others, others_or, others_old}
 use Rattle.wf_layers.proofs.Meaning.{meaning_solves}
 use Rattle.wf_layers.proofs.Open.{OpenFacts, open_sub, placed_in, kind_there}
@@ -31,7 +31,7 @@ use Rattle.wf_layers.proofs.Events.{run_keeps, rows_are, ended_settled}
 use Rattle.wf_layers.proofs.Progress.{closed_is, all_ended_over}
 use Rattle.wf_layers.specs.Bound.{total_of, total_in, total_any, total, left_in, left_any, left}
 use Rattle.wf_layers.proofs.Left.{by_none, by_row, by_open, entry, ended_left, run_left}
-use Rattle.wf_layers.proofs.Cost.{whole_bound}
+use Rattle.wf_layers.proofs.Worth.{events_are_few}
 use Rattle.wf_layers.proofs.Resubmission.{kept_not, kept_other, not_kept, is_kept, pin_sound}
 
 -- what has a kind is there
@@ -717,9 +717,13 @@ module _ {Row Begun Decision Verdict : Type 0} (a b : Source Row Begun Decision 
         run_left m d so f sol cl out s0 es s first_keeps first_busy first_rooted run ∙ left_graph d d (λ n z k q. q) top sp.tree
 
     pub any_ends : ResumedEnds d depth a b redo again r recall
-    any_ends es s run =
-        let x = any_counted es s run in let y = whole_bound m d so f sol s (any_keeps es s run) in
-        (x, omega (arith, x, y))
+    any_ends es s run = any_counted es s run
+
+    pub any_few : (RowAt LeafAt OpenAt : Type 0) → ResumedFew RowAt LeafAt OpenAt d depth a b redo again r recall
+    any_few RowAt LeafAt OpenAt es s run turns tells row_at row leaf_at leaf open_at opening of_row of_leaf of_open costs rows leaves opens lr ll lo =
+        events_are_few m d so f sol turns tells cl out RowAt LeafAt OpenAt s0 es s first_keeps first_busy first_rooted run
+        (any_keeps es s run)
+        (any_busy es s run) row_at row leaf_at leaf open_at opening of_row of_leaf of_open costs rows leaves opens lr ll lo
 
     pub any_at_the_end : Turns d → ResumedAtTheEnd d depth a b redo again r recall
     any_at_the_end t es s run o =

@@ -1,9 +1,10 @@
 -- How many events a run has, and how many of them are left in a state.
-use Rattle.std.specs.Prelude.{ℕ, zero, suc, ◌+◌, ◌-◌, cond, List, [], ◌∷◌, ◌++◌, Option, Some, None, nat_lt}
-use Rattle.wf_layers.specs.Definition.{Need, Kind, Leaf, Scope, Choice, Foreach, Until, Branches, no_branch, branch, Graph, done, add, is_one, less_one}
-use Rattle.wf_layers.specs.Address.{address, Table}
-use Rattle.wf_layers.specs.Source.{Source, gate}
-use Rattle.wf_layers.specs.Meaning.{rounds}
+use Rattle.std.specs.Prelude.{◌≡◌, ◌≤◌, ◌*◌, ℕ, zero, suc, ◌+◌, ◌-◌, cond, List, [], ◌∷◌, ◌++◌, Option, Some, None, nat_lt}
+use Rattle.wf_layers.specs.Definition.{Need, Pace, Kind, Leaf, Scope, Choice, Foreach, Until, Branches, no_branch, branch, Graph, done, add, is_one, less_one, kind_of}
+use Rattle.wf_layers.specs.Address.{Address, address, Table}
+use Rattle.wf_layers.specs.Source.{Source, gate, leaf}
+use Rattle.wf_layers.specs.Meaning.{rounds, last}
+use Rattle.wf_layers.specs.Called.{iterations}
 use Rattle.wf_layers.specs.Machine.{Running, Opening, State}
 
 abbrev pub sum : ℕ → (ℕ → ℕ) → ℕ
@@ -74,52 +75,21 @@ module _ {Row Begun Decision Verdict : Type 0} (m : Source Row Begun Decision Ve
           (λ w. suc (m.tries (address n i) w.begun - w.tries)) (λ w. left_in kind n i w) (total_of after n i (total_in kind n i))
           + left rest i
 
--- By what a state has of an action: its row, a running leaf, an open container, or nothing.
-abbrev pub by_entry : {Row Begun Decision Verdict : Type 0} → Option Row → Option (Running Begun) → Option (Opening Decision Verdict) → ℕ
-    → (Running Begun → ℕ) → (Opening Decision Verdict → ℕ) → ℕ
-by_entry (Some r) w o row running open' = row
-by_entry None (Some w) o row running open' = running w
-by_entry None None (Some o) row running open' = open' o
-by_entry None None None row running open' = 0
+-- WHAT A ROW TELLS: that of a leaf that ran at least its attempts, that of a loop at least its iterations, in the rows f.
+pub record TellsTurns {Row Begun Decision Verdict : Type 0} (d : Graph) (m : Source Row Begun Decision Verdict) (f : Table Row)
+    (turns : Row → ℕ) : Type 0 where
+  pub attempts : (x : Address) → kind_of d x.name ≡ Some Leaf → m.tries x (m.start x f) ≤ turns (leaf m x f)
+  pub items : (x : Address) (pace : Pace) (g : Graph) → kind_of d x.name ≡ Some (Foreach pace g)
+      → m.items (m.decide x f) ≤ turns (m.close x (m.decide x f) 0 None f)
+  pub rounds : (x : Address) (most : ℕ) (g : Graph) → kind_of d x.name ≡ Some (Until most g)
+      → iterations m (Until most g) x f
+      ≤ turns (m.close x (m.decide x f) (iterations m (Until most g) x f) (last (iterations m (Until most g) x f) (λ j. m.test x j f)) f)
 
-module _ {Row Begun Decision Verdict : Type 0} (m : Source Row Begun Decision Verdict) (f : Table Row) where
-  abbrev pub size_of : List Need → ℕ → List ℕ → ℕ → ℕ
-  size_of after n i all = cond (m.pinned n) 1 (cond (m.reclosed n) all (cond (gate m after n i f) all 1))
-
-  -- HOW LARGE a run is by the rows f: 1 for each row, each attempt and each iteration.
-  abbrev mutual
-    pub size_in : Kind → ℕ → List ℕ → ℕ
-    size_in Leaf n i = suc (m.tries (address n i) (m.start (address n i) f))
-    size_in (Scope g) n i = suc (size g i)
-    size_in (Choice bs) n i = suc (size_any bs (m.taken (m.decide (address n i) f)) i)
-    size_in (Foreach pace g) n i = suc (sum (m.items (m.decide (address n i) f)) (λ j. suc (size g (i ++ j ∷ []))))
-    size_in (Until most g) n i = suc (sum (rounds most 0 (λ j. m.ends (m.test (address n i) j f))) (λ j. suc (size g (i ++ j ∷ []))))
-
-    pub size_any : Branches → ℕ → List ℕ → ℕ
-    size_any no_branch c i = 0
-    size_any (branch b rest) c i = cond (is_one c) (size b i) (size_any rest (less_one c) i)
-
-    pub size : Graph → List ℕ → ℕ
-    size done i = 0
-    size (add n after kind rest) i = size_of after n i (size_in kind n i) + size rest i
-
-  -- And what there is of it in the state s: 1 for each row, running leaf and open container, each attempt so far and each begun iteration.
-  module _ (s : State Row Begun Decision Verdict) where
-    abbrev mutual
-      pub made_in : Kind → ℕ → List ℕ → Opening Decision Verdict → ℕ
-      made_in Leaf n i w = 0
-      made_in (Scope g) n i w = suc (made g i)
-      made_in (Choice bs) n i w = suc (made_any bs (m.taken w.decision) i)
-      made_in (Foreach pace g) n i w = suc (sum w.next (λ j. suc (made g (i ++ j ∷ []))))
-      made_in (Until most g) n i w = suc (sum w.next (λ j. suc (made g (i ++ j ∷ []))))
-
-      pub made_any : Branches → ℕ → List ℕ → ℕ
-      made_any no_branch c i = 0
-      made_any (branch b rest) c i = cond (is_one c) (made b i) (made_any rest (less_one c) i)
-
-      pub made : Graph → List ℕ → ℕ
-      made done i = 0
-      made (add n after kind rest) i =
-          by_entry (s.rows (address n i)) (s.running (address n i)) (s.opens (address n i)) (size_of after n i (size_in kind n i))
-          (λ w. suc w.tries) (λ w. made_in kind n i w)
-          + made rest i
+-- THE COST of what is placed, begun and tried: at least 64 for each row, running leaf and open container, and 64 more for each attempt and
+-- iteration.
+pub record Costs {Row Begun Decision Verdict RowAt LeafAt OpenAt : Type 0} (turns : Row → ℕ)
+    (row : RowAt → Row) (leaf : LeafAt → Running Begun) (opening : OpenAt → Opening Decision Verdict)
+    (of_row : RowAt → ℕ) (of_leaf : LeafAt → ℕ) (of_open : OpenAt → ℕ) : Type 0 where
+  pub rows : (e : RowAt) → 64 * suc (turns (row e)) ≤ of_row e
+  pub leaves : (e : LeafAt) → 64 * suc (leaf e).tries ≤ of_leaf e
+  pub opens : (e : OpenAt) → 64 * suc (opening e).next ≤ of_open e

@@ -9,10 +9,11 @@ use Rattle.wf_layers.specs.Rule.{look, Obeys}
 use Rattle.wf_layers.specs.Part.{IsPart}
 use Rattle.wf_layers.specs.Called.{IsCalled}
 use Rattle.wf_layers.specs.Variables.{SeesFinished, SeenAreThere, TestSees, Stores, OneOrder, IsLastWritten, StoreHolds, StoreHoldsAtTests}
-use Rattle.wf_layers.specs.Bound.{total, left, made}
+use Rattle.wf_layers.specs.Bound.{total, left, TellsTurns, Costs}
 use Rattle.wf_layers.specs.Facts.{Facts}
+use Rattle.wf_layers.specs.Listed.{Lists, sum_of}
 use Rattle.wf_layers.specs.Enabled.{events}
-use Rattle.wf_layers.specs.Machine.{State, fresh, has_ended, Event, place_of, Step, Run, IsOver}
+use Rattle.wf_layers.specs.Machine.{Running, Opening, State, fresh, has_ended, Event, place_of, Step, Run, IsOver}
 
 module _ {Row Begun Decision Verdict : Type 0} where
   -- A source of an environment of its own: no row is kept from an old table, and no container is closed again.
@@ -106,10 +107,23 @@ module _ {Row Begun Decision Verdict : Type 0} where
       (es : List Event) (s : State Row Begun Decision Verdict) → Run d m fresh es s → IsOver d m s
       → length es ≡ total m (meaning m depth d) d []
 
-  -- And at each moment the events so far are at most two for each row, running leaf, open container, attempt and begun iteration.
-  abbrev pub EventsAreFew : Graph → Source Row Begun Decision Verdict → (ℕ → ℕ) → Type 0
-  EventsAreFew d m depth =
-      (es : List Event) (s : State Row Begun Decision Verdict) → Run d m fresh es s → length es ≤ 2 * made m (meaning m depth d) s d []
+  -- And at each moment the events so far are at most two for each row, running leaf, open container, attempt and begun iteration. So 32
+  -- times their number is at most the cost of the entries of the state, however it is kept.
+  abbrev pub EventsAreFew : (RowAt LeafAt OpenAt : Type 0) → Graph → Source Row Begun Decision Verdict → Table Row
+      → State Row Begun Decision Verdict → List Event → Type 0
+  EventsAreFew RowAt LeafAt OpenAt d m f s es =
+      (turns : Row → ℕ) → TellsTurns d m f turns
+      → (row_at : RowAt → Address) (row : RowAt → Row) (leaf_at : LeafAt → Address) (leaf : LeafAt → Running Begun)
+      (open_at : OpenAt → Address) (opening : OpenAt → Opening Decision Verdict)
+      → (of_row : RowAt → ℕ) (of_leaf : LeafAt → ℕ) (of_open : OpenAt → ℕ) → Costs turns row leaf opening of_row of_leaf of_open
+      → (rows : List RowAt) (leaves : List LeafAt) (opens : List OpenAt) → Lists row_at row s.rows rows
+      → Lists leaf_at leaf s.running leaves → Lists open_at opening s.opens opens
+      → 32 * length es ≤ sum_of of_row rows + sum_of of_leaf leaves + sum_of of_open opens
+
+  abbrev pub EventsOfRunsAreFew : (RowAt LeafAt OpenAt : Type 0) → Graph → Source Row Begun Decision Verdict → (ℕ → ℕ) → Type 0
+  EventsOfRunsAreFew RowAt LeafAt OpenAt d m depth =
+      (es : List Event) (s : State Row Begun Decision Verdict) → Run d m fresh es s
+      → EventsAreFew RowAt LeafAt OpenAt d m (meaning m depth d) s es
 
   -- In a state that a run reaches, at most one event is enabled at an address.
   abbrev pub OneEventAtAnAddress : Graph → Source Row Begun Decision Verdict → (ℕ → ℕ) → Type 0

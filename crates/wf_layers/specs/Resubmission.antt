@@ -4,11 +4,11 @@ use Rattle.wf_layers.specs.Definition.{Need, Kind, Leaf, Scope, Choice, Foreach,
 use Rattle.wf_layers.specs.Address.{Address, address, Table, same_at, is_within, SeenIn}
 use Rattle.wf_layers.specs.Source.{Source, Sound, gate}
 use Rattle.wf_layers.specs.Meaning.{meaning}
-use Rattle.wf_layers.specs.Bound.{total, left, made}
+use Rattle.wf_layers.specs.Bound.{total, left}
 use Rattle.wf_layers.specs.Redo.{IsRedo}
 use Rattle.wf_layers.specs.Machine.{Opening, State, In, IsOpen, Event, place_of, Step, Run, IsOver, in_others, skip_others}
 use Rattle.wf_layers.specs.Facts.{Facts}
-use Rattle.wf_layers.specs.Laws.{Exact}
+use Rattle.wf_layers.specs.Laws.{EventsAreFew, Exact}
 use Rattle.wf_layers.specs.Variables.{IsIdle, SeesFinished, SeenAreThere, TestSees, Stores, OneOrder, IsLastWritten, StoreHolds, StoreHoldsAtTests}
 
 -- What is neither redone nor closed again is kept.
@@ -188,15 +188,21 @@ module _ {Row Begun Decision Verdict : Type 0} where
       → ((x : Address) → is_within d [] x ≡ true → s.rows x ≡ meaning (pin a b redo again r recall) depth d x)
       × (length es ≡ total (pin a b redo again r recall) (meaning (pin a b redo again r recall) depth d) d [])
 
-  -- At each moment the events of such a run so far and those that are left are that many; and they are at most two for each row, running
-  -- leaf, open container, attempt and begun iteration.
+  -- At each moment the events of such a run so far and those that are left are that many.
   abbrev pub ResumedEnds : Graph → (ℕ → ℕ) → Source Row Begun Decision Verdict → Source Row Begun Decision Verdict → (ℕ → Bool) → (ℕ → Bool)
       → Table Row → (Address → Decision) → Type 0
   ResumedEnds d depth a b redo again r recall =
       (es : List Event) (s : State Row Begun Decision Verdict) → Run d (pin a b redo again r recall) (resumed d redo again r recall) es s
-      → (length es + left (pin a b redo again r recall) (meaning (pin a b redo again r recall) depth d) s d [] ≡ total
-      (pin a b redo again r recall) (meaning (pin a b redo again r recall) depth d) d [])
-      × (length es ≤ 2 * made (pin a b redo again r recall) (meaning (pin a b redo again r recall) depth d) s d [])
+      → length es + left (pin a b redo again r recall) (meaning (pin a b redo again r recall) depth d) s d []
+      ≡ total (pin a b redo again r recall) (meaning (pin a b redo again r recall) depth d) d []
+
+  -- And 32 times their number is at most the cost of the entries of the state.
+  abbrev pub ResumedFew : (RowAt LeafAt OpenAt : Type 0) → Graph → (ℕ → ℕ) → Source Row Begun Decision Verdict
+      → Source Row Begun Decision Verdict → (ℕ → Bool) → (ℕ → Bool) → Table Row → (Address → Decision) → Type 0
+  ResumedFew RowAt LeafAt OpenAt d depth a b redo again r recall =
+      (es : List Event) (s : State Row Begun Decision Verdict) → Run d (pin a b redo again r recall) (resumed d redo again r recall) es s
+      → EventsAreFew RowAt LeafAt OpenAt d (pin a b redo again r recall)
+      (meaning (pin a b redo again r recall) depth d) s es
 
   -- Each state that such a run reaches has the facts, with the resubmitted rows; at most one event is enabled at an address; and decided
   -- actions and tests see what they have an order with.

@@ -19,10 +19,10 @@ ghost use Rattle.std.specs.Prelude.{[], ◌∷◌, ◌≡◌, Bool, None, Option
 ghost use Rattle.wf_layers.specs.Address.{Address, SeenIn, Table, address, is_within};
 ghost use Rattle.wf_layers.specs.Bound.{total};
 ghost use Rattle.wf_layers.specs.Definition.{Closed, Graph, IsDepth, Kind, Leaf, Turns};
-ghost use Rattle.wf_layers.specs.Laws.{AllRowsAtTheEnd, EventsAreCounted, EventsAreExact, EventsAreFew, EventsAtTheEnd, FactsOfStates, IsFresh, IsInstance, MeaningObeysTheRule, OneEventAtAnAddress, PartIsUnique, RowsAreTheMeanings, RowsAreUnique, RowsWhereCalledFor, RunsGrow, StoreHoldsTheLast, TestsInOrder, VariablesInOrder};
+ghost use Rattle.wf_layers.specs.Laws.{AllRowsAtTheEnd, EventsAreCounted, EventsAreExact, EventsAtTheEnd, EventsOfRunsAreFew, FactsOfStates, IsFresh, IsInstance, MeaningObeysTheRule, OneEventAtAnAddress, PartIsUnique, RowsAreTheMeanings, RowsAreUnique, RowsWhereCalledFor, RunsGrow, StoreHoldsTheLast, TestsInOrder, VariablesInOrder};
 ghost use Rattle.wf_layers.specs.Meaning.{meaning};
 ghost use Rattle.wf_layers.specs.Redo.{IsRedo};
-ghost use Rattle.wf_layers.specs.Resubmission.{IsOldTable, IsResubmission, IsSetResubmission, IsSplit, MayBeResubmittedAgain, OldAnswersGiveTheOldRows, OthersKept, ResubmissionIsFresh, ResumedAtTheEnd, ResumedEnds, ResumedExact, ResumedFacts, ResumedInOrder, ResumedOneEvent, ResumedRows, ResumedStore, kept, pin};
+ghost use Rattle.wf_layers.specs.Resubmission.{IsOldTable, IsResubmission, IsSetResubmission, IsSplit, MayBeResubmittedAgain, OldAnswersGiveTheOldRows, OthersKept, ResubmissionIsFresh, ResumedAtTheEnd, ResumedEnds, ResumedExact, ResumedFacts, ResumedFew, ResumedInOrder, ResumedOneEvent, ResumedRows, ResumedStore, kept, pin};
 ghost use Rattle.wf_layers.specs.Seen.{Answers, Once, Waits};
 ghost use Rattle.wf_layers.specs.Shape.{HasShape, Reading, ReadsBack};
 ghost use Rattle.wf_layers.specs.Source.{Sound, Source};
@@ -94,9 +94,11 @@ pub fn runs_have_as_many_events<Row, Begun, Decision, Verdict>()
     ensures { (d : Graph) (m : Source Row Begun Decision Verdict) (depth : ℕ → ℕ) → IsInstance d m depth → EventsAtTheEnd d m depth }
 {}
 
-/// At each moment the events so far are at most two for each row, running leaf, open container, attempt and begun iteration.
-pub fn events_are_few<Row, Begun, Decision, Verdict>()
-    ensures { (d : Graph) (m : Source Row Begun Decision Verdict) (depth : ℕ → ℕ) → IsInstance d m depth → EventsAreFew d m depth }
+/// At each moment the events so far are few: 32 times their number is at most the cost of what is placed, begun and tried, where a row, a
+/// running leaf, an open container, an attempt and an iteration cost at least 64 each. So an engine that bounds the cost bounds its steps.
+pub fn events_are_few<Row, Begun, Decision, Verdict, RowAt, LeafAt, OpenAt>()
+    ensures { (d : Graph) (m : Source Row Begun Decision Verdict) (depth : ℕ → ℕ) → IsInstance d m depth
+        → EventsOfRunsAreFew RowAt LeafAt OpenAt d m depth }
 {}
 
 /// The table of events has at each address exactly the event that is enabled there.
@@ -232,6 +234,14 @@ pub fn resumed_ends<Row, Begun, Decision, Verdict>()
         (recall : Address → Decision)
         → IsDepth d depth → Closed d d → Sound b (SeenIn d) d 0 → IsOldTable d a redo again r recall
         → ResumedEnds d depth a b redo again r recall }
+{}
+
+/// And its events are few.
+pub fn resumed_events_are_few<Row, Begun, Decision, Verdict, RowAt, LeafAt, OpenAt>()
+    ensures { (d : Graph) (depth : ℕ → ℕ) (a b : Source Row Begun Decision Verdict) (redo again : ℕ → Bool) (r : Table Row)
+        (recall : Address → Decision)
+        → IsDepth d depth → Closed d d → Sound b (SeenIn d) d 0 → IsOldTable d a redo again r recall
+        → ResumedFew RowAt LeafAt OpenAt d depth a b redo again r recall }
 {}
 
 /// Kept rows are the old ones.
