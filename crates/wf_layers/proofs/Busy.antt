@@ -67,7 +67,7 @@ module _ {Row Begun Decision Verdict : Type 0} (m : Source Row Begun Decision Ve
       (fact_of m d so f sol s.rows s.opens k.facts r.2.graph x.at x.name r.0 r.1 h.0 r.2.is_open r.2.is_in h.1).0.free e
 
   -- as a container closes, a graph that was open still is, or all in it is there
-  close_path : (s : State Row Begun Decision Verdict) → Keeps m d so f sol s → (n : ℕ) (i : List ℕ) (after : List Need) (kind : Kind)
+  pub close_path : (s : State Row Begun Decision Verdict) → Keeps m d so f sol s → (n : ℕ) (i : List ℕ) (after : List Need) (kind : Kind)
       (w : Opening Decision Verdict) → IsThere d m s n i after kind → s.opens (address n i) ≡ Some w → MayClose m kind i w s.rows
       → (g : Graph) (j : List ℕ) → IsOpen m.taken d s.opens g j → IsOpen m.taken d (opened n i None s.opens) g j ⊎ Settled m f s.rows g j
   close_path s k n i after kind w th e may _ _ top = inl top

@@ -144,7 +144,7 @@ module _ {Row Begun Decision Verdict : Type 0} (m : Source Row Begun Decision Ve
   self_in n kind i = and_of (nat_eq n n || holds kind n) (starts i i) (ap (λ b. b || holds kind n) (same_self n)) (starts_self i)
 
   -- an action of an open graph has its own event in the table
-  at_there : (n : ℕ) (i : List ℕ) (after : List Need) (kind : Kind) → IsThere d m s n i after kind
+  pub at_there : (n : ℕ) (i : List ℕ) (after : List Need) (kind : Kind) → IsThere d m s n i after kind
       → evs d [] (address n i) ≡ own_event m s after kind n i
   at_there n i after kind th =
       let sub = open_sub m d so f sol s.opens th.graph i th.is_open in

@@ -495,7 +495,8 @@ module _ {Row Begun Decision Verdict : Type 0} (m : Source Row Begun Decision Ve
         (two (is_one c))
 
     -- an open graph that is settled has ended
-    settled_ended : (s : State Row Begun Decision Verdict) → Keeps m d so f sol s → (h : Graph) (i : List ℕ) → IsOpen m.taken d s.opens h i
+    pub settled_ended : (s : State Row Begun Decision Verdict) → Keeps m d so f sol s → (h : Graph) (i : List ℕ)
+        → IsOpen m.taken d s.opens h i
         → Settled m f s.rows h i → is_ended h i s.rows ≡ true
     settled_ended s k h i og settled = walk h (λ n after kind st. st)
       where

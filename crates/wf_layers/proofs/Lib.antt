@@ -39,3 +39,4 @@ pub mod Worth
 pub mod Equal
 pub mod Enabled
 pub mod Waiting
+pub mod Changes

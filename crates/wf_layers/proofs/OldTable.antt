@@ -22,7 +22,8 @@ use Rattle.wf_layers.proofs.Store.{stores_run, run_last, decided_last, tested_la
 use Rattle.wf_layers.proofs.Variables.{Lull, sees_finished}
 use Rattle.wf_layers.proofs.Keeps.{decided_own}
 use Rattle.wf_layers.proofs.Enabled.{exact}
-use Rattle.wf_layers.specs.Resubmission.{kept, SplitIn, SplitAny, Split, IsSplit, pin, reopened, resumed, IsOldTable, ResumedRows, ResumedAtTheEnd, ResumedEnds, ResumedExact, ResumedFacts, ResumedFew, ResumedOneEvent, ResumedInOrder, ResumedStore}
+use Rattle.wf_layers.proofs.Changes.{only_there}
+use Rattle.wf_layers.specs.Resubmission.{kept, SplitIn, SplitAny, Split, IsSplit, pin, reopened, resumed, IsOldTable, ResumedRows, ResumedAtTheEnd, ResumedEnds, ResumedChanges, ResumedExact, ResumedFacts, ResumedFew, ResumedOneEvent, ResumedInOrder, ResumedStore}
 use Rattle.wf_layers.proofs.Others.{look_others, others_or, others_old}
 use Rattle.wf_layers.proofs.Meaning.{meaning_solves}
 use Rattle.wf_layers.proofs.Open.{OpenFacts, open_sub, placed_in, kind_there}
@@ -720,7 +721,8 @@ module _ {Row Begun Decision Verdict : Type 0} (a b : Source Row Begun Decision 
     any_ends es s run = any_counted es s run
 
     pub any_few : (RowAt LeafAt OpenAt : Type 0) → ResumedFew RowAt LeafAt OpenAt d depth a b redo again r recall
-    any_few RowAt LeafAt OpenAt es s run turns tells row_at row leaf_at leaf open_at opening of_row of_leaf of_open costs rows leaves opens lr ll lo =
+    any_few RowAt LeafAt OpenAt es s run turns tells row_at row leaf_at leaf open_at opening of_row of_leaf of_open costs rows leaves opens
+        lr ll lo =
         events_are_few m d so f sol turns tells cl out RowAt LeafAt OpenAt s0 es s first_keeps first_busy first_rooted run
         (any_keeps es s run)
         (any_busy es s run) row_at row leaf_at leaf open_at opening of_row of_leaf of_open costs rows leaves opens lr ll lo
@@ -736,6 +738,10 @@ module _ {Row Begun Decision Verdict : Type 0} (a b : Source Row Begun Decision 
 
     pub any_exact : ResumedExact d a b redo again r recall
     any_exact es s run = exact m d so f sol s (any_keeps es s run) (any_busy es s run)
+
+    pub any_changes : ResumedChanges d a b redo again r recall
+    any_changes es s run e s' st x free =
+        only_there m d so f sol cl out s e s' (any_keeps es s run) (any_busy es s run) (any_rooted es s run) st x free
 
     -- what a decided action has an order with, and is finished, is seen by it; and all that it sees is there; and so for tests
     pub any_order : ResumedInOrder d depth a b redo again r recall

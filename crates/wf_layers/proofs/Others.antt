@@ -1,13 +1,14 @@
 -- The branches that aren't taken.
 use Rattle.std.proofs.Common.{◌≡◌, ℕ, zero, suc, Bool, true, false, ◌&&◌, ◌||◌, cond, List, [], ◌∷◌, Some, None, ◌⊎◌, inl, inr, ⊎_elim, refl, sym, ap, ◌∙◌, subst, nat_eq, eqb-true, true≢false}
 use Rattle.std.proofs.lemmas.Option.{none-some}
-use Rattle.wf_layers.specs.Definition.{Kind, Branches, no_branch, branch, Graph, is_one, less_one, branch_at, holds, has, has_any, plain, kind_of, kind_any}
+use Rattle.wf_layers.specs.Definition.{Kind, Branches, no_branch, branch, Graph, is_one, less_one, branch_at, holds, has, has_any, plain, kind_of, kind_any, Leaf, Scope, Choice, Foreach, Until, shows}
 use Rattle.wf_layers.specs.Address.{Address, Table, same_at, starts, is_in, is_within, is_among, earlier_any}
 use Rattle.wf_layers.specs.Source.{Source, SoundAny}
+use Rattle.wf_layers.specs.Meaning.{skip}
 use Rattle.wf_layers.specs.Rule.{look_any}
 use Rattle.wf_layers.proofs.Basics.{two, and_in, and_of, fork, apart, not_true, when, unless, cond_same, any_within, among_here, among_there}
-use Rattle.wf_layers.specs.Machine.{in_others, skip_others}
-use Rattle.wf_layers.proofs.Tables.{inner_of, branch_none}
+use Rattle.wf_layers.specs.Machine.{in_others, skip_others, passed_over}
+use Rattle.wf_layers.proofs.Tables.{inner_of, branch_none, skip_in, shows_holds, same_starts, either_or}
 
 -- an address in a branch that isn't taken is in one of the branches
 pub others_among : (bs : Branches) (c : ℕ) (i : List ℕ) (y : Address) → in_others bs c i y ≡ true → is_among bs i y ≡ true
@@ -152,3 +153,22 @@ module _ {Row Begun Decision Verdict : Type 0} (m : Source Row Begun Decision Ve
       (λ w. unless (is_within b i y) _ _ w
       ∙ others_old rest (less_one c) i y (sym (unless (is_within b i y) (cond (is_one c) false true) _ w) ∙ h) k)
       (two (is_within b i y))
+
+-- where the rows of what is passed over and of what is skipped stand
+pub passed_in : {Row Begun Decision Verdict : Type 0} (m : Source Row Begun Decision Verdict) (kind : Kind) (c : ℕ) (i : List ℕ)
+    (y : Address) (r : Row) → passed_over m kind c i y ≡ Some r
+    → (holds kind y.name && starts i y.at) ≡ true
+passed_in m Leaf c i y r e = absurd (none-some r e)
+passed_in m (Scope g) c i y r e = absurd (none-some r e)
+passed_in m (Choice bs) c i y r e = others_among bs c i y (some_others m bs c i y r e)
+passed_in m (Foreach pace g) c i y r e = absurd (none-some r e)
+passed_in m (Until most g) c i y r e = absurd (none-some r e)
+
+pub skipped_in : {Row Begun Decision Verdict : Type 0} (m : Source Row Begun Decision Verdict) (kind : Kind) (n : ℕ) (i : List ℕ)
+    (y : Address) (r : Row) → skip m n kind i y ≡ Some r
+    → is_in n kind i y ≡ true
+skipped_in m kind n i y r e =
+    let h = skip_in m n kind i y r e in
+    and_of (nat_eq n y.name || holds kind y.name) (starts i y.at)
+    (either_or (nat_eq n y.name) (shows kind y.name) (nat_eq n y.name) (holds kind y.name) (λ t. t) (shows_holds kind y.name) h.0)
+    (same_starts i y.at h.1)

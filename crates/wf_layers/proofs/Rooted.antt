@@ -316,6 +316,21 @@ module _ {Row Begun Decision Verdict : Type 0} (m : Source Row Begun Decision Ve
           (not_true (is_own y.name y.at (address n i))
           (λ t. true≢false (sym (ap (λ (z : Address). is_own n i z) (own_is y.name y.at (address n i) t) ∙ own_self n i) ∙ u)))
 
+  -- no open graph is in it
+  pub none_open : (s : State Row Begun Decision Verdict) → (n : ℕ) (i : List ℕ) (after : List Need) (kind : Kind)
+      → IsDecided d m s n i after kind
+      → (q : ℕ) (j : List ℕ) (before : List Need) (other : Kind) → IsThere d m s q j before other → is_in n kind i (address q j) ≡ true
+      → is_own n i (address q j) ≡ false → ⊥
+  none_open s n i after kind de q j before other it inq not_own =
+      let y = address q j in let th = de.is_there in
+      not_rooted (one q j true) s.opens y (free_one s.opens y) th.graph i n after kind th.is_open th.is_in
+      (unless (is_own q j (address n i)) (Some true) None
+      (not_true (is_own q j (address n i))
+      (λ t. true≢false (sym (ap (λ (z : Address). is_own n i z) (own_is q j (address n i) t) ∙ own_self n i) ∙ not_own))))
+      de.not_open inq
+      (root m.taken (one q j true) s.opens y d it.graph j it.is_open
+      (finished it.is_in (when (is_own q j y) (Some true) None (own_self q j)) (own_in q other j)))
+
   pub untouched : (s : State Row Begun Decision Verdict) → Busy m d so f sol s → Rooted s
       → (n : ℕ) (i : List ℕ) (after : List Need) (kind : Kind) → IsDecided d m s n i after kind → (y : Address) → is_in n kind i y ≡ true
       → s.rows y ≡ None

@@ -14,7 +14,7 @@ use Rattle.wf_layers.specs.Machine.{Running, Opening, State, Event, Start, Try, 
 use Rattle.wf_layers.specs.Laws.{IsInstance, EventsAreFew, EventsOfRunsAreFew}
 use Rattle.wf_layers.proofs.Basics.{two, and_of, same_self, same_self_at, when, unless, held_in, own_in}
 use Rattle.wf_layers.proofs.Tables.{own_is, own_self, skip_in, shows_holds, same_starts, either_or}
-use Rattle.wf_layers.proofs.Others.{others_among, some_others}
+use Rattle.wf_layers.proofs.Others.{passed_in, skipped_in}
 use Rattle.wf_layers.proofs.Open.{open_sub, placed_in, kind_there, fact_of, obey_in, follows}
 use Rattle.wf_layers.proofs.Bound.{begun_most}
 use Rattle.wf_layers.proofs.Keeps.{Keeps, IsClosed, SpecialOut}
@@ -139,20 +139,6 @@ module _ {Row Begun Decision Verdict : Type 0} (m : Source Row Begun Decision Ve
         where
           nothing : (k : Option Kind) → worth {Begun = Begun} {Decision = Decision} {Verdict = Verdict} k turns None None None ≡ 0
           nothing k = refl
-
-  passed_in : (kind : Kind) (c n : ℕ) (i : List ℕ) (y : Address) (r : Row) → passed_over m kind c i y ≡ Some r → is_in n kind i y ≡ true
-  passed_in Leaf c n i y r e = absurd (none-some r e)
-  passed_in (Scope g) c n i y r e = absurd (none-some r e)
-  passed_in (Choice bs) c n i y r e = held_in n (Choice bs) i y (others_among bs c i y (some_others m bs c i y r e))
-  passed_in (Foreach pace g) c n i y r e = absurd (none-some r e)
-  passed_in (Until most g) c n i y r e = absurd (none-some r e)
-
-  skipped_in : (kind : Kind) (n : ℕ) (i : List ℕ) (y : Address) (r : Row) → skip m n kind i y ≡ Some r → is_in n kind i y ≡ true
-  skipped_in kind n i y r e =
-      let h = skip_in m n kind i y r e in
-      and_of (nat_eq n y.name || holds kind y.name) (starts i y.at)
-      (either_or (nat_eq n y.name) (shows kind y.name) (nat_eq n y.name) (holds kind y.name) (λ t. t) (shows_holds kind y.name) h.0)
-      (same_starts i y.at h.1)
 
   kind_is : (s : St) (n : ℕ) (i : List ℕ) (after : List Need) (kind : Kind) → IsThere d m s n i after kind → kind_of d n ≡ Some kind
   kind_is s n i after kind th = (kind_there m d so f sol s.opens th.graph i n after kind th.is_open th.is_in).0
@@ -315,7 +301,8 @@ module _ {Row Begun Decision Verdict : Type 0} (m : Source Row Begun Decision Ve
         (and_of (nat_eq n n || shows kind n) (same_at i i) (ap (λ z. z || shows kind n) (same_self n)) (same_self_at i))) in
         let is = own_at s2 x (Some kind) (Some m.skipped) None None kn there' de.not_running de.not_open in
         subst (Grows s (Skip n i)) (sym to)
-        (grows n i s s2 (omega (arith, was, is)) (λ y u. new_rows s new n kind i (λ z q h. skipped_in kind n i z q h) none s.opens y refl))
+        (grows n i s s2 (omega (arith, was, is))
+        (λ y u. new_rows s new n kind i (λ z q h. skipped_in m kind n i z q h) none s.opens y refl))
     step_grows s (Open n i) s' k b r (after, kind, c, de, pass, to) =
         let x = address n i in let p = m.decide x s.rows in let new = passed_over m kind (m.taken p) i in
         let v : Opening Decision Verdict = record { decision = p; next = 0; test = None } in
@@ -328,7 +315,8 @@ module _ {Row Begun Decision Verdict : Type 0} (m : Source Row Begun Decision Ve
         let pos = opening_worth kind v (place new s.rows x) in
         subst (Grows s (Open n i)) (sym to)
         (grows n i s s2 (omega (arith, was, is, pos))
-        (λ y u. new_rows s new n kind i (λ z q h. passed_in kind (m.taken p) n i z q h) none (opened n i (Some v) s.opens) y
+        (λ y u. new_rows s new n kind i (λ z q h. held_in n kind i z (passed_in m kind (m.taken p) i z q h)) none
+        (opened n i (Some v) s.opens) y
         (sym (unless (is_own n i y) (Some v) (s.opens y) u))))
       where
         opening_worth : (kind : Kind) (v : Opening Decision Verdict) (o : Option Row)
@@ -385,7 +373,8 @@ module _ {Row Begun Decision Verdict : Type 0} (m : Source Row Begun Decision Ve
         → (rows : List RowAt) (leaves : List LeafAt) (opens : List OpenAt) → Lists row_at row s'.rows rows
         → Lists leaf_at leaf s'.running leaves → Lists open_at opening s'.opens opens
         → 32 * length es ≤ sum_of of_row rows + sum_of of_leaf leaves + sum_of of_open opens
-    events_are_few RowAt LeafAt OpenAt s es s' k b r run k' b' row_at row leaf_at leaf open_at opening of_row of_leaf of_open costs rows leaves opens lr ll lo =
+    events_are_few RowAt LeafAt OpenAt s es s' k b r run k' b' row_at row leaf_at leaf open_at opening of_row of_leaf of_open costs rows
+        leaves opens lr ll lo =
         let xs = spots row_at rows ++ spots leaf_at leaves ++ spots open_at opens in
         let g = (run_grows s es s' k b r run xs covered).1 in
         let e1 = sum_append (own s') (spots row_at rows ++ spots leaf_at leaves) (spots open_at opens) in
@@ -456,7 +445,8 @@ module _ {Row Begun Decision Verdict : Type 0} (m : Source Row Begun Decision Ve
 module _ {Row Begun Decision Verdict RowAt LeafAt OpenAt : Type 0} (d : Graph) (m : Source Row Begun Decision Verdict) (depth : ℕ → ℕ)
     (is : IsInstance d m depth) where
   pub events_of_runs_are_few : EventsOfRunsAreFew RowAt LeafAt OpenAt d m depth
-  events_of_runs_are_few es s run turns tells row_at row leaf_at leaf open_at opening of_row of_leaf of_open costs rows leaves opens lr ll lo =
+  events_of_runs_are_few es s run turns tells row_at row leaf_at leaf open_at opening of_row of_leaf of_open costs rows leaves opens lr ll
+      lo =
       let f : Table Row = meaning m depth d in
       events_are_few m d is.local f (sol_of d m depth is) turns tells (closed_is m d is.local f (sol_of d m depth is) is.closed)
       (nothing_special d m depth is) RowAt LeafAt OpenAt fresh es s

@@ -13,6 +13,7 @@ use Rattle.wf_layers.specs.Bound.{total, left, TellsTurns, Costs}
 use Rattle.wf_layers.specs.Facts.{Facts}
 use Rattle.wf_layers.specs.Listed.{Lists, sum_of}
 use Rattle.wf_layers.specs.Enabled.{events}
+use Rattle.wf_layers.specs.Changes.{may_change}
 use Rattle.wf_layers.specs.Machine.{Running, Opening, State, fresh, has_ended, Event, place_of, Step, Run, IsOver}
 
 module _ {Row Begun Decision Verdict : Type 0} where
@@ -140,6 +141,15 @@ module _ {Row Begun Decision Verdict : Type 0} where
 
   abbrev pub EventsAreExact : Graph → Source Row Begun Decision Verdict → Type 0
   EventsAreExact d m = (es : List Event) (s : State Row Begun Decision Verdict) → Run d m fresh es s → Exact d m s
+
+  -- As an event is taken, no other address changes what is enabled there.
+  abbrev pub ChangesOnlyThere : Graph → Source Row Begun Decision Verdict → State Row Begun Decision Verdict → Type 0
+  ChangesOnlyThere d m s =
+      (e : Event) (s' : State Row Begun Decision Verdict) → Step d m s e s' → (x : Address) → may_change d s e x ≡ false
+      → events m s' d [] x ≡ events m s d [] x
+
+  abbrev pub EventsChangeOnlyThere : Graph → Source Row Begun Decision Verdict → Type 0
+  EventsChangeOnlyThere d m = (es : List Event) (s : State Row Begun Decision Verdict) → Run d m fresh es s → ChangesOnlyThere d m s
 
   -- A run goes on by one event at its end.
   abbrev pub RunsGrow : Graph → Source Row Begun Decision Verdict → Type 0

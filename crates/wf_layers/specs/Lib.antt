@@ -10,6 +10,7 @@ pub mod Facts
 pub mod Variables
 pub mod Bound
 pub mod Enabled
+pub mod Changes
 pub mod Listed
 pub mod Waiting
 pub mod Laws

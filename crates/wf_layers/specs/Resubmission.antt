@@ -8,7 +8,7 @@ use Rattle.wf_layers.specs.Bound.{total, left}
 use Rattle.wf_layers.specs.Redo.{IsRedo}
 use Rattle.wf_layers.specs.Machine.{Opening, State, In, IsOpen, Event, place_of, Step, Run, IsOver, in_others, skip_others}
 use Rattle.wf_layers.specs.Facts.{Facts}
-use Rattle.wf_layers.specs.Laws.{EventsAreFew, Exact}
+use Rattle.wf_layers.specs.Laws.{ChangesOnlyThere, EventsAreFew, Exact}
 use Rattle.wf_layers.specs.Variables.{IsIdle, SeesFinished, SeenAreThere, TestSees, Stores, OneOrder, IsLastWritten, StoreHolds, StoreHoldsAtTests}
 
 -- What is neither redone nor closed again is kept.
@@ -225,6 +225,13 @@ module _ {Row Begun Decision Verdict : Type 0} where
   ResumedExact d a b redo again r recall =
       (es : List Event) (s : State Row Begun Decision Verdict) → Run d (pin a b redo again r recall) (resumed d redo again r recall) es s
       → Exact d (pin a b redo again r recall) s
+
+  -- and changes only where it may
+  abbrev pub ResumedChanges : Graph → Source Row Begun Decision Verdict → Source Row Begun Decision Verdict → (ℕ → Bool) → (ℕ → Bool)
+      → Table Row → (Address → Decision) → Type 0
+  ResumedChanges d a b redo again r recall =
+      (es : List Event) (s : State Row Begun Decision Verdict) → Run d (pin a b redo again r recall) (resumed d redo again r recall) es s
+      → ChangesOnlyThere d (pin a b redo again r recall) s
 
   abbrev pub ResumedInOrder : Graph → (ℕ → ℕ) → Source Row Begun Decision Verdict → Source Row Begun Decision Verdict → (ℕ → Bool)
       → (ℕ → Bool) → Table Row → (Address → Decision) → Type 0

@@ -19,10 +19,10 @@ ghost use Rattle.std.specs.Prelude.{[], ◌∷◌, ◌≡◌, Bool, None, Option
 ghost use Rattle.wf_layers.specs.Address.{Address, SeenIn, Table, address, is_within};
 ghost use Rattle.wf_layers.specs.Bound.{total};
 ghost use Rattle.wf_layers.specs.Definition.{Closed, Graph, IsDepth, Kind, Leaf, Turns};
-ghost use Rattle.wf_layers.specs.Laws.{AllRowsAtTheEnd, EventsAreCounted, EventsAreExact, EventsAtTheEnd, EventsOfRunsAreFew, FactsOfStates, IsFresh, IsInstance, MeaningObeysTheRule, OneEventAtAnAddress, PartIsUnique, RowsAreTheMeanings, RowsAreUnique, RowsWhereCalledFor, RunsGrow, StoreHoldsTheLast, TestsInOrder, VariablesInOrder};
+ghost use Rattle.wf_layers.specs.Laws.{AllRowsAtTheEnd, EventsAreCounted, EventsAreExact, EventsAtTheEnd, EventsChangeOnlyThere, EventsOfRunsAreFew, FactsOfStates, IsFresh, IsInstance, MeaningObeysTheRule, OneEventAtAnAddress, PartIsUnique, RowsAreTheMeanings, RowsAreUnique, RowsWhereCalledFor, RunsGrow, StoreHoldsTheLast, TestsInOrder, VariablesInOrder};
 ghost use Rattle.wf_layers.specs.Meaning.{meaning};
 ghost use Rattle.wf_layers.specs.Redo.{IsRedo};
-ghost use Rattle.wf_layers.specs.Resubmission.{IsOldTable, IsResubmission, IsSetResubmission, IsSplit, MayBeResubmittedAgain, OldAnswersGiveTheOldRows, OthersKept, ResubmissionIsFresh, ResumedAtTheEnd, ResumedEnds, ResumedExact, ResumedFacts, ResumedFew, ResumedInOrder, ResumedOneEvent, ResumedRows, ResumedStore, kept, pin};
+ghost use Rattle.wf_layers.specs.Resubmission.{IsOldTable, IsResubmission, IsSetResubmission, IsSplit, MayBeResubmittedAgain, OldAnswersGiveTheOldRows, OthersKept, ResubmissionIsFresh, ResumedAtTheEnd, ResumedChanges, ResumedEnds, ResumedExact, ResumedFacts, ResumedFew, ResumedInOrder, ResumedOneEvent, ResumedRows, ResumedStore, kept, pin};
 ghost use Rattle.wf_layers.specs.Seen.{Answers, Once, Waits};
 ghost use Rattle.wf_layers.specs.Shape.{HasShape, Reading, ReadsBack};
 ghost use Rattle.wf_layers.specs.Source.{Sound, Source};
@@ -104,6 +104,13 @@ pub fn events_are_few<Row, Begun, Decision, Verdict, RowAt, LeafAt, OpenAt>()
 /// The table of events has at each address exactly the event that is enabled there.
 pub fn events_are_exact<Row, Begun, Decision, Verdict>()
     ensures { (d : Graph) (m : Source Row Begun Decision Verdict) (depth : ℕ → ℕ) → IsInstance d m depth → EventsAreExact d m }
+{}
+
+/// As an event is taken, what is enabled changes at few addresses: at its own; where it gives an action a row, at those that wait for the
+/// action and at the container round it; and in a graph that it enters. So an engine may keep the list of enabled events, and look at these
+/// alone.
+pub fn events_change_only_there<Row, Begun, Decision, Verdict>()
+    ensures { (d : Graph) (m : Source Row Begun Decision Verdict) (depth : ℕ → ℕ) → IsInstance d m depth → EventsChangeOnlyThere d m }
 {}
 
 /// A run goes on by one event at its end. So what is proved of runs is proved of a state that is stepped on.
@@ -274,6 +281,14 @@ pub fn events_of_resumed_states_are_exact<Row, Begun, Decision, Verdict>()
         (recall : Address → Decision)
         → IsDepth d depth → Closed d d → Sound b (SeenIn d) d 0 → IsOldTable d a redo again r recall
         → ResumedExact d a b redo again r recall }
+{}
+
+/// And it changes only where it may.
+pub fn events_of_resumed_states_change_only_there<Row, Begun, Decision, Verdict>()
+    ensures { (d : Graph) (depth : ℕ → ℕ) (a b : Source Row Begun Decision Verdict) (redo again : ℕ → Bool) (r : Table Row)
+        (recall : Address → Decision)
+        → IsDepth d depth → Closed d d → Sound b (SeenIn d) d 0 → IsOldTable d a redo again r recall
+        → ResumedChanges d a b redo again r recall }
 {}
 
 /// As an action is decided there, or an Until tested, the finished accesses of a variable are those that it sees.
