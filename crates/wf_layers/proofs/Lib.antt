@@ -40,3 +40,4 @@ pub mod Equal
 pub mod Enabled
 pub mod Waiting
 pub mod Changes
+pub mod Redone

@@ -21,7 +21,7 @@ ghost use Rattle.wf_layers.specs.Bound.{total};
 ghost use Rattle.wf_layers.specs.Definition.{Closed, Graph, IsDepth, Kind, Leaf, Turns};
 ghost use Rattle.wf_layers.specs.Laws.{AllRowsAtTheEnd, EventsAreCounted, EventsAreExact, EventsAtTheEnd, EventsChangeOnlyThere, EventsOfRunsAreFew, FactsOfStates, IsFresh, IsInstance, MeaningObeysTheRule, OneEventAtAnAddress, PartIsUnique, RowsAreTheMeanings, RowsAreUnique, RowsWhereCalledFor, RunsGrow, StoreHoldsTheLast, TestsInOrder, VariablesInOrder};
 ghost use Rattle.wf_layers.specs.Meaning.{meaning};
-ghost use Rattle.wf_layers.specs.Redo.{IsRedo};
+ghost use Rattle.wf_layers.specs.Redo.{IsRedo, OutOfLoops, closed_again, redone};
 ghost use Rattle.wf_layers.specs.Resubmission.{IsOldTable, IsResubmission, IsSetResubmission, IsSplit, MayBeResubmittedAgain, OldAnswersGiveTheOldRows, OthersKept, ResubmissionIsFresh, ResumedAtTheEnd, ResumedChanges, ResumedEnds, ResumedExact, ResumedFacts, ResumedFew, ResumedInOrder, ResumedOneEvent, ResumedRows, ResumedStore, kept, pin};
 ghost use Rattle.wf_layers.specs.Seen.{Answers, Once, Waits};
 ghost use Rattle.wf_layers.specs.Shape.{HasShape, Reading, ReadsBack};
@@ -151,6 +151,12 @@ pub fn premises_can_be_met()
 /// stands after what is redone or closed again.
 pub fn order_of_a_resubmission()
     ensures { (d : Graph) (chosen redo again : ℕ → Bool) → IsRedo d chosen redo again → IsSplit d redo again }
+{}
+
+/// For each set of actions without actions of loops there is what it redoes and what it closes again; it can be computed.
+pub fn a_set_has_its_parts()
+    ensures { (d : Graph) (depth : ℕ → ℕ) (chosen : ℕ → Bool) → Once d → Closed d d → IsDepth d depth → OutOfLoops chosen d
+        → IsRedo d chosen (redone d depth chosen) (closed_again d depth chosen) }
 {}
 
 /// From a set of chosen actions that ran, in no loop, all that the laws of resubmission ask of the order is there.
