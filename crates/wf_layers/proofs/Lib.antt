@@ -41,3 +41,4 @@ pub mod Enabled
 pub mod Waiting
 pub mod Changes
 pub mod Redone
+pub mod Answered

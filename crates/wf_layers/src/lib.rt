@@ -17,12 +17,13 @@
 
 ghost use Rattle.std.specs.Prelude.{[], ◌∷◌, ◌≡◌, Bool, None, Option, Some, false, true, ℕ};
 ghost use Rattle.wf_layers.specs.Address.{Address, SeenIn, Table, address, is_within};
+ghost use Rattle.wf_layers.specs.Answered.{RunsSoFarAreRuns};
 ghost use Rattle.wf_layers.specs.Bound.{total};
 ghost use Rattle.wf_layers.specs.Definition.{Closed, Graph, IsDepth, Kind, Leaf, Turns};
 ghost use Rattle.wf_layers.specs.Laws.{AllRowsAtTheEnd, EventsAreCounted, EventsAreExact, EventsAtTheEnd, EventsChangeOnlyThere, EventsOfRunsAreFew, FactsOfStates, IsFresh, IsInstance, MeaningObeysTheRule, OneEventAtAnAddress, PartIsUnique, RowsAreTheMeanings, RowsAreUnique, RowsWhereCalledFor, RunsGrow, StoreHoldsTheLast, TestsInOrder, VariablesInOrder};
 ghost use Rattle.wf_layers.specs.Meaning.{meaning};
 ghost use Rattle.wf_layers.specs.Redo.{IsRedo, OutOfLoops, closed_again, redone};
-ghost use Rattle.wf_layers.specs.Resubmission.{IsOldTable, IsResubmission, IsSetResubmission, IsSplit, MayBeResubmittedAgain, OldAnswersGiveTheOldRows, OthersKept, ResubmissionIsFresh, ResumedAtTheEnd, ResumedChanges, ResumedEnds, ResumedExact, ResumedFacts, ResumedFew, ResumedInOrder, ResumedOneEvent, ResumedRows, ResumedStore, kept, pin};
+ghost use Rattle.wf_layers.specs.Resubmission.{IsOldTable, IsResubmission, IsSetResubmission, IsSplit, MayBeResubmittedAgain, OldAnswersGiveTheOldRows, OldTablesAgree, OthersKept, ResubmissionIsFresh, ResumedAtTheEnd, ResumedChanges, ResumedEnds, ResumedExact, ResumedFacts, ResumedFew, ResumedInOrder, ResumedOneEvent, ResumedRows, ResumedStore, kept, pin};
 ghost use Rattle.wf_layers.specs.Seen.{Answers, Once, Waits};
 ghost use Rattle.wf_layers.specs.Shape.{HasShape, Reading, ReadsBack};
 ghost use Rattle.wf_layers.specs.Source.{Sound, Source};
@@ -116,6 +117,12 @@ pub fn events_change_only_there<Row, Begun, Decision, Verdict>()
 /// A run goes on by one event at its end. So what is proved of runs is proved of a state that is stepped on.
 pub fn runs_grow<Row, Begun, Decision, Verdict>()
     ensures { (d : Graph) (m : Source Row Begun Decision Verdict) → RunsGrow d m }
+{}
+
+/// A run whose answers come one by one is a run with all answers, so that all laws hold of it: what each event takes of the answers is
+/// known as it is taken.
+pub fn runs_so_far_are_runs<Row, Begun, Decision, Verdict>()
+    ensures { (d : Graph) (m : Source Row Begun Decision Verdict) → RunsSoFarAreRuns d m }
 {}
 
 /// How many entries of an action's `runAfter`, and how many actions of a graph, have no row: none exactly where all have ended, and one
@@ -222,6 +229,12 @@ pub fn a_table_of_the_right_shape_may_be_resumed<Row, Begun, Decision, Verdict>(
         → ((n : ℕ) (row : Row) → chosen n ≡ true → r (address n []) ≡ Some row → IsIdle a row → ⊥)
         → ((n : ℕ) (row : Row) → again n ≡ true → r (address n []) ≡ Some row → a.taken (recall (address n [])) ≡ read.taken row)
         → IsOldTable d a redo again r recall }
+{}
+
+/// Old tables that agree on what the definition has give the same rows.
+pub fn old_tables_agree<Row, Begun, Decision, Verdict>()
+    ensures { (d : Graph) (depth : ℕ → ℕ) (a b : Source Row Begun Decision Verdict) (redo again : ℕ → Bool) (recall : Address → Decision)
+        → IsDepth d depth → Sound b (SeenIn d) d 0 → OldTablesAgree d depth a b redo again recall }
 {}
 
 /// From the state of a resubmission of an old table, whether a run gave it or not, and whatever order events are taken in, each row is the
