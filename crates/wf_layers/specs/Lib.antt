@@ -19,3 +19,4 @@ pub mod Resubmission
 pub mod Shape
 pub mod Seen
 pub mod Answered
+pub mod Record

@@ -15,13 +15,15 @@
 //! It isn't an engine: no row has a content here, nothing is parsed, evaluated or run, and no memory is taken.
 #![tactic(auto)]
 
-ghost use Rattle.std.specs.Prelude.{[], ◌∷◌, ◌≡◌, Bool, None, Option, Some, false, true, ℕ};
+ghost use Rattle.std.specs.Prelude.{[], ◌∷◌, ◌≡◌, Bool, List, None, Option, Some, false, true, ℕ};
 ghost use Rattle.wf_layers.specs.Address.{Address, SeenIn, Table, address, is_within};
 ghost use Rattle.wf_layers.specs.Answered.{RunsSoFarAreRuns};
 ghost use Rattle.wf_layers.specs.Bound.{total};
 ghost use Rattle.wf_layers.specs.Definition.{Closed, Graph, IsDepth, Kind, Leaf, Turns};
 ghost use Rattle.wf_layers.specs.Laws.{AllRowsAtTheEnd, EventsAreCounted, EventsAreExact, EventsAtTheEnd, EventsChangeOnlyThere, EventsOfRunsAreFew, FactsOfStates, IsFresh, IsInstance, MeaningObeysTheRule, OneEventAtAnAddress, PartIsUnique, RowsAreTheMeanings, RowsAreUnique, RowsWhereCalledFor, RunsGrow, StoreHoldsTheLast, TestsInOrder, VariablesInOrder};
 ghost use Rattle.wf_layers.specs.Meaning.{meaning};
+ghost use Rattle.wf_layers.specs.Listed.{Lists};
+ghost use Rattle.wf_layers.specs.Record.{HasRecord, RecordsAreOne};
 ghost use Rattle.wf_layers.specs.Redo.{IsRedo, OutOfLoops, closed_again, redone};
 ghost use Rattle.wf_layers.specs.Resubmission.{IsOldTable, IsResubmission, IsSetResubmission, IsSplit, MayBeResubmittedAgain, OldAnswersGiveTheOldRows, OldTablesAgree, OthersKept, ResubmissionIsFresh, ResumedAtTheEnd, ResumedChanges, ResumedEnds, ResumedExact, ResumedFacts, ResumedFew, ResumedInOrder, ResumedOneEvent, ResumedRows, ResumedStore, kept, pin};
 ghost use Rattle.wf_layers.specs.Seen.{Answers, Once, Waits};
@@ -343,4 +345,23 @@ pub fn one_example_meets_the_premises()
 pub fn tables_are_one<Row>()
     ensures { (d : Graph) (t u : Table Row) → ((x : Address) → is_within d [] x ≡ false → (t x ≡ None) × (u x ≡ None))
         → ((x : Address) → is_within d [] x ≡ true → t x ≡ u x) → t ≡ u }
+{}
+
+/// A table has one record at most, its rows in one sorted list.
+pub fn records_are_one<Row>()
+    ensures { RecordsAreOne Row }
+{}
+
+/// And a meaning's table has one, since its rows stand at finitely many addresses.
+pub fn a_meaning_has_a_record<Row, Begun, Decision, Verdict>()
+    ensures { (d : Graph) (m : Source Row Begun Decision Verdict) (depth : ℕ → ℕ) → IsDepth d depth → Sound m (SeenIn d) d 0 → IsFresh m
+        → HasRecord (meaning m depth d) }
+{}
+
+/// And so has that of a resubmission of an old table that is given as a list.
+pub fn a_resubmission_has_a_record<Row, Begun, Decision, Verdict, Entry>()
+    ensures { (d : Graph) (depth : ℕ → ℕ) (a b : Source Row Begun Decision Verdict) (redo again : ℕ → Bool) (r : Table Row)
+        (recall : Address → Decision)
+        → IsDepth d depth → Sound b (SeenIn d) d 0 → (at : Entry → Address) (row : Entry → Row) (rows : List Entry) → Lists at row r rows
+        → HasRecord (meaning (pin a b redo again r recall) depth d) }
 {}
