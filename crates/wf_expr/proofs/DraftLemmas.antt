@@ -1,5 +1,5 @@
 -- Accesses in a row.
-use Rattle.std.proofs.Common.{◌≡◌, List, [], ◌∷◌, ◌++◌, refl, ap}
+use Rattle.std.proofs.Common.{◌≡◌, List, [], ◌∷◌, refl, ap}
 use Rattle.wf_template.specs.ExprTree.{ExprTree, no_exprs, expr_then, expr_trees}
 use Rattle.wf_expr.specs.Reading.{joined}
 

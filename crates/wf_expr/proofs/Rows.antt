@@ -1,10 +1,10 @@
 -- The grammar at worked texts, each with the template that it spells or the place where it goes wrong.
-use Rattle.std.proofs.Common.{None, Some, ◌≡◌, ◌-◌, ℕ, zero, suc, List, [], ◌∷◌, ◌++◌, pos, negsuc, Ok, true, false, refl, codes, length, ap, ◌∙◌}
+use Rattle.std.proofs.Common.{None, Some, ◌≡◌, ◌-◌, ℕ, zero, suc, List, [], ◌∷◌, ◌++◌, pos, negsuc, Ok, true, false, refl, codes, length, ap}
 use Rattle.std.specs.Char.{encode_utf8}
 use Rattle.std.specs.Str.{chars}
 use Rattle.wf_expr.specs.declared.kind.Kind.TheVariants.{Blank, Digit, Letter, Quote, Open, Close, Bracket, Unbracket, Comma, Dot, Soft, Under, Dollar, Minus, At, Brace, Unbrace, Other}
 use Rattle.wf_expr.specs.Kinds.{kind}
-use Rattle.wf_template.specs.ExprTree.{ExprTree, literal, call, member, index, no_exprs, expr_then}
+use Rattle.wf_template.specs.ExprTree.{ExprTree, call, member, index, no_exprs, expr_then}
 use Rattle.wf_template.specs.TemplateTree.{letters, part, plain, whole, parts}
 use Rattle.wf_expr.specs.Reading.{character, embedded, items_of, whole_of, Reading, template_of, text_literal, number_literal, boolean_literal, null_literal}
 use Rattle.wf_expr.specs.Grammar.{Reads}
