@@ -9,6 +9,10 @@ pub mod Called
 pub mod Facts
 pub mod Variables
 pub mod Bound
+pub mod Enabled
+pub mod Changes
+pub mod Listed
+pub mod Waiting
 pub mod Laws
 pub mod Redo
 pub mod Resubmission

@@ -11,13 +11,16 @@ module _ (d : Graph) (chosen : ℕ → Bool) where
   abbrev pub Touched : ℕ → Kind → Type 0
   Touched n kind = (chosen n ≡ true) ⊎ HoldsChosen kind
 
-  -- The action n of the graph w is redone: its container is (`up`); or it is chosen; or it stands, by `runAfter`, after an action of its graph that is chosen or holds a chosen one.
+  -- The action n of the graph w is redone: its container is (`up`); or it is chosen; or it stands, by `runAfter`, after an action of its
+  -- graph that is chosen or holds a chosen one.
   abbrev pub IsHit : Bool → Graph → ℕ → Type 0
   IsHit up w n =
-      (up ≡ true) ⊎ ((chosen n ≡ true) ⊎ ((c : ℕ) × (before : List Need) × (kind : Kind) × In w c before kind × IsBefore d c n × Touched c kind))
+      (up ≡ true) ⊎ ((chosen n ≡ true)
+      ⊎ ((c : ℕ) × (before : List Need) × (kind : Kind) × In w c before kind × IsBefore d c n × Touched c kind))
 
   module _ (redo again : ℕ → Bool) where
-    -- `redo` are exactly those; `again`, what is closed again, are the containers of chosen actions that aren't redone. No action of a loop is chosen.
+    -- `redo` are exactly those; `again`, what is closed again, are the containers of chosen actions that aren't redone. No action of a loop
+    -- is chosen.
     abbrev mutual
       pub RedoIn : Kind → ℕ → Type 0
       RedoIn Leaf n = Unit {0}

@@ -6,3 +6,4 @@ pub mod ValueTreeLemmas
 pub mod ValueOrderLemmas
 pub mod ValueOrderLaws
 pub mod NodeCountLemmas
+pub mod CharacterLemmas
