@@ -40,3 +40,6 @@ pub mod Equal
 pub mod Enabled
 pub mod Waiting
 pub mod Changes
+pub mod Redone
+pub mod Answered
+pub mod Record

@@ -9,7 +9,7 @@ use Rattle.wf_layers.proofs.Places.{within_of, or_right, stands}
 use Rattle.wf_layers.specs.Seen.{OnceIn, OnceAny, Once, WaitsIn, WaitsAny, Waits, AnswersIn, AnswersAny, Answers}
 
 -- a source of which nothing is asked
-abbrev nobody : Source (Unit {0}) (Unit {0}) (Unit {0}) (Unit {0})
+abbrev pub nobody : Source (Unit {0}) (Unit {0}) (Unit {0}) (Unit {0})
 nobody = record {
   status = λ r. Skipped;
   skipped = tt;
@@ -28,7 +28,7 @@ nobody = record {
   reclosed = λ n. false;
 }
 
-abbrev Any : Address → Address → Type 0
+abbrev pub Any : Address → Address → Type 0
 Any x y = Unit {0}
 
 mutual
@@ -43,9 +43,18 @@ mutual
   once_any no_branch l o = tt
   once_any (branch b rest) l o = (o.0, once_graph b l o.1, once_any rest l o.2)
 
-  once_graph : (g : Graph) (l : ℕ) → Once g → Sound nobody Any g l
+  pub once_graph : (g : Graph) (l : ℕ) → Once g → Sound nobody Any g l
   once_graph done l o = tt
   once_graph (add n after kind rest) l o = ((λ i li p q. tt, λ i li t u h. refl), o.0, o.1, once_in kind n l o.2, once_graph rest l o.3)
+
+-- an action of the graph itself
+pub own_there : (w : Graph) (p : ℕ) → has_own w p ≡ true → (a : List Need) × (k : Kind) × In w p a k
+own_there done p e = absurd (true≢false (sym e))
+own_there (add q after kind rest) p e =
+    ⊎_elim
+    (λ t. subst (λ x. (a : List Need) × (k : Kind) × In (add q after kind rest) x a k) (eqb-true q p t) (after, kind, here))
+    (λ u. let r = own_there rest p (sym (ap (λ b. b || has_own rest p) u) ∙ e) in (r.0, r.1, there r.2))
+    (two (nat_eq q p))
 
 -- a list that isn't empty, by its last
 split_last : (l : ℕ) (i : List ℕ) → length i ≡ suc l → (i0 : List ℕ) × (j : ℕ) × (i ≡ i0 ++ j ∷ []) × (length i0 ≡ l)
@@ -81,7 +90,7 @@ module _ (d : Graph) (once : Once d) where
       → SeenIn d (address n i) (address p i)
   action_waits w l so needs up n after kind st own i li p nm =
       let pn = stands nobody (IsBefore d) Any l w n after kind so st in
-      let r = own_there' w p (own p nm) in
+      let r = own_there w p (own p nm) in
       let pp = stands nobody (IsBefore d) Any l w p r.0 r.1 so r.2 in
       let iy = own_in p r.1 i in let iz = own_in n kind i in
       up i li (address p i) (address n i)
@@ -93,14 +102,6 @@ module _ (d : Graph) (once : Once d) where
     where
       before : Names (needs_of d n) p → IsBefore d p n
       before q = next q
-
-      own_there' : (w : Graph) (p : ℕ) → has_own w p ≡ true → (a : List Need) × (k : Kind) × In w p a k
-      own_there' done p e = absurd (true≢false (sym e))
-      own_there' (add q after kind rest) p e =
-          ⊎_elim
-          (λ t. subst (λ x. (a : List Need) × (k : Kind) × In (add q after kind rest) x a k) (eqb-true q p t) (after, kind, here))
-          (λ u. let r = own_there' rest p (sym (ap (λ b. b || has_own rest p) u) ∙ e) in (r.0, r.1, there r.2))
-          (two (nat_eq q p))
 
   -- inside one action
   action_up : (w : Graph) (l : ℕ) → Sound nobody Any w l → Up w l → (n : ℕ) (after : List Need) (kind : Kind) → In w n after kind

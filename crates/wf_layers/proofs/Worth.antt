@@ -41,20 +41,20 @@ sum_append : {E : Type 0} (h : E → ℕ) (xs ys : List E) → sum_of h (xs ++ y
 sum_append h [] ys = omega arith
 sum_append h (x ∷ xs) ys = let r = sum_append h xs ys in omega (arith, r)
 
-among_front : {E : Type 0} (xs ys : List E) (e : E) → Among xs e → Among (xs ++ ys) e
+pub among_front : {E : Type 0} (xs ys : List E) (e : E) → Among xs e → Among (xs ++ ys) e
 among_front [] ys e a = absurd a
 among_front (x ∷ xs) ys e (inl is) = inl is
 among_front (x ∷ xs) ys e (inr a) = inr (among_front xs ys e a)
 
-among_back : {E : Type 0} (xs ys : List E) (e : E) → Among ys e → Among (xs ++ ys) e
+pub among_back : {E : Type 0} (xs ys : List E) (e : E) → Among ys e → Among (xs ++ ys) e
 among_back [] ys e a = a
 among_back (x ∷ xs) ys e a = inr (among_back xs ys e a)
 
-abbrev spots : {E : Type 0} → (E → Address) → List E → List Address
+abbrev pub spots : {E : Type 0} → (E → Address) → List E → List Address
 spots at [] = []
 spots at (x ∷ xs) = at x ∷ spots at xs
 
-among_spots : {E : Type 0} (at : E → Address) (xs : List E) (e : E) → Among xs e → Among (spots at xs) (at e)
+pub among_spots : {E : Type 0} (at : E → Address) (xs : List E) (e : E) → Among xs e → Among (spots at xs) (at e)
 among_spots at [] e a = absurd a
 among_spots at (x ∷ xs) e (inl is) = inl (ap at is)
 among_spots at (x ∷ xs) e (inr a) = inr (among_spots at xs e a)

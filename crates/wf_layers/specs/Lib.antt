@@ -18,3 +18,5 @@ pub mod Redo
 pub mod Resubmission
 pub mod Shape
 pub mod Seen
+pub mod Answered
+pub mod Record

@@ -137,6 +137,14 @@ module _ {Row Begun Decision Verdict : Type 0} where
       (x : Address) → is_within d [] x ≡ true → meaning (pin a b redo again (meaning a depth d) recall) depth d x ≡ meaning
       (layered a b redo) depth d x
 
+  -- Old tables that agree on what the definition has give the same rows: a record stands for one table, however it is kept.
+  abbrev pub OldTablesAgree : Graph → (ℕ → ℕ) → Source Row Begun Decision Verdict → Source Row Begun Decision Verdict → (ℕ → Bool)
+      → (ℕ → Bool) → (Address → Decision) → Type 0
+  OldTablesAgree d depth a b redo again recall =
+      (t u : Table Row) → ((x : Address) → is_within d [] x ≡ true → t x ≡ u x)
+      → (x : Address) → is_within d [] x ≡ true → meaning (pin a b redo again t recall) depth d x ≡ meaning
+      (pin a b redo again u recall) depth d x
+
   -- THE STATE of a resubmission: kept rows are finished, and what is closed again is open with its old decision.
   abbrev pub resumed : Graph → (ℕ → Bool) → (ℕ → Bool) → Table Row → (Address → Decision) → State Row Begun Decision Verdict
   resumed d redo again r recall = record {

@@ -15,14 +15,17 @@
 //! It isn't an engine: no row has a content here, nothing is parsed, evaluated or run, and no memory is taken.
 #![tactic(auto)]
 
-ghost use Rattle.std.specs.Prelude.{[], ◌∷◌, ◌≡◌, Bool, None, Option, Some, false, true, ℕ};
+ghost use Rattle.std.specs.Prelude.{[], ◌∷◌, ◌≡◌, Bool, List, None, Option, Some, false, true, ℕ};
 ghost use Rattle.wf_layers.specs.Address.{Address, SeenIn, Table, address, is_within};
+ghost use Rattle.wf_layers.specs.Answered.{RunsSoFarAreRuns};
 ghost use Rattle.wf_layers.specs.Bound.{total};
 ghost use Rattle.wf_layers.specs.Definition.{Closed, Graph, IsDepth, Kind, Leaf, Turns};
 ghost use Rattle.wf_layers.specs.Laws.{AllRowsAtTheEnd, EventsAreCounted, EventsAreExact, EventsAtTheEnd, EventsChangeOnlyThere, EventsOfRunsAreFew, FactsOfStates, IsFresh, IsInstance, MeaningObeysTheRule, OneEventAtAnAddress, PartIsUnique, RowsAreTheMeanings, RowsAreUnique, RowsWhereCalledFor, RunsGrow, StoreHoldsTheLast, TestsInOrder, VariablesInOrder};
 ghost use Rattle.wf_layers.specs.Meaning.{meaning};
-ghost use Rattle.wf_layers.specs.Redo.{IsRedo};
-ghost use Rattle.wf_layers.specs.Resubmission.{IsOldTable, IsResubmission, IsSetResubmission, IsSplit, MayBeResubmittedAgain, OldAnswersGiveTheOldRows, OthersKept, ResubmissionIsFresh, ResumedAtTheEnd, ResumedChanges, ResumedEnds, ResumedExact, ResumedFacts, ResumedFew, ResumedInOrder, ResumedOneEvent, ResumedRows, ResumedStore, kept, pin};
+ghost use Rattle.wf_layers.specs.Listed.{Lists};
+ghost use Rattle.wf_layers.specs.Record.{HasRecord, RecordsAreOne};
+ghost use Rattle.wf_layers.specs.Redo.{IsRedo, OutOfLoops, closed_again, redone};
+ghost use Rattle.wf_layers.specs.Resubmission.{IsOldTable, IsResubmission, IsSetResubmission, IsSplit, MayBeResubmittedAgain, OldAnswersGiveTheOldRows, OldTablesAgree, OthersKept, ResubmissionIsFresh, ResumedAtTheEnd, ResumedChanges, ResumedEnds, ResumedExact, ResumedFacts, ResumedFew, ResumedInOrder, ResumedOneEvent, ResumedRows, ResumedStore, kept, pin};
 ghost use Rattle.wf_layers.specs.Seen.{Answers, Once, Waits};
 ghost use Rattle.wf_layers.specs.Shape.{HasShape, Reading, ReadsBack};
 ghost use Rattle.wf_layers.specs.Source.{Sound, Source};
@@ -118,6 +121,12 @@ pub fn runs_grow<Row, Begun, Decision, Verdict>()
     ensures { (d : Graph) (m : Source Row Begun Decision Verdict) → RunsGrow d m }
 {}
 
+/// A run whose answers come one by one is a run with all answers, so that all laws hold of it: what each event takes of the answers is
+/// known as it is taken.
+pub fn runs_so_far_are_runs<Row, Begun, Decision, Verdict>()
+    ensures { (d : Graph) (m : Source Row Begun Decision Verdict) → RunsSoFarAreRuns d m }
+{}
+
 /// How many entries of an action's `runAfter`, and how many actions of a graph, have no row: none exactly where all have ended, and one
 /// less as one ends.
 pub fn what_is_waited_for_is_counted<Row>()
@@ -151,6 +160,12 @@ pub fn premises_can_be_met()
 /// stands after what is redone or closed again.
 pub fn order_of_a_resubmission()
     ensures { (d : Graph) (chosen redo again : ℕ → Bool) → IsRedo d chosen redo again → IsSplit d redo again }
+{}
+
+/// For each set of actions without actions of loops there is what it redoes and what it closes again; it can be computed.
+pub fn a_set_has_its_parts()
+    ensures { (d : Graph) (depth : ℕ → ℕ) (chosen : ℕ → Bool) → Once d → Closed d d → IsDepth d depth → OutOfLoops chosen d
+        → IsRedo d chosen (redone d depth chosen) (closed_again d depth chosen) }
 {}
 
 /// From a set of chosen actions that ran, in no loop, all that the laws of resubmission ask of the order is there.
@@ -216,6 +231,12 @@ pub fn a_table_of_the_right_shape_may_be_resumed<Row, Begun, Decision, Verdict>(
         → ((n : ℕ) (row : Row) → chosen n ≡ true → r (address n []) ≡ Some row → IsIdle a row → ⊥)
         → ((n : ℕ) (row : Row) → again n ≡ true → r (address n []) ≡ Some row → a.taken (recall (address n [])) ≡ read.taken row)
         → IsOldTable d a redo again r recall }
+{}
+
+/// Old tables that agree on what the definition has give the same rows.
+pub fn old_tables_agree<Row, Begun, Decision, Verdict>()
+    ensures { (d : Graph) (depth : ℕ → ℕ) (a b : Source Row Begun Decision Verdict) (redo again : ℕ → Bool) (recall : Address → Decision)
+        → IsDepth d depth → Sound b (SeenIn d) d 0 → OldTablesAgree d depth a b redo again recall }
 {}
 
 /// From the state of a resubmission of an old table, whether a run gave it or not, and whatever order events are taken in, each row is the
@@ -324,4 +345,23 @@ pub fn one_example_meets_the_premises()
 pub fn tables_are_one<Row>()
     ensures { (d : Graph) (t u : Table Row) → ((x : Address) → is_within d [] x ≡ false → (t x ≡ None) × (u x ≡ None))
         → ((x : Address) → is_within d [] x ≡ true → t x ≡ u x) → t ≡ u }
+{}
+
+/// A table has one record at most, its rows in one sorted list.
+pub fn records_are_one<Row>()
+    ensures { RecordsAreOne Row }
+{}
+
+/// And a meaning's table has one, since its rows stand at finitely many addresses.
+pub fn a_meaning_has_a_record<Row, Begun, Decision, Verdict>()
+    ensures { (d : Graph) (m : Source Row Begun Decision Verdict) (depth : ℕ → ℕ) → IsDepth d depth → Sound m (SeenIn d) d 0 → IsFresh m
+        → HasRecord (meaning m depth d) }
+{}
+
+/// And so has that of a resubmission of an old table that is given as a list.
+pub fn a_resubmission_has_a_record<Row, Begun, Decision, Verdict, Entry>()
+    ensures { (d : Graph) (depth : ℕ → ℕ) (a b : Source Row Begun Decision Verdict) (redo again : ℕ → Bool) (r : Table Row)
+        (recall : Address → Decision)
+        → IsDepth d depth → Sound b (SeenIn d) d 0 → (at : Entry → Address) (row : Entry → Row) (rows : List Entry) → Lists at row r rows
+        → HasRecord (meaning (pin a b redo again r recall) depth d) }
 {}
