@@ -1,4 +1,4 @@
--- Where `runAfter` names only actions that are there and goes in no circle, all actions end.
+-- Where `runAfter` names only actions that are there and has no cycle, all actions end.
 use Rattle.std.proofs.Common.{◌≡◌, ℕ, zero, suc, ◌+◌, ◌<◌, Bool, true, false, ◌&&◌, cond, List, [], ◌∷◌, length, set, Option, Some, None, is_some, slice_get, inl, inr, ⊎_elim, refl, sym, ap, ◌∙◌, subst, arith, nat_eq, eq-eqb, replicate, true≢false, length-set}
 use Rattle.std.specs.List.{list_all}
 use Rattle.wf_layers.specs.Definition.{Need, Names, Graph, IsDepth, IsBefore, Closed, has_own}

@@ -4,3 +4,5 @@ pub mod Marks
 pub mod Exact
 pub mod Instance
 pub mod Rows
+pub mod Judged
+mod Worked

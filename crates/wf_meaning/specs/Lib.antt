@@ -4,6 +4,7 @@ pub mod Rounds
 pub mod Marks
 pub mod Flat
 pub mod Status
+pub mod Judged
 pub mod Meaning
 pub mod Laws
 pub mod Worked

@@ -1,5 +1,5 @@
 -- When the actions of a graph end, counted in rounds: in each round those actions end that wait only for actions which
--- ended in earlier rounds. Where `runAfter` goes in a circle, the actions of the circle never end.
+-- ended in earlier rounds. Where `runAfter` has a cycle, the actions of the cycle never end.
 use Rattle.std.specs.Prelude.{ℕ, zero, suc, Bool, true, not, List, [], ◌∷◌, length, Option, None, Some, slice_get, max}
 use Rattle.std.specs.List.{list_all, list_any}
 use Rattle.wf_layers.specs.Definition.{Need}
@@ -20,7 +20,7 @@ abbrev pub places : ℕ → List ActionTree → List ℕ
 places n [] = []
 places n (action ∷ actions) = n ∷ places (suc n) actions
 
--- All actions end: `runAfter` names only actions that are there, and goes in no circle. In each round until then at
+-- All actions end: `runAfter` names only actions that are there, and has no cycle. In each round until then at
 -- least one ends, so there are no more rounds than actions.
 abbrev pub all_end : List ActionTree → Bool
 all_end actions = list_all (λ n. not (is_waiting actions (length actions) n)) (places 0 actions)

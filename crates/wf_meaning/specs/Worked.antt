@@ -1,9 +1,12 @@
 -- Worked values of the definitions of this crate.
-use Rattle.std.specs.Prelude.{ℕ, zero, suc, List, [], ◌∷◌, Option, Some, codes}
+use Rattle.std.specs.Prelude.{ℕ, zero, suc, Bool, List, [], ◌∷◌, map, Option, Some, slice_get, codes}
+use Rattle.std.specs.Option.{option_map}
 use Rattle.wf_val.specs.ValueTree.{null}
-use Rattle.wf_layers.specs.Definition.{Status, Succeeded, Failed, Need}
+use Rattle.wf_layers.specs.Definition.{Status, Succeeded, Failed, Skipped, TimedOut, Cancelled, Need}
 use Rattle.wf_layers.specs.Address.{Table}
+use Rattle.wf_layers.specs.Source.{all_met}
 use Rattle.wf_meaning.specs.Definition.{ActionTree}
+use Rattle.wf_meaning.specs.Flat.{source}
 use Rattle.wf_meaning.specs.Record.{Row}
 
 abbrev pub action : List ℕ → List Need → ActionTree
@@ -21,8 +24,8 @@ four =
     ∷ (action (codes "D") (need 2 (Succeeded ∷ []) ∷ []) ∷ [])))
 
 -- A and B wait for each other.
-abbrev pub circle : List ActionTree
-circle = action (codes "A") (need 1 (Succeeded ∷ []) ∷ []) ∷ (action (codes "B") (need 0 (Succeeded ∷ []) ∷ []) ∷ [])
+abbrev pub cycle : List ActionTree
+cycle = action (codes "A") (need 1 (Succeeded ∷ []) ∷ []) ∷ (action (codes "B") (need 0 (Succeeded ∷ []) ∷ []) ∷ [])
 
 -- A waits for an action that isn't there.
 abbrev pub astray : List ActionTree
@@ -47,3 +50,34 @@ first_and_others first others (suc n) = Some (ended others)
 
 abbrev pub rows_with : Status → Status → Table Row
 rows_with first others x = first_and_others first others x.name
+
+-- A is alone.
+abbrev pub single : List ActionTree
+single = action (codes "A") [] ∷ []
+
+-- A waits for itself.
+abbrev pub loop : List ActionTree
+loop = action (codes "A") (need 0 (Succeeded ∷ []) ∷ []) ∷ []
+
+-- B waits for A, and C for B.
+abbrev pub chain : List ActionTree
+chain = action (codes "A") [] ∷ (action (codes "B") (need 0 (Succeeded ∷ []) ∷ []) ∷ (action (codes "C") (need 1 (Succeeded ∷ []) ∷ []) ∷ []))
+
+-- C waits for A and for B.
+abbrev pub joined : List ActionTree
+joined =
+    action (codes "A") []
+    ∷ (action (codes "B") [] ∷ (action (codes "C") (need 0 (Succeeded ∷ []) ∷ (need 1 (Succeeded ∷ []) ∷ [])) ∷ []))
+
+-- Nothing waits for either of two actions.
+abbrev pub apart : List ActionTree
+apart = action (codes "A") [] ∷ (action (codes "B") [] ∷ [])
+
+-- the actions have rows with these statuses, in the order of their numbers, and the others none
+abbrev pub statuses : List Status → Table Row
+statuses listed x = option_map ended (slice_get listed x.name)
+
+-- whether an entry that lists these is met, where the action that it names Succeeded, Failed, was Skipped, TimedOut or was Cancelled
+abbrev pub met_at : List Status → List Bool
+met_at listed =
+    map (λ status. all_met (source single) (need 0 listed ∷ []) [] (statuses (status ∷ []))) (Succeeded ∷ (Failed ∷ (Skipped ∷ (TimedOut ∷ (Cancelled ∷ [])))))

@@ -3,9 +3,9 @@
 //! A definition is left here once its form is known: a list of actions, each with its name, the entries of its `runAfter`
 //! and its inputs (`specs/Definition`). Its meaning is an instance of the layered meaning of `wf_layers`: `specs/Flat` says
 //! which graph and which source of rows it is, `specs/Meaning` reads the record off the rows, in the order of their
-//! addresses, and `specs/Status` says how a graph ends by the rows of its actions. When the actions end is said in rounds
+//! addresses, and `specs/Status` says how a graph ends by the rows of its actions, which `specs/Judged` says once more, as a least set. When the actions end is said in rounds
 //! (`specs/Rounds`). These give the depths of the layers, and say at once that `runAfter` names only actions that are there
-//! and goes in no circle. `specs/Worked` has worked values.
+//! and has no cycle. `specs/Worked` and `proofs/Worked` have worked values.
 //!
 //! So far each action is a Compose that stands in no other. Further kinds of actions are further rows of the source and
 //! further kinds of the graph; what is said of a record stays.
@@ -14,16 +14,19 @@
 //! reads no JSON and prints nothing.
 #![tactic(auto)]
 
-ghost use Rattle.std.specs.Prelude.{◌≡◌, ◌∷◌, ℕ, [], false, true, List, map};
+ghost use Rattle.std.specs.Prelude.{◌≡◌, ◌⊎◌, ◌∷◌, ℕ, [], false, true, List, map};
 ghost use Rattle.wf_layers.specs.Definition.{Closed, Failed, IsBefore, IsDepth, Skipped, Succeeded};
+ghost use Rattle.wf_layers.specs.Address.{Table};
 ghost use Rattle.wf_layers.specs.Laws.{IsInstance};
 ghost use Rattle.wf_meaning.specs.Definition.{ActionTree};
 ghost use Rattle.wf_meaning.specs.Flat.{graph_of, source};
+ghost use Rattle.wf_meaning.specs.Judged.{AnyFailed};
 ghost use Rattle.wf_meaning.specs.Laws.{all_wait_for_success, composed_at};
 ghost use Rattle.wf_meaning.specs.Meaning.{rows_of, table_of};
+ghost use Rattle.wf_meaning.specs.Record.{Row};
 ghost use Rattle.wf_meaning.specs.Rounds.{all_end, depth_of};
 ghost use Rattle.wf_meaning.specs.Status.{graph_status};
-ghost use Rattle.wf_meaning.specs.Worked.{astray, caught, circle, four, missed, rows_with};
+ghost use Rattle.wf_meaning.specs.Worked.{astray, caught, cycle, four, missed, rows_with};
 
 /// A definition all of whose actions end meets the premises of the laws of order, so its meaning doesn't depend on the
 /// order in which its actions end.
@@ -52,13 +55,22 @@ pub fn the_graph_succeeds()
     ensures { (actions : List ActionTree) → all_end actions ≡ true → all_wait_for_success actions ≡ true → graph_status actions (table_of actions) ≡ Succeeded }
 {}
 
+/// The judged actions are the least set that has each action which no `runAfter` names, and with a Skipped one those that its own
+/// `runAfter` names. Where all actions end, a graph Failed exactly where a judged action is Failed, TimedOut or Cancelled; else it
+/// Succeeded.
+pub fn the_status_is_that_of_the_judged()
+    ensures failed { (actions : List ActionTree) (known : Table Row) → graph_status actions known ≡ Failed → AnyFailed actions known }
+    ensures judged { (actions : List ActionTree) (known : Table Row) → all_end actions ≡ true → AnyFailed actions known → graph_status actions known ≡ Failed }
+    ensures two { (actions : List ActionTree) (known : Table Row) → (graph_status actions known ≡ Failed) ⊎ (graph_status actions known ≡ Succeeded) }
+{}
+
 /// Worked values: what runs and what is Skipped, what never ends, and when a graph Failed.
 pub fn worked_values()
     ensures rows { map (λ row. row.row.status) (rows_of four) ≡ Succeeded ∷ (Succeeded ∷ (Skipped ∷ (Skipped ∷ []))) }
     // B Succeeded, to which Skipped ones that no other names hand on.
     ensures skipped { graph_status four (table_of four) ≡ Succeeded }
     ensures ending { all_end four ≡ true }
-    ensures circle { all_end circle ≡ false }
+    ensures cycle { all_end cycle ≡ false }
     ensures astray { all_end astray ≡ false }
     ensures caught { graph_status caught (rows_with Failed Succeeded) ≡ Succeeded }
     ensures missed { graph_status missed (rows_with Failed Skipped) ≡ Failed }

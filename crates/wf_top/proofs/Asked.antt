@@ -7,8 +7,8 @@ use Rattle.std.proofs.lemmas.List.Elements.{Contains-get_or}
 use Rattle.wf_outside.specs.Outside.{Held}
 use Rattle.wf_top.specs.Plan.{Plan, Says, Reads, ComesTo, AsksAmong}
 use Rattle.wf_meaning.specs.Definition.{DefinitionTree, InputsTree}
-use Rattle.wf_top.specs.Plain.{definition_of, inputs_of}
-use Rattle.wf_top.specs.Commands.{plan, plan_of, command_of, word, form_of, run_definition, run_inputs}
+use Rattle.wf_top.specs.Form.{definition_of, form_of, inputs_of}
+use Rattle.wf_top.specs.Commands.{plan, plan_of, command_of, word, judged_definition, judged_inputs}
 use Rattle.wf_top.specs.Served.{FailedAt}
 use Rattle.wf_top.specs.declared.words.Command.{Command}
 use Rattle.wf_top.specs.declared.words.Command.TheVariants.{Run}
@@ -22,11 +22,11 @@ asked held words (Reads first limit next) name among comes =
       | inr later ↦ asked held words (next later.0) name (among.1 later.0) later.2
     ]
 
-inputs_asks : (words : List (List ℕ)) (definition : DefinitionTree) (form : Result InputsTree FormFault) → AsksAmong words (run_inputs definition form)
+inputs_asks : (words : List (List ℕ)) (definition : DefinitionTree) (form : Result InputsTree FormFault) → AsksAmong words (judged_inputs definition form)
 inputs_asks words definition (Ok inputs) = tt
 inputs_asks words definition (Err fault) = tt
 
-definition_asks : (words : List (List ℕ)) (name : List ℕ) (form : Result DefinitionTree FormFault) → Contains words name → AsksAmong words (run_definition name form)
+definition_asks : (words : List (List ℕ)) (name : List ℕ) (form : Result DefinitionTree FormFault) → Contains words name → AsksAmong words (judged_definition name form)
 definition_asks words name (Ok definition) among = (among, λ file. inputs_asks words definition (form_of inputs_of file))
 definition_asks words name (Err fault) among = tt
 

@@ -3,14 +3,14 @@ use Rattle.std.proofs.Common.{◌≡◌, ℕ, List, Option, Result, Ok, Err, inl
 use Rattle.std.specs.Result.{IfOk, IfErr}
 use Rattle.wf_outside.specs.Outside.{Held}
 use Rattle.wf_top.specs.Plan.{Plan, Says, Reads, MayGive}
-use Rattle.wf_top.specs.Served.{Ending, Misused, Speaks, Unread, Spent, Reaches, ending_of}
+use Rattle.wf_top.specs.Served.{Outcome, Misused, Speaks, Unread, Spent, Reaches, outcome_of}
 use Rattle.wf_top.specs.declared.load.Stop.{Stop}
 use Rattle.wf_top.specs.declared.load.Stop.TheVariants.{CannotRead, Memory}
 use Rattle.wf_top.specs.declared.said.Said.{Said}
 use Rattle.wf_top.specs.declared.said.Verdict.{Verdict}
 
-reaches_next : (held : Held) (name : List ℕ) (limit : ℕ) (next : Option (List ℕ) → Plan) (file : Option (List ℕ)) (old new : List (List ℕ)) (end : Ending) →
-    MayGive held name limit file → Reaches held (next file) old new end → Reaches held (Reads name limit next) old new end
+reaches_next : (held : Held) (name : List ℕ) (limit : ℕ) (next : Option (List ℕ) → Plan) (file : Option (List ℕ)) (old new : List (List ℕ)) (outcome : Outcome) →
+    MayGive held name limit file → Reaches held (next file) old new outcome → Reaches held (Reads name limit next) old new outcome
 reaches_next held name limit next file old new Misused gives reaches = reaches
 reaches_next held name limit next file old new (Speaks status text) gives reaches = (reaches.0, (file, gives, reaches.1))
 reaches_next held name limit next file old new (Unread failed) gives reaches = (inr (file, gives, reaches.0), reaches.1)
@@ -19,19 +19,19 @@ reaches_next held name limit next file old new Spent gives reaches =
 
 -- The read gave a file, and the rest went on from there: held and the list of failed names are as before it.
 pub reaches_read : (held held' : Held) (name : List ℕ) (limit : ℕ) (next : Option (List ℕ) → Plan) (file : Option (List ℕ)) (plan : Plan)
-    (old old' new : List (List ℕ)) (end : Ending) →
-    held' ≡ held → MayGive held name limit file × (old' ≡ old) → next file ≡ plan → Reaches held' plan old' new end →
-    Reaches held (Reads name limit next) old new end
-reaches_read held held' name limit next file plan old old' new end same gives is reaches =
-    reaches_next held name limit next file old new end gives.0
-    (rw is (subst (λ h. Reaches h plan old new end) same (subst (λ o. Reaches held' plan o new end) gives.1 reaches)))
+    (old old' new : List (List ℕ)) (outcome : Outcome) →
+    held' ≡ held → MayGive held name limit file × (old' ≡ old) → next file ≡ plan → Reaches held' plan old' new outcome →
+    Reaches held (Reads name limit next) old new outcome
+reaches_read held held' name limit next file plan old old' new outcome same gives is reaches =
+    reaches_next held name limit next file old new outcome gives.0
+    (rw is (subst (λ h. Reaches h plan old new outcome) same (subst (λ o. Reaches held' plan o new outcome) gives.1 reaches)))
 
 -- The read gave a file with a fault, which was said, unless memory ran out: P says that the fault isn't want of memory.
 pub reaches_fault : (held : Held) (name : List ℕ) (limit : ℕ) (next : Option (List ℕ) → Plan) (file : Option (List ℕ)) (old new : List (List ℕ))
     (P : Type 0) (verdict : Verdict) (line : List ℕ) (result : Result Said Stop) →
     MayGive held name limit file × (new ≡ old) → (P → next file ≡ Says verdict line) →
     IfOk result (λ said. P × (said.verdict ≡ verdict) × (said.text.items ≡ line)) → IfErr result (λ stop. stop ≡ Memory) →
-    Reaches held (Reads name limit next) old new (ending_of result)
+    Reaches held (Reads name limit next) old new (outcome_of result)
 reaches_fault held name limit next file old new P verdict line (Ok said) gives is ok err =
     (gives.1, (file, gives.0, rw (is ok.0) (ok.1, ok.2)))
 reaches_fault held name limit next file old new P verdict line (Err (CannotRead failed)) gives is ok err = absurd (cc)

@@ -1,8 +1,9 @@
 pub mod Asked
-pub mod Endings
+pub mod Outcomes
 pub mod Following
 pub mod Written
 pub mod Places
 pub mod Succeeding
-pub mod Ends
+pub mod RunOutcomes
 pub mod MarkedNames
+mod Worked

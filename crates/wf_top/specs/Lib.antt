@@ -1,4 +1,6 @@
 pub mod Commands
+pub mod Form
+pub mod Limits
 pub mod Plain
 pub mod Plan
 pub mod Ran

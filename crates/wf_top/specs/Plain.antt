@@ -11,7 +11,7 @@ use Rattle.wf_json.specs.Json.{json}
 use Rattle.wf_layers.specs.Definition.{Succeeded, Need}
 use Rattle.wf_meaning.specs.Rounds.{all_end}
 use Rattle.wf_meaning.specs.Definition.{ActionTree, DefinitionTree, InputsTree}
-use Rattle.wf_top.specs.declared.TheConstants.{MOST_ACTIONS, ACTION_NAME_LIMIT, RUN_NAME_LIMIT}
+use Rattle.wf_top.specs.Limits.{actions_most, action_name_chars, run_name_chars}
 
 -- A byte of a text that isn't a control character: those are U+0000 to U+001F and U+007F, one byte each in UTF-8, where
 -- the bytes of longer characters are above them.
@@ -101,7 +101,7 @@ after_of all value = option_and_then (needs_of all) (members_in value)
 -- A plain action is of type Compose and tracks nothing; its `runAfter` and its `inputs` are judged apart.
 abbrev pub is_plain_action : Member → Bool
 is_plain_action m =
-    is_name ACTION_NAME_LIMIT m.0 && is_word (codes "Compose") (get (codes "type") m.1)
+    is_name action_name_chars m.0 && is_word (codes "Compose") (get (codes "type") m.1)
     && is_none (get (codes "trackedProperties") m.1)
 
 -- the action that a member is, among all members
@@ -116,13 +116,17 @@ abbrev pub actions_of : List Member → List Member → Option (List ActionTree)
 actions_of all [] = Some []
 actions_of all (m ∷ ms) = option_and_then (λ action. option_map (λ more. action ∷ more) (actions_of all ms)) (action_of all m)
 
--- actions that all end, since no `runAfter` goes in a circle
-abbrev pub ending_actions : List ActionTree → Option (List ActionTree)
-ending_actions actions = if all_end actions then Some actions else None
+-- actions that all end, since no `runAfter` has a cycle
+abbrev pub acyclic_actions : List ActionTree → Option (List ActionTree)
+acyclic_actions actions = if all_end actions then Some actions else None
 
--- so many members are actions of a plain definition
+-- so many members may be actions
+abbrev pub is_few : List Member → Bool
+is_few ms = nat_le (length ms) actions_most
+
+-- the actions that members are which are few enough
 abbrev pub few_actions : List Member → Option (List ActionTree)
-few_actions ms = if nat_le (length ms) MOST_ACTIONS then option_and_then ending_actions (actions_of ms ms) else None
+few_actions ms = if is_few ms then option_and_then acyclic_actions (actions_of ms ms) else None
 
 -- the actions of a definition whose member `actions` this is
 abbrev pub plain_actions : Option ValueTree → Option (List ActionTree)
@@ -134,16 +138,16 @@ is_bare t =
     is_object t && is_none (get (codes "definition") t) && is_absent_or_empty (get (codes "parameters") t)
     && is_absent_or_empty (get (codes "triggers") t) && is_absent_or_empty (get (codes "outputs") t)
 
--- The definition that a value is. Its digest is the SHA-256 of its compact text.
-unfoldable pub definition_of : ValueTree → Option DefinitionTree
-definition_of t =
+-- The plain definition that a value is. Its digest is the SHA-256 of its compact text.
+unfoldable pub plain_definition : ValueTree → Option DefinitionTree
+plain_definition t =
     if is_bare t
     then option_map (λ actions. record { digest = sha256 (json t); actions = actions }) (plain_actions (get (codes "actions") t))
     else None
 
 -- the name of a run
 abbrev pub run_name : Option ValueTree → Option (List ℕ)
-run_name (Some (text s)) = if is_name RUN_NAME_LIMIT s then Some s else None
+run_name (Some (text s)) = if is_name run_name_chars s then Some s else None
 run_name t = None
 
 -- Plain inputs name the run and the moment, and hand in nothing else.
@@ -152,6 +156,6 @@ hands_in_no_more t =
     is_text (get (codes "moment") t) && is_none (get (codes "seed") t) && is_none (get (codes "trigger") t)
     && is_none (get (codes "outputs") t) && is_none (get (codes "parameters") t) && is_none (get (codes "answers") t)
 
--- the inputs that a value is
-unfoldable pub inputs_of : ValueTree → Option InputsTree
-inputs_of t = if hands_in_no_more t then option_map (λ run. record { run = run }) (run_name (get (codes "run") t)) else None
+-- the plain inputs that a value is
+unfoldable pub plain_run : ValueTree → Option InputsTree
+plain_run t = if hands_in_no_more t then option_map (λ run. record { run = run }) (run_name (get (codes "run") t)) else None

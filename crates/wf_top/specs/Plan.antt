@@ -20,10 +20,10 @@ MayGive None name limit file = IfSome file (λ bytes. length bytes ≤ limit)
 MayGive (Some bytes_of) name limit file = option_map (within limit) (bytes_of name) ≡ Some file
 
 -- the plan ends with this verdict and this text
-abbrev pub EndsWith : Held → Plan → Verdict → List ℕ → Type 0
-EndsWith held (Says v t) verdict text = (verdict ≡ v) × (text ≡ t)
-EndsWith held (Reads name limit next) verdict text =
-    (file : Option (List ℕ)) × MayGive held name limit file × EndsWith held (next file) verdict text
+abbrev pub MaySay : Held → Plan → Verdict → List ℕ → Type 0
+MaySay held (Says v t) verdict text = (verdict ≡ v) × (text ≡ t)
+MaySay held (Reads name limit next) verdict text =
+    (file : Option (List ℕ)) × MayGive held name limit file × MaySay held (next file) verdict text
 
 -- The plan comes to the reading of this name: what is tested before it has passed.
 abbrev pub ComesTo : Held → Plan → List ℕ → Type 0
@@ -32,10 +32,10 @@ ComesTo held (Reads name limit next) wanted =
     (wanted ≡ name) ⊎ ((file : Option (List ℕ)) × MayGive held name limit file × ComesTo held (next file) wanted)
 
 -- the verdict and the text of a plan over files that tell, or None where one of them isn't there
-abbrev pub ending : (List ℕ → Option (List ℕ)) → Plan → Option (Verdict × List ℕ)
-ending bytes_of (Says verdict text) = Some (verdict, text)
-ending bytes_of (Reads name limit next) =
-    option_and_then (λ bytes. ending bytes_of (next (within limit bytes))) (bytes_of name)
+abbrev pub said_by : (List ℕ → Option (List ℕ)) → Plan → Option (Verdict × List ℕ)
+said_by bytes_of (Says verdict text) = Some (verdict, text)
+said_by bytes_of (Reads name limit next) =
+    option_and_then (λ bytes. said_by bytes_of (next (within limit bytes))) (bytes_of name)
 
 -- each file that the plan may ask for is named by one of these words
 abbrev pub AsksAmong : List (List ℕ) → Plan → Type 0

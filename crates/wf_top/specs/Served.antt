@@ -3,8 +3,9 @@ use Rattle.std.specs.Prelude.{◌≡◌, ◌⊎◌, ℕ, ◌≤◌, List, [], �
 use Rattle.std.specs.Io.KnownBytes.{Appends}
 use Rattle.std.specs.Option.{option_map}
 use Rattle.wf_outside.specs.Outside.{Held}
-use Rattle.wf_top.specs.Plan.{Plan, EndsWith, ComesTo, ending}
-use Rattle.wf_top.specs.Commands.{plan_of, printed}
+use Rattle.wf_top.specs.Plan.{Plan, MaySay, ComesTo, said_by}
+use Rattle.wf_top.specs.Commands.{plan_of}
+use Rattle.wf_top.specs.Form.{printed}
 use Rattle.wf_top.specs.declared.said.Verdict.{Verdict}
 use Rattle.wf_top.specs.declared.said.Verdict.TheVariants.{Done, Definition, Inputs}
 use Rattle.wf_top.specs.declared.said.Said.{Said}
@@ -30,19 +31,19 @@ out_of_memory = codes "out of memory\n"
 
 -- How a call ends: the words are no command, the command speaks, a file of this name couldn't be read, or
 -- there was no memory.
-pub data Ending : Type 0 where
-  Misused : Ending
-  Speaks : Verdict → List ℕ → Ending
-  Unread : List ℕ → Ending
-  Spent : Ending
+pub data Outcome : Type 0 where
+  Misused : Outcome
+  Speaks : Verdict → List ℕ → Outcome
+  Unread : List ℕ → Outcome
+  Spent : Outcome
 
-abbrev pub status_of : Ending → ℕ
+abbrev pub status_of : Outcome → ℕ
 status_of Misused = 2
 status_of (Speaks status text) = number status
 status_of (Unread name) = 3
 status_of Spent = 5
 
-abbrev pub text_of : Ending → List ℕ
+abbrev pub text_of : Outcome → List ℕ
 text_of Misused = usage
 text_of (Speaks status text) = text
 text_of (Unread name) = cannot_read name
@@ -52,46 +53,46 @@ text_of Spent = out_of_memory
 abbrev pub GrewBy : Held → Plan → List (List ℕ) → List (List ℕ) → List ℕ → Type 0
 GrewBy held plan old new name = ComesTo held plan name × (new ≡ old ++ name ∷ [])
 
--- The plan comes to this ending, and does this to the list of failed names.
-abbrev pub Reaches : Held → Plan → List (List ℕ) → List (List ℕ) → Ending → Type 0
+-- The plan comes to this outcome, and does this to the list of failed names.
+abbrev pub Reaches : Held → Plan → List (List ℕ) → List (List ℕ) → Outcome → Type 0
 Reaches held plan old new Misused = ⊥
-Reaches held plan old new (Speaks status text) = (new ≡ old) × EndsWith held plan status text
+Reaches held plan old new (Speaks status text) = (new ≡ old) × MaySay held plan status text
 Reaches held plan old new (Unread name) = GrewBy held plan old new name
 Reaches held plan old new Spent = (new ≡ old) ⊎ ((name : List ℕ) × GrewBy held plan old new name)
 
--- The words come to this ending. None is the plan of words that are no command.
-abbrev pub Comes : Held → Option Plan → List (List ℕ) → List (List ℕ) → Ending → Type 0
+-- The words come to this outcome. None is the plan of words that are no command.
+abbrev pub Comes : Held → Option Plan → List (List ℕ) → List (List ℕ) → Outcome → Type 0
 Comes held None old new e = (e ≡ Misused) × (new ≡ old)
 Comes held (Some plan) old new e = Reaches held plan old new e
 
 -- what following a plan gave
-abbrev pub ending_of : Result Said Stop → Ending
-ending_of (Ok said) = Speaks said.verdict said.text.items
-ending_of (Err (CannotRead name)) = Unread name
-ending_of (Err Memory) = Spent
+abbrev pub outcome_of : Result Said Stop → Outcome
+outcome_of (Ok said) = Speaks said.verdict said.text.items
+outcome_of (Err (CannotRead name)) = Unread name
+outcome_of (Err Memory) = Spent
 
 abbrev pub Follows : Held → Plan → List (List ℕ) → List (List ℕ) → Result Said Stop → Type 0
-Follows held plan old new result = Reaches held plan old new (ending_of result)
+Follows held plan old new result = Reaches held plan old new (outcome_of result)
 
--- known bytes grow by a front of bs
-abbrev pub AppendsFront : Option (List ℕ) → Option (List ℕ) → List ℕ → Type 0
-AppendsFront old new bs = (n : ℕ) × (n ≤ length bs) × Appends old new (take n bs)
+-- known bytes grow by a prefix of bs
+abbrev pub AppendsPrefix : Option (List ℕ) → Option (List ℕ) → List ℕ → Type 0
+AppendsPrefix old new bs = (n : ℕ) × (n ≤ length bs) × Appends old new (take n bs)
 
--- All of a text was taken, and the status is its own; or a front of it, and the status is 4.
+-- All of a text was taken, and the status is its own; or a prefix of it, and the status is 4.
 abbrev pub Writes : Option (List ℕ) → Option (List ℕ) → ℕ → List ℕ → ℕ → Type 0
 Writes before after status text result =
-    ((result ≡ status) × Appends before after text) ⊎ ((result ≡ 4) × AppendsFront before after text)
+    ((result ≡ status) × Appends before after text) ⊎ ((result ≡ 4) × AppendsPrefix before after text)
 
--- The whole of a call: its words came to an ending, of which it wrote the text.
+-- The whole of a call: its words came to an outcome, whose text it wrote.
 pub record Serves (held : Held) (plan : Option Plan) (old new : List (List ℕ)) (before after : Option (List ℕ)) (result : ℕ) : Type 0 where
-  pub end : Ending
-  pub comes : Comes held plan old new end
-  pub writes : Writes before after (status_of end) (text_of end) result
+  pub outcome : Outcome
+  pub comes : Comes held plan old new outcome
+  pub writes : Writes before after (status_of outcome) (text_of outcome) result
 
 -- what a plan says over files that tell, with None for words that are no command
 abbrev pub said_of : (List ℕ → Option (List ℕ)) → Option Plan → Option (ℕ × List ℕ)
 said_of bytes_of None = Some (2, usage)
-said_of bytes_of (Some plan) = option_map (λ said. (number said.0, said.1)) (ending bytes_of plan)
+said_of bytes_of (Some plan) = option_map (λ said. (number said.0, said.1)) (said_by bytes_of plan)
 
 -- What the words say over files that tell: a status and a whole text, or None where one of the files isn't there.
 abbrev pub say : (List ℕ → Option (List ℕ)) → List (List ℕ) → Option (ℕ × List ℕ)

@@ -7,7 +7,7 @@ use crate::action::Action;
 use wf_val::Digest;
 
 /// A definition: the SHA-256 of its compact text, and its actions in byte order of their names. All of them end, since no
-/// `runAfter` goes in a circle.
+/// `runAfter` has a cycle.
 #[derive(Drop)]
 pub struct Definition {
     pub digest: Digest,

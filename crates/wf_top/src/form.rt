@@ -1,8 +1,7 @@
 // What a file holds of a form, and the line that says why it holds none.
 ghost use Rattle.std.specs.Prelude.{◌≡◌, ◌≢◌, ◌++◌, IfOk, IfErr, Ok, Err};
 ghost use Rattle.std.specs.Option.{option_map};
-ghost use Rattle.wf_top.specs.Commands.{fault_line, form_of, form_words, json_fault, printed};
-ghost use Rattle.wf_top.specs.Plain.{definition_of, inputs_of};
+ghost use Rattle.wf_top.specs.Form.{definition_of, fault_line, form_of, form_words, inputs_of, json_fault, printed};
 ghost use Rattle.wf_top.specs.Seen.{definition_tree, inputs_tree};
 ghost use Rattle.wf_top.specs.declared.form.FormFault.TheVariants.{Memory};
 
@@ -106,11 +105,11 @@ fn form_words(alloc: Global, fault: FormFault) -> Result<Vec<u8>, AllocError>
 }
 
 /// The line of a fault of a file: the file's part in the command, and the fault.
-#[tactic(auto, unfolding(crate::specs::Commands::fault_line))]
-pub fn fault_line(alloc: Global, front: &[u8], fault: FormFault) -> Result<Vec<u8>, AllocError>
-    ensures { IfOk result (λ line. line.items ≡ fault_line front.now fault) }
+#[tactic(auto, unfolding(crate::specs::Form::fault_line))]
+pub fn fault_line(alloc: Global, part: &[u8], fault: FormFault) -> Result<Vec<u8>, AllocError>
+    ensures { IfOk result (λ line. line.items ≡ fault_line part.now fault) }
 {
-    let mut line = front.to_vec(alloc)?;
+    let mut line = part.to_vec(alloc)?;
     line.extend_from_slice(&form_words(alloc, fault)?)?;
     line.push(b'\n')?;
     Ok(line)

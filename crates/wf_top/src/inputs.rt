@@ -2,7 +2,7 @@
 ghost use Rattle.std.specs.Prelude.{◌≡◌, IfOk};
 ghost use Rattle.std.specs.Option.{option_map};
 ghost use Rattle.wf_val.specs.Seen.{tree};
-ghost use Rattle.wf_top.specs.Plain.{hands_in_no_more, inputs_of, is_text, run_name};
+ghost use Rattle.wf_top.specs.Plain.{hands_in_no_more, plain_run, is_text, run_name};
 ghost use Rattle.wf_top.specs.Seen.{inputs_tree};
 
 use crate::RUN_NAME_LIMIT;
@@ -47,9 +47,9 @@ fn run_name(alloc: Global, member: Option<&Val>) -> Result<Option<Text>, AllocEr
 }
 
 /// The inputs that a value is, or `None` where it isn't of their form.
-#[tactic(auto, unfolding(crate::specs::Plain::inputs_of))]
+#[tactic(auto, unfolding(crate::specs::Plain::plain_run))]
 pub fn read_inputs(alloc: Global, value: &Val) -> Result<Option<Inputs>, AllocError>
-    ensures { IfOk result (λ inputs. option_map inputs_tree inputs ≡ inputs_of (tree value.now)) }
+    ensures { IfOk result (λ inputs. option_map inputs_tree inputs ≡ plain_run (tree value.now)) }
 {
     if !hands_in_no_more(value) {
         return Ok(None);

@@ -10,10 +10,10 @@
 
 mod action;
 mod after;
+mod commands;
+mod cycles;
 mod definition;
-mod ending;
 mod form;
-mod guess;
 mod inputs;
 mod load;
 mod plain;
@@ -22,6 +22,7 @@ mod record;
 mod run;
 mod said;
 mod serve;
+mod topological;
 mod words;
 
 pub use serve::serve_words;

@@ -9,15 +9,15 @@ ghost use Rattle.wf_val.specs.Get.{name_of};
 ghost use Rattle.wf_val.specs.NameOrder.{IsInNameOrder};
 ghost use Rattle.wf_val.specs.Seen.{tree, member};
 ghost use Rattle.wf_val.specs.ValueTree.{members, trees};
-ghost use Rattle.wf_top.specs.Plain.{are_literal, definition_of, few_actions, have_literals, is_absent_or_empty, is_bare, is_literal, is_literal_text, is_name, is_printable, is_word, members_in, plain_actions, plain_inputs};
+ghost use Rattle.wf_top.specs.Plain.{are_literal, plain_definition, few_actions, have_literals, is_absent_or_empty, is_bare, is_literal, is_literal_text, is_name, is_printable, is_word, members_in, plain_actions, plain_inputs};
 ghost use Rattle.wf_meaning.specs.Rounds.{all_end};
 ghost use Rattle.wf_top.specs.Seen.{definition_tree};
 ghost use Rattle.wf_top.specs.SeenAction.{action_tree};
 
 use crate::MOST_ACTIONS;
 use crate::action::{Action, actions_of};
+use crate::cycles::all_end;
 use crate::definition::Definition;
-use crate::ending::all_end;
 use sha2::{Digest as _, Sha256};
 use std::alloc::{AllocError, Global};
 use wf_val::{Digest, Fields, Text, Val, Vals};
@@ -189,9 +189,9 @@ fn is_bare(value: &Val) -> bool
 }
 
 /// The definition that a value is, or `None` where it isn't of the plain form.
-#[tactic(auto, unfolding(crate::specs::Plain::definition_of))]
+#[tactic(auto, unfolding(crate::specs::Plain::plain_definition))]
 pub fn read_definition(alloc: Global, value: &Val) -> Result<Option<Definition>, AllocError>
-    ensures { IfOk result (λ definition. option_map definition_tree definition ≡ definition_of (tree value.now)) }
+    ensures { IfOk result (λ definition. option_map definition_tree definition ≡ plain_definition (tree value.now)) }
 {
     if !is_bare(value) {
         return Ok(None);

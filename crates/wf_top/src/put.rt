@@ -2,14 +2,14 @@
 ghost use Rattle.std.specs.Prelude.{◌≡◌, ◌≢◌, ◌<◌, OnOk, OnErr};
 ghost use Rattle.std.specs.Io.KnownBytes.{Appends};
 ghost use Rattle.wf_outside.specs.Outside.{HasCause, Rose};
-ghost use Rattle.wf_top.specs.Served.{AppendsFront, Writes};
+ghost use Rattle.wf_top.specs.Served.{AppendsPrefix, Writes};
 
 use wf_outside::{Failed, Sink};
 
 /// Writes all of a text. Each `put` is handed the whole rest.
 fn put_all<O: Sink>(out: &mut O, text: &[u8]) -> Result<(), Failed>
     ensures ok { OnOk result (Appends (O.taken out.old) (O.taken out.new) text.now) }
-    ensures err { OnErr result (AppendsFront (O.taken out.old) (O.taken out.new) text.now) }
+    ensures err { OnErr result (AppendsPrefix (O.taken out.old) (O.taken out.new) text.now) }
     ensures cause { HasCause (O.faults out.old) (O.faults out.new) result }
 {
     let mut done = 0;

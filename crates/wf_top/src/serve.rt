@@ -1,21 +1,17 @@
-// The top call, and the commands behind it.
-ghost use Rattle.std.specs.Prelude.{◌≡◌, ◌≢◌, ◌⊎◌, ◌<◌, ◌≤◌, ℕ, List, Ok, Some, None, Contains, IfOk, IfErr, IfSome};
+// The top call.
+ghost use Rattle.std.specs.Prelude.{◌≡◌, ◌⊎◌, ◌<◌, ◌≤◌, ℕ, List, Some, None, Contains, IfOk, IfSome};
 ghost use Rattle.std.specs.Io.KnownBytes.{Appends};
 ghost use Rattle.wf_outside.specs.Outside.{IsCalm, Rose};
-ghost use Rattle.wf_top.specs.Commands.{command_of, plan, fault_line, plan_of, run, run_definition, run_text};
+ghost use Rattle.wf_top.specs.Commands.{command_of, plan_of, run_text};
 ghost use Rattle.wf_meaning.specs.Definition.{DefinitionTree, InputsTree};
 ghost use Rattle.wf_top.specs.Ran.{IsWhole, PassesAll, Ran, RefusedDefinition, RefusedInputs};
-ghost use Rattle.wf_top.specs.Seen.{definition_tree};
-ghost use Rattle.wf_top.specs.Served.{FailedAt, Follows, IsSaid, Serves, cannot_read, say};
+ghost use Rattle.wf_top.specs.Served.{FailedAt, IsSaid, Serves, cannot_read, say};
 
-use crate::definition::Definition;
-use crate::form::{FormFault, definition_form, fault_line, inputs_form, printed};
-use crate::load::{Stop, load};
+use crate::commands::follow;
+use crate::form::printed;
+use crate::load::Stop;
 use crate::put::close;
-use crate::run::run_text;
-use crate::said::{Said, Verdict};
 use crate::words::{Command, parse_words};
-use crate::{DEFINITION_LIMIT, INPUTS_LIMIT};
 use std::alloc::{AllocError, Global};
 use wf_outside::{Files, Sink, Source};
 use wf_val::Text;
@@ -24,69 +20,6 @@ const USAGE: &[u8] =
     b"usage: wflow check DEF | run DEF INPUTS [SCHEDULE] | trace DEF INPUTS SCHEDULE | resubmit DEF HISTORY RUN ACTION INPUTS [SCHEDULE] | list HISTORY | drill N\n";
 
 const OUT_OF_MEMORY: &[u8] = b"out of memory\n";
-
-// A fault of a file, said with the verdict on such files.
-fn say_fault(alloc: Global, verdict: Verdict, front: &[u8], fault: FormFault) -> Result<Said, Stop>
-    ensures said { IfOk result (λ said. (fault ≢ FormFault.Memory) × (said.verdict ≡ verdict) × (said.text.items ≡ fault_line front.now fault)) }
-    ensures stopped { IfErr result (λ stop. stop ≡ Stop.Memory) }
-{
-    match fault {
-        FormFault::Memory => Err(Stop::Memory),
-        fault => Ok(Said {
-            verdict,
-            text: fault_line(alloc, front, fault)?,
-        }),
-    }
-}
-
-fn run_inputs<F: Files>(
-    alloc: Global,
-    files: &mut F,
-    definition: Definition,
-    inputs: &Text,
-) -> Result<Said, Stop>
-    ensures { Follows (F.held files.old) (run_definition inputs.now (Ok (definition_tree definition))) (F.failed files.old) (F.failed files.new) result }
-{
-    let file = load(alloc, files, inputs, INPUTS_LIMIT)?;
-    match inputs_form(alloc, file) {
-        Err(fault) => say_fault(alloc, Verdict::Inputs, b"inputs ", fault),
-        Ok(inputs) => Ok(Said {
-            verdict: Verdict::Done,
-            text: run_text(alloc, definition, inputs)?,
-        }),
-    }
-}
-
-fn run_files<F: Files>(
-    alloc: Global,
-    files: &mut F,
-    definition: &Text,
-    inputs: &Text,
-) -> Result<Said, Stop>
-    ensures { Follows (F.held files.old) (run definition.now inputs.now) (F.failed files.old) (F.failed files.new) result }
-{
-    let file = load(alloc, files, definition, DEFINITION_LIMIT)?;
-    match definition_form(alloc, file) {
-        Err(fault) => say_fault(alloc, Verdict::Definition, b"definition ", fault),
-        Ok(definition) => run_inputs(alloc, files, definition, inputs),
-    }
-}
-
-// Follows the command that the words are.
-#[tactic(auto, unfolding(crate::specs::Commands::plan))]
-fn follow<F: Files>(
-    alloc: Global,
-    words: &[Text],
-    command: Command,
-    files: &mut F,
-) -> Result<Said, Stop>
-    requires { command_of words.now ≡ Some command }
-    ensures { Follows (F.held files.old) (plan command words.now) (F.failed files.old) (F.failed files.new) result }
-{
-    match command {
-        Command::Run => run_files(alloc, files, &words[1], &words[2]),
-    }
-}
 
 fn unread_line(alloc: Global, name: Text) -> Result<Vec<u8>, AllocError>
     ensures { IfOk result (λ line. line.items ≡ cannot_read name) }
@@ -101,6 +34,7 @@ fn serve<F: Files, O: Sink>(alloc: Global, words: &[Text], files: &mut F, out: &
     ensures outcome { Serves (F.held files.old) (plan_of words.now) (F.failed files.old) (F.failed files.new) (O.taken out.old) (O.taken out.new) result }
     ensures only { result ≡ 4 → Rose (O.faults out.old) (O.faults out.new) }
     ensures always { O.faults out.old < O.faults out.new → result ≡ 4 }
+    ensures same { F.held files.new ≡ F.held files.old }
 {
     let Some(command) = parse_words(words) else {
         return close(out, 2, USAGE);
@@ -130,24 +64,26 @@ pub fn serve_words<F: Files, I: Source, O: Sink>(
         F.failed files.new ≡ F.failed files.old → IsCalm (O.faults out.old) (O.faults out.new) →
         IsSaid (say bytes_of words.now) (O.taken out.old) (O.taken out.new) result) }
 
-    // In any case the words come to one ending, and its status is answered and its text written; or with 4 a front of
+    // In any case the words come to one outcome, and its status is answered and its text written; or with 4 a prefix of
     // the text.
     ensures outcome { Serves (F.held files.old) (plan_of words.now) (F.failed files.old) (F.failed files.new)
         (O.taken out.old) (O.taken out.new) result }
 
-    // 0 comes where a definition and inputs were read, and the sink took exactly the line of the record that they mean
-    // and its summary line.
-    ensures ran { result ≡ 0 → Ran (F.held files.old) words.now (O.taken out.old) (O.taken out.new) }
+    // At `run DEF INPUTS` 0 comes where a definition and inputs were read, and the sink took exactly the line of the record that
+    // they mean and its summary line.
+    ensures ran { command_of words.now ≡ Some Command.Run → result ≡ 0 → Ran (F.held files.old) words.now (O.taken out.old) (O.taken out.new) }
 
-    // Where all tests pass and no count rose, that comes and nothing else, but for want of memory.
+    // Where all its tests pass and no count rose, that comes and nothing else, but for want of memory.
     ensures complete { IfSome (F.held files.old) (λ bytes_of. (definition : DefinitionTree) (inputs : InputsTree) →
         PassesAll bytes_of words.now definition inputs →
         F.failed files.new ≡ F.failed files.old → IsCalm (O.faults out.old) (O.faults out.new) →
         IsWhole (O.taken out.old) (O.taken out.new) (run_text definition inputs) result) }
 
-    // 1 comes where the first file gave no definition, and 6 where it gave one and the second gave no inputs.
-    ensures refused_definition { result ≡ 1 → RefusedDefinition (F.held files.old) words.now (O.taken out.old) (O.taken out.new) }
-    ensures refused_inputs { result ≡ 6 → RefusedInputs (F.held files.old) words.now (O.taken out.old) (O.taken out.new) }
+    // There 1 comes where the first file gave no definition, and 6 where it gave one and the second gave no inputs.
+    ensures refused_definition { command_of words.now ≡ Some Command.Run → result ≡ 1 →
+        RefusedDefinition (F.held files.old) words.now (O.taken out.old) (O.taken out.new) }
+    ensures refused_inputs { command_of words.now ≡ Some Command.Run → result ≡ 6 →
+        RefusedInputs (F.held files.old) words.now (O.taken out.old) (O.taken out.new) }
 
     // 2 comes where the words are no command, and always there, 4 apart.
     ensures two { result ≡ 2 → command_of words.now ≡ None }
@@ -170,7 +106,8 @@ pub fn serve_words<F: Files, I: Source, O: Sink>(
     ensures four { result ≡ 4 → Rose (O.faults out.old) (O.faults out.new) }
     ensures unwritten { O.faults out.old < O.faults out.new → result ≡ 4 }
 
-    // The source stays as it was.
+    // What the files hold stays as it was, and so does the source.
+    ensures files_held { F.held files.new ≡ F.held files.old }
     ensures source_faults { I.faults input.new ≡ I.faults input.old }
     ensures source_left { I.left input.new ≡ I.left input.old }
 {

@@ -7,3 +7,6 @@ pub mod ValueOrderLemmas
 pub mod ValueOrderLaws
 pub mod NodeCountLemmas
 pub mod CharacterLemmas
+pub mod ArityRows
+pub mod NameRows
+pub mod ValueRows

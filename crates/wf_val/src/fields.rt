@@ -100,7 +100,8 @@ impl Fields {
         }
     }
 
-    /// Adds a member in its place, or replaces the one that has the name.
+    /// Adds a member in its place, or replaces the one that has the name. It moves every member behind that place, so a
+    /// reader that gets members in order uses `append`.
     pub fn put(&mut self, name: Text, value: Val) -> Result<(), AllocError>
         ensures ok { OnOk result (self.new ≡ put_named name_of (name, tree value) self.old) }
         ensures err { OnErr result (self.new ≡ self.old) }

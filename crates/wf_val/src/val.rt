@@ -13,6 +13,7 @@ use crate::text::Text;
 use crate::vals::Vals;
 use std::alloc::{AllocError, Global};
 use std::cmp::Ordering;
+use wf_lists::TryCopy;
 
 /// What JSON can write (RFC 8259, section 3), but that a number is whole.
 #[cycle(val)]
@@ -211,6 +212,12 @@ impl Val {
             Val::List(items) => Ok(Val::List(items.copy(alloc)?)),
             Val::Obj(fields) => Ok(Val::Obj(fields.copy(alloc)?)),
         }
+    }
+}
+
+impl TryCopy for Val {
+    fn copy(&self, alloc: Global) -> Result<Self, AllocError> {
+        Val::copy(self, alloc)
     }
 }
 

@@ -4,14 +4,14 @@ use Rattle.wf_top.proofs.serve.serve.Goals as goal
 
 pub returns-in-Ok-clause-outcome : goal.returns-in-Ok-clause-outcome
 returns-in-Ok-clause-outcome g c = record {
-  end = Speaks c.in-Ok.said.verdict c.in-Ok.said.text.items;
+  outcome = Speaks c.in-Ok.said.verdict c.in-Ok.said.text.items;
   comes = search rules;
   writes = search rules;
 }
 
 pub returns-in-Ok-unread_line-clause-outcome : goal.returns-in-Ok-unread_line-clause-outcome
 returns-in-Ok-unread_line-clause-outcome g c = record {
-  end = Unread c.in-Err-CannotRead.name;
+  outcome = Unread c.in-Err-CannotRead.name;
   comes = search rules;
   writes = rw (c.deref-in-Ok-unread_line.ensures.value, c.in-Ok-unread_line.ensures) at c.close-in-Ok-unread_line.ensures.writes;
 }

@@ -2,8 +2,8 @@ use Rattle.std.proofs.Common.{ap}
 use Rattle.std.specs.Option.{option_map}
 use Rattle.wf_top.specs.Commands.{plan}
 use Rattle.wf_top.proofs.Asked.{failed_word}
-use Rattle.wf_top.proofs.Endings.{serves_le, serves_told, serves_two, serves_misused, serves_three, serves_unread, no_command}
-use Rattle.wf_top.proofs.Ends.{serves_definition, serves_inputs, serves_ran, serves_whole}
+use Rattle.wf_top.proofs.Outcomes.{serves_le, serves_told, serves_two, serves_misused, serves_three, serves_unread, no_command}
+use Rattle.wf_top.proofs.RunOutcomes.{serves_definition, serves_inputs, serves_ran, serves_whole}
 use Rattle.wf_top.proofs.serve.serve_words.Goals as goal
 
 pub returns-clause-status : goal.returns-clause-status

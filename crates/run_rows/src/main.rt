@@ -1,0 +1,148 @@
+//! Whole calls of the program, as rows of the standard input: files and words in, status and text out.
+//!
+//! Each row hands `wf_top::serve_words` files, a source and a sink in memory, and prints the status that it answers, what failed and
+//! every byte that the sink took. A line of the standard input is one of these:
+//!
+//! - `file NAME TEXT`: from here on a file of this name holds the text;
+//! - `pad SIZE`: the file of the last such line is as long as that many bytes, by blanks behind its text;
+//! - `fail read N`, `fail write N`: in the next row the Nth read of a file, or the Nth write, fails;
+//! - `pieces SIZE`: in the next row a write takes at most so many bytes;
+//! - `words WORD ..`: a row. It is answered at once.
+//!
+//! Other lines say what the rows below them show. The texts that are wanted come from the program's requirements and from outside
+//! tools, never from the program: `fuzz/owed.py` writes them. This program is no part of the engine.
+#![tactic(auto)]
+
+use std::alloc::{AllocError, Global};
+use std::io;
+use wf_outside::{MemFiles, MemSink, MemSource};
+use wf_top::serve_words;
+use wf_val::Text;
+
+// As many bytes as a sink has room for.
+const ROOM: u64 = 67_108_864;
+
+// A file of the rows below it.
+#[derive(Drop)]
+struct Held {
+    name: Text,
+    bytes: Vec<u8>,
+}
+
+// What fails in the next row: the number of a read and of a write, where 0 is none, and how many bytes a write takes at most.
+#[derive(Clone, Copy)]
+struct Trouble {
+    read: u64,
+    write: u64,
+    piece: u64,
+}
+
+const NO_TROUBLE: Trouble = Trouble {
+    read: 0,
+    write: 0,
+    piece: ROOM,
+};
+
+// The number that a text is in decimal, or 0 where it is none.
+fn number(text: &str) -> u64 {
+    text.parse::<u64>().unwrap_or(0)
+}
+
+fn with_trouble(trouble: Trouble, line: &str) -> Trouble {
+    let mut more = trouble;
+    if let Some(count) = line.strip_prefix("fail read ") {
+        more.read = number(count);
+    }
+    if let Some(count) = line.strip_prefix("fail write ") {
+        more.write = number(count);
+    }
+    if let Some(size) = line.strip_prefix("pieces ") {
+        more.piece = number(size);
+    }
+    more
+}
+
+fn hold(alloc: Global, held: &mut Vec<Held>, file: &str) -> Result<(), AllocError> {
+    let (name, text) = file.split_once(' ').unwrap_or((file, ""));
+    let bytes = text.as_bytes().to_vec(alloc)?;
+    held.push(Held {
+        name: Text::of(alloc, name)?,
+        bytes,
+    })?;
+    Ok(())
+}
+
+fn pad(held: &mut Vec<Held>, size: u64) -> Result<(), AllocError> {
+    if let Some(file) = held.last_mut() {
+        file.bytes.resize(size as usize, b' ')?;
+    }
+    Ok(())
+}
+
+fn files_of(alloc: Global, held: &[Held], trouble: Trouble) -> Result<MemFiles, AllocError> {
+    let mut files = MemFiles::new(alloc);
+    files.fail_at(trouble.read)?;
+    for file in held {
+        files.add(file.name.copy(alloc)?, &file.bytes)?;
+    }
+    Ok(files)
+}
+
+fn words_of(alloc: Global, line: &str) -> Result<Vec<Text>, AllocError> {
+    let mut words = Vec::new(alloc);
+    for word in line.split_whitespace() {
+        words.push(Text::of(alloc, word)?)?;
+    }
+    Ok(words)
+}
+
+fn sink_of(alloc: Global, trouble: Trouble) -> Result<MemSink, AllocError> {
+    let mut sink = MemSink::new(alloc, trouble.piece.max(1), ROOM)?;
+    sink.fail_at(trouble.write)?;
+    Ok(sink)
+}
+
+fn answer<R: Print + AllocGlobal>(
+    rt: &R,
+    held: &[Held],
+    trouble: Trouble,
+    line: &str,
+) -> io::Result<()> {
+    let alloc = rt.alloc();
+    let words = words_of(alloc, line)?;
+    let mut files = files_of(alloc, held, trouble)?;
+    let mut source = MemSource::new(alloc, b"untouched")?;
+    let mut sink = sink_of(alloc, trouble)?;
+    let status = serve_words(alloc, &words, &mut files, &mut source, &mut sink);
+    println!(rt;
+        "words {line}: status {status}, failed reads {}, failed writes {}, left in the source {}",
+        files.faults(),
+        sink.faults(),
+        source.left().len()
+    )?;
+    match std::str::from_utf8(sink.taken()) {
+        Ok(text) => println!(rt; "{text}"),
+        Err(_) => println!(rt; "not UTF-8"),
+    }
+}
+
+fn main(rt: HostRuntime) -> io::Result<()> {
+    let alloc = rt.alloc();
+    let rows = io::read_to_string(alloc, rt.reader())?;
+    let mut held: Vec<Held> = Vec::new(alloc);
+    let mut trouble = NO_TROUBLE;
+    for line in rows.lines() {
+        trouble = with_trouble(trouble, line);
+        if let Some(file) = line.strip_prefix("file ") {
+            hold(alloc, &mut held, file)?;
+        }
+        if let Some(size) = line.strip_prefix("pad ") {
+            pad(&mut held, number(size))?;
+        }
+        if let Some(words) = line.strip_prefix("words ") {
+            answer(&rt, &held, trouble, words)?;
+            trouble = NO_TROUBLE;
+        }
+    }
+    Ok(())
+}

@@ -1,0 +1,151 @@
+-- Worked values of the definitions: what is met, when actions end, how a graph ends, and what is recorded.
+use Rattle.std.proofs.Common.{◌≡◌, ℕ, List, [], ◌∷◌, true, false, Some, map, refl}
+use Rattle.std.specs.Prelude.{codes}
+use Rattle.wf_val.specs.ValueTree.{null, text, object, no_members, member_then}
+use Rattle.wf_layers.specs.Definition.{Succeeded, Failed, Skipped, TimedOut, Cancelled}
+use Rattle.wf_layers.specs.Address.{address}
+use Rattle.wf_meaning.specs.Definition.{ActionTree}
+use Rattle.wf_meaning.specs.Flat.{composed, skipped}
+use Rattle.wf_meaning.specs.Meaning.{meaning, rows_of}
+use Rattle.wf_meaning.specs.Record.{Row}
+use Rattle.wf_meaning.specs.Rounds.{all_end, depth_of, is_waiting}
+use Rattle.wf_meaning.specs.Status.{graph_status}
+use Rattle.wf_meaning.specs.Worked.{apart, chain, four, joined, loop, met_at, single, statuses}
+
+-- ---- `runAfter` with each status, against an action that Succeeded, Failed, was Skipped, TimedOut or was Cancelled
+
+met-succeeded : met_at (Succeeded ∷ []) ≡ true ∷ (false ∷ (false ∷ (false ∷ (false ∷ []))))
+met-succeeded = refl
+
+met-failed : met_at (Failed ∷ []) ≡ false ∷ (true ∷ (false ∷ (false ∷ (false ∷ []))))
+met-failed = refl
+
+met-skipped : met_at (Skipped ∷ []) ≡ false ∷ (false ∷ (true ∷ (false ∷ (false ∷ []))))
+met-skipped = refl
+
+met-timed_out : met_at (TimedOut ∷ []) ≡ false ∷ (false ∷ (false ∷ (true ∷ (false ∷ []))))
+met-timed_out = refl
+
+met-cancelled : met_at (Cancelled ∷ []) ≡ false ∷ (false ∷ (false ∷ (false ∷ (true ∷ []))))
+met-cancelled = refl
+
+met-none : met_at [] ≡ false ∷ (false ∷ (false ∷ (false ∷ (false ∷ []))))
+met-none = refl
+
+met-two : met_at (Failed ∷ (TimedOut ∷ [])) ≡ false ∷ (true ∷ (false ∷ (true ∷ (false ∷ []))))
+met-two = refl
+
+-- ---- when actions end
+
+ends-none : all_end [] ≡ true
+ends-none = refl
+
+ends-loop : all_end loop ≡ false
+ends-loop = refl
+
+ends-chain : all_end chain ≡ true
+ends-chain = refl
+
+waits-chain : map (is_waiting chain 2) (0 ∷ (1 ∷ (2 ∷ []))) ≡ false ∷ (false ∷ (true ∷ []))
+waits-chain = refl
+
+depths-chain : map (depth_of chain) (0 ∷ (1 ∷ (2 ∷ []))) ≡ 0 ∷ (1 ∷ (2 ∷ []))
+depths-chain = refl
+
+depths-four : map (depth_of four) (0 ∷ (1 ∷ (2 ∷ (3 ∷ [])))) ≡ 1 ∷ (0 ∷ (1 ∷ (2 ∷ [])))
+depths-four = refl
+
+-- ---- how a graph ends
+
+status-empty : graph_status [] (statuses []) ≡ Succeeded
+status-empty = refl
+
+status-succeeded : graph_status single (statuses (Succeeded ∷ [])) ≡ Succeeded
+status-succeeded = refl
+
+status-failed : graph_status single (statuses (Failed ∷ [])) ≡ Failed
+status-failed = refl
+
+status-skipped : graph_status single (statuses (Skipped ∷ [])) ≡ Succeeded
+status-skipped = refl
+
+status-timed_out : graph_status single (statuses (TimedOut ∷ [])) ≡ Failed
+status-timed_out = refl
+
+status-cancelled : graph_status single (statuses (Cancelled ∷ [])) ≡ Failed
+status-cancelled = refl
+
+-- two that are Skipped hand the judgement on to what the first of them waits for
+chain-failed : graph_status chain (statuses (Failed ∷ (Skipped ∷ (Skipped ∷ [])))) ≡ Failed
+chain-failed = refl
+
+chain-timed_out : graph_status chain (statuses (TimedOut ∷ (Skipped ∷ (Skipped ∷ [])))) ≡ Failed
+chain-timed_out = refl
+
+chain-succeeded : graph_status chain (statuses (Succeeded ∷ (Skipped ∷ (Skipped ∷ [])))) ≡ Succeeded
+chain-succeeded = refl
+
+chain-skipped : graph_status chain (statuses (Skipped ∷ (Skipped ∷ (Skipped ∷ [])))) ≡ Succeeded
+chain-skipped = refl
+
+-- where the last one ran, what is before it isn't judged
+chain-caught : graph_status chain (statuses (Failed ∷ (Failed ∷ (Succeeded ∷ [])))) ≡ Succeeded
+chain-caught = refl
+
+chain-last : graph_status chain (statuses (Succeeded ∷ (Succeeded ∷ (Cancelled ∷ [])))) ≡ Failed
+chain-last = refl
+
+-- one failed action of two that a Skipped one waits for is enough
+joined-second : graph_status joined (statuses (Succeeded ∷ (Failed ∷ (Skipped ∷ [])))) ≡ Failed
+joined-second = refl
+
+joined-ran : graph_status joined (statuses (Failed ∷ (Failed ∷ (Succeeded ∷ [])))) ≡ Succeeded
+joined-ran = refl
+
+apart-second : graph_status apart (statuses (Succeeded ∷ (TimedOut ∷ []))) ≡ Failed
+apart-second = refl
+
+-- ---- what is recorded
+
+row-composed : composed (text (codes "hi")) ≡ record {
+  status = Succeeded;
+  code = codes "OK";
+  inputs = text (codes "hi");
+  outputs = text (codes "hi");
+  error = null;
+  tracked = object no_members;
+  attempts = 0;
+}
+row-composed = refl
+
+row-skipped : skipped ≡ record {
+  status = Skipped;
+  code = codes "ActionSkipped";
+  inputs = null;
+  outputs = null;
+  error = null;
+  tracked = object no_members;
+  attempts = 0;
+}
+row-skipped = refl
+
+rows-four : rows_of four
+    ≡ record { address = record { name = codes "A"; at = [] }; row = composed null }
+    ∷ (record { address = record { name = codes "B"; at = [] }; row = composed null }
+    ∷ (record { address = record { name = codes "C"; at = [] }; row = skipped }
+    ∷ (record { address = record { name = codes "D"; at = [] }; row = skipped } ∷ [])))
+rows-four = refl
+
+record-single : meaning (record { digest = 1 ∷ []; actions = single }) (record { run = codes "r" }) ≡ record {
+  run = codes "r";
+  digest = 1 ∷ [];
+  trigger = object (member_then (codes "name") null (member_then (codes "outputs") null no_members));
+  parameters = object no_members;
+  status = Succeeded;
+  error = null;
+  response = null;
+  outputs = object no_members;
+  rows = record { address = record { name = codes "A"; at = [] }; row = composed null } ∷ [];
+}
+unfolding meaning
+record-single = refl
