@@ -10,6 +10,7 @@
 
 mod faults;
 mod numbers;
+mod texts;
 
 use std::alloc::{AllocError, Global};
 use std::io::{self, Write};
@@ -45,8 +46,11 @@ fn asked(alloc: Global, row: &str) -> Result<Option<Call>, AllocError> {
 }
 
 // What the call gives, where a crate has such a function of so many arguments.
-fn given(call: &Call) -> Option<Result<Val, EvalFault>> {
-    numbers::given(call.function, &call.args)
+fn given(alloc: Global, call: &Call) -> Option<Result<Val, EvalFault>> {
+    match numbers::given(call.function, &call.args) {
+        Some(answer) => Some(answer),
+        None => texts::given(alloc, call.function, &call.args),
+    }
 }
 
 // The line that answers a row, without its end.
@@ -58,7 +62,7 @@ fn answer(alloc: Global, row: &str) -> Result<Vec<u8>, AllocError> {
         Some(call) => call,
         None => return Vec::from_slice(alloc, "no such call".as_bytes()),
     };
-    match given(&call) {
+    match given(alloc, &call) {
         Some(Ok(value)) => wf_json::write(alloc, &value),
         Some(Err(fault)) => faults::marked(alloc, &fault),
         None => Vec::from_slice(alloc, "no such call".as_bytes()),
