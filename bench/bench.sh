@@ -14,7 +14,7 @@ folder=$(mktemp -d)
 trap 'rm -rf "$folder"' EXIT
 program=$("$top/bin/program")
 export top folder program
-(cd "$top/crates/template_times" && rt run -- parse <stdin) >"$folder/log" 2>&1 || { cat "$folder/log" >&2 && exit 1; }
+(cd "$top/crates/template_rows" && rt run -- parse <stdin) >"$folder/log" 2>&1 || { cat "$folder/log" >&2 && exit 1; }
 python3 - <<'PROGRAM'
 import json, os, subprocess, time
 
@@ -76,7 +76,7 @@ for name, definition in cases:
     print("%-34s %9d %9.3f %9.3f %7.1f %5d MiB" % (name, os.path.getsize(path), ours, theirs, ours / theirs, memory(run)))
 
 # What each text is parsed as is told too, so that a parser that gives up early can't be taken for a fast one.
-program = os.path.join(top, "crates", "template_times", "out", "template_times")
+program = os.path.join(top, "crates", "template_rows", "out", "template_rows")
 size = 4 * 2**20
 texts = [
     ("plain text", "x" * size),

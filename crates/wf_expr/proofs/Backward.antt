@@ -4,14 +4,14 @@ use Rattle.std.specs.Char.{encode_utf8}
 use Rattle.wf_expr.specs.declared.kind.Kind.{Kind}
 use Rattle.wf_expr.specs.declared.kind.Kind.TheVariants.{Blank, Digit, Letter, Quote, Open, Close, Bracket, Unbracket, Comma, Dot, Soft, Under, Dollar, Minus, At, Brace, Unbrace}
 use Rattle.wf_expr.specs.Kinds.{kind}
-use Rattle.wf_expr.specs.ExprTree.{ExprTree, call, member, ExprTrees, no_exprs, expr_then}
+use Rattle.wf_template.specs.ExprTree.{ExprTree, call, member, ExprTrees, no_exprs, expr_then}
 use Rattle.wf_expr.specs.Reading.{number_literal, text_literal, Item, character, embedded, Reading, items_of, signed, limit}
 use Rattle.wf_expr.specs.Words.{Word}
 use Rattle.wf_expr.specs.WordTests.{word_of, word_front}
 use Rattle.wf_expr.proofs.WordLemmas.{Word-of}
 use Rattle.wf_expr.specs.Grammar.{place, no_digit, digit, closed, twice, itself, IsMore, more_letter, more_digit, more_under, IsFirst, first_letter, first_under, first_dollar, no_more_member, more_digit_member, more_member, blank_member, member_name, no_more, more, blank, begins, int, minus_int, quoted, word, calls, blank_open, open_now, Args, blank_args, no_args, args, close, comma, no_access, blank_access, access, soft_access, name_access, key_access, no_mark, at_no_mark, escape, part, itself_char, itself_at, expression, two_ats, no_at, part_first}
-use Rattle.wf_expr.specs.Machine.{Stack, whole, in_part, depth, call_of, key_of, Mode, at_start, at_sign, plain, one_at, two_at, at_first, at_args, at_minus, in_int, in_quoted, at_quote, in_name, at_named, after, at_soft, at_dot, in_member, State, checked, opens, closes, separates, ends_key, ends_part, text_step, is_word, after_word, follow, begin, step_at}
-use Rattle.wf_expr.proofs.Residual.{done, part_done, key, arg, After, accessed, Rest, r_start, r_sign, r_plain, r_one, r_two, r_first, r_args, r_int, r_minus, r_quoted, r_ended, r_twice, r_call, r_word, r_named_call, r_named_word, r_after, r_soft, r_dot, r_member, Resumes, joined-snoc}
+use Rattle.wf_expr.specs.Machine.{Stack, whole, in_part, depth, call_of, key_of, Mode, at_start, at_sign, plain, one_at, two_at, at_first, at_args, at_minus, in_int, in_quoted, at_quote, in_name, at_named, after, at_soft, at_dot, in_member, State, allowed, opens, closes, separates, ends_key, ends_part, plain_step, is_word, after_word, follow, begun, step_at}
+use Rattle.wf_expr.proofs.Residual.{done, part_done, key, arg, After, accessed, Rest, r_start, r_sign, r_plain, r_one, r_two, r_first, r_args, r_int, r_minus, r_quoted, r_ended, r_twice, r_call, r_word, r_named_call, r_named_word, r_after, r_soft, r_dot, r_member, ResumesAt, Resumes, joined-snoc}
 use Rattle.wf_expr.proofs.Forward.{moved, un_end_word, unmove_word, Good}
 
 pub back_blank : {T : ℕ} {b : ExprTree} {k : Stack} {c : ℕ} {s : List ℕ} {w : Reading} → kind c ≡ Blank → Rest T (after b) k s w → After T k b (c ∷ s) w
@@ -27,9 +27,9 @@ pub back_key : {T : ℕ} {b : ExprTree} {k : Stack} {c : ℕ} {s : List ℕ} {w 
 back_key h lt (r_first x (key hu (accessed xs up))) = accessed (access (key_access h lt x hu) xs) up
 
 -- what an opening that was not refused says
-pub guarded : {T : ℕ} {P : Type 0} (k : Stack) (st : State) (s : List ℕ) (w : Reading) → (depth k < 64 → Rest T st.0 st.1 s w → P) → Resumes T (opens k st) s w → P
+pub guarded : {T : ℕ} {P : Type 0} (k : Stack) (st : State) (s : List ℕ) (w : Reading) → (depth k < 64 → Rest T st.0 st.1 s w → P) → ResumesAt T (opens k st) s w → P
 guarded {T = T} {P = P} k st s w f =
-    let go : (b : Bool) → (b ≡ true → depth k < 64) → Resumes T (checked b st) s w → P = λ b. elim b as (λ b. (b ≡ true → depth k < 64) → Resumes T (checked b st) s w → P) [ true ↦ λ g r. f (g refl) r | false ↦ λ g r. absurd r ] in
+    let go : (b : Bool) → (b ≡ true → depth k < 64) → ResumesAt T (allowed b st) s w → P = λ b. elim b as (λ b. (b ≡ true → depth k < 64) → ResumesAt T (allowed b st) s w → P) [ true ↦ λ g r. f (g refl) r | false ↦ λ g r. absurd r ] in
     go (nat_lt (depth k) 64) (λ e. grind arith)
 
 pub r_after-out : {T : ℕ} {b : ExprTree} {k : Stack} {s : List ℕ} {w : Reading} → Rest T (after b) k s w → After T k b s w
@@ -38,19 +38,19 @@ r_after-out (r_after a) = a
 pub back_comma_call : {T : ℕ} (b : ExprTree) (f : List ℕ) (front : List ExprTree) (k : Stack) (c : ℕ) (s : List ℕ) (w : Reading) → kind c ≡ Comma → Rest T at_first (call_of f (front ++ b ∷ []) k) s w → After T (call_of f front k) b (c ∷ s) w
 back_comma_call {T = T} b f front k c s w h (r_first {e = e} x (arg {es = es} {m = m} xs a)) = accessed no_access (arg (comma h x xs) (let P : ExprTrees → Type 0 = λ es'. After T k (call f es') m w in subst P (joined-snoc front b (expr_then e es)) a))
 
-pub back_comma : {T : ℕ} (b : ExprTree) (k : Stack) (c : ℕ) (s : List ℕ) (w : Reading) → kind c ≡ Comma → Resumes T (separates b k) s w → After T k b (c ∷ s) w
+pub back_comma : {T : ℕ} (b : ExprTree) (k : Stack) (c : ℕ) (s : List ℕ) (w : Reading) → kind c ≡ Comma → ResumesAt T (separates b k) s w → After T k b (c ∷ s) w
 back_comma b whole c s w h r = absurd r
 back_comma b (in_part items p) c s w h r = absurd r
 back_comma b (key_of x soft k) c s w h r = absurd r
 back_comma b (call_of f front k) c s w h r = back_comma_call b f front k c s w h r
 
-pub back_close : {T : ℕ} (b : ExprTree) (k : Stack) (c : ℕ) (s : List ℕ) (w : Reading) → kind c ≡ Close → Resumes T (closes b k) s w → After T k b (c ∷ s) w
+pub back_close : {T : ℕ} (b : ExprTree) (k : Stack) (c : ℕ) (s : List ℕ) (w : Reading) → kind c ≡ Close → ResumesAt T (closes b k) s w → After T k b (c ∷ s) w
 back_close b whole c s w h r = absurd r
 back_close b (in_part items p) c s w h r = absurd r
 back_close b (key_of x soft k) c s w h r = absurd r
 back_close {T = T} b (call_of f front k) c s w h r = accessed no_access (arg (close h) (let P : ExprTrees → Type 0 = λ es. After T k (call f es) s w in subst P (joined-snoc front b no_exprs) (r_after-out r)))
 
-pub back_unkey : {T : ℕ} (b : ExprTree) (k : Stack) (c : ℕ) (s : List ℕ) (w : Reading) → kind c ≡ Unbracket → Resumes T (ends_key b k) s w → After T k b (c ∷ s) w
+pub back_unkey : {T : ℕ} (b : ExprTree) (k : Stack) (c : ℕ) (s : List ℕ) (w : Reading) → kind c ≡ Unbracket → ResumesAt T (ends_key b k) s w → After T k b (c ∷ s) w
 back_unkey b whole c s w h r = absurd r
 back_unkey b (in_part items p) c s w h r = absurd r
 back_unkey b (key_of x soft k) c s w h r = accessed no_access (key h (r_after-out r))
@@ -102,17 +102,17 @@ pub back_name_first : {T : ℕ} {k : Stack} {c : ℕ} {s : List ℕ} {w : Readin
 back_name_first h (r_call t op lt es (accessed xs up)) = r_first (begins (calls h t op lt es) xs) up
 back_name_first h (r_word t wd (accessed xs up)) = r_first (begins (word h t wd) xs) up
 
-pub unchecked : {T : ℕ} (b : Bool) (st : State) (s : List ℕ) (w : Reading) → Resumes T (checked b st) s w → Rest T st.0 st.1 s w
-unchecked true st s w r = r
-unchecked false st s w r = absurd r
+pub if_allowed : {T : ℕ} (b : Bool) (st : State) (s : List ℕ) (w : Reading) → ResumesAt T (allowed b st) s w → Rest T st.0 st.1 s w
+if_allowed true st s w r = r
+if_allowed false st s w r = absurd r
 
-pub back_begin : {T : ℕ} (k : Stack) (c : ℕ) (x : Kind) (s : List ℕ) (w : Reading) → kind c ≡ x → Resumes T (begin k c x) s w → Rest T at_first k (c ∷ s) w
-back_begin k c Blank s w h r = back_blank_first h r
-back_begin k c Digit s w h r = back_int_first h r
-back_begin k c Minus s w h r = back_minus_first h r
-back_begin k c Quote s w h r = back_quote_first h r
-back_begin k c Letter s w h r = back_name_first h (unchecked (nat_lt (depth k) 64 || word_front (encode_utf8 c)) (in_name (encode_utf8 c), k) s w r)
-back_begin k c x s w h r = absurd r
+pub back_begun : {T : ℕ} (k : Stack) (c : ℕ) (x : Kind) (s : List ℕ) (w : Reading) → kind c ≡ x → ResumesAt T (begun k c x) s w → Rest T at_first k (c ∷ s) w
+back_begun k c Blank s w h r = back_blank_first h r
+back_begun k c Digit s w h r = back_int_first h r
+back_begun k c Minus s w h r = back_minus_first h r
+back_begun k c Quote s w h r = back_quote_first h r
+back_begun k c Letter s w h r = back_name_first h (if_allowed (nat_lt (depth k) 64 || word_front (encode_utf8 c)) (in_name (encode_utf8 c), k) s w r)
+back_begun k c x s w h r = absurd r
 
 pub as_args : {T : ℕ} {f : List ℕ} {k : Stack} {s : List ℕ} {w : Reading} → Rest T at_first (call_of f [] k) s w → Rest T (at_args f) k s w
 as_args (r_first x (arg xs a)) = r_args (args x xs) a
@@ -129,7 +129,7 @@ back_blank_args h (r_args x a) = r_args (blank_before h x) a
 pub back_args : {T : ℕ} (f : List ℕ) (k : Stack) (c : ℕ) (x : Kind) (s : List ℕ) (w : Reading) → kind c ≡ x → Resumes T (step_at (at_args f) k c x) s w → Rest T (at_args f) k (c ∷ s) w
 back_args f k c Blank s w h r = back_blank_args h r
 back_args f k c Close s w h r = r_args (no_args h) (r_after-out r)
-back_args f k c x s w h r = as_args (back_begin (call_of f [] k) c x s w h r)
+back_args f k c x s w h r = as_args (back_begun (call_of f [] k) c x s w h r)
 
 -- one back from the end
 pub unmove : {T : ℕ} (g : List ℕ → ExprTree) {k : Stack} {s : List ℕ} {w : Reading} (t : List ℕ) (c : ℕ) (a : List ℕ) → After T k (g ((t ++ (encode_utf8 c)) ++ a)) s w → After T k (g (t ++ (encode_utf8 c ++ a))) s w
@@ -176,10 +176,10 @@ pub back_name_other : {T : ℕ} (t : List ℕ) (k : Stack) (c : ℕ) (x : Kind) 
 back_name_other t k c x s w h r = let q = back_after_word t k c x s w h r in r_word no_more (un_end_word t q.1) q.2
 
 pub back_name : {T : ℕ} (t : List ℕ) (k : Stack) (c : ℕ) (x : Kind) (s : List ℕ) (w : Reading) → kind c ≡ x → Resumes T (step_at (in_name t) k c x) s w → Rest T (in_name t) k (c ∷ s) w
-back_name t k c Letter s w h r = back_more t (more_letter h) (unchecked (nat_lt (depth k) 64 || word_front (t ++ encode_utf8 c)) (in_name (t ++ encode_utf8 c), k) s w r)
-back_name t k c Digit s w h r = back_more t (more_digit h) (unchecked (nat_lt (depth k) 64 || word_front (t ++ encode_utf8 c)) (in_name (t ++ encode_utf8 c), k) s w r)
-back_name t k c Under s w h r = back_more t (more_under h) (unchecked (nat_lt (depth k) 64 || word_front (t ++ encode_utf8 c)) (in_name (t ++ encode_utf8 c), k) s w r)
-back_name t k c Blank s w h r = back_name_blank t h (unchecked (nat_lt (depth k) 64 || is_word (word_of t)) (at_named t, k) s w r)
+back_name t k c Letter s w h r = back_more t (more_letter h) (if_allowed (nat_lt (depth k) 64 || word_front (t ++ encode_utf8 c)) (in_name (t ++ encode_utf8 c), k) s w r)
+back_name t k c Digit s w h r = back_more t (more_digit h) (if_allowed (nat_lt (depth k) 64 || word_front (t ++ encode_utf8 c)) (in_name (t ++ encode_utf8 c), k) s w r)
+back_name t k c Under s w h r = back_more t (more_under h) (if_allowed (nat_lt (depth k) 64 || word_front (t ++ encode_utf8 c)) (in_name (t ++ encode_utf8 c), k) s w r)
+back_name t k c Blank s w h r = back_name_blank t h (if_allowed (nat_lt (depth k) 64 || is_word (word_of t)) (at_named t, k) s w r)
 back_name t k c Open s w h r = guarded k _ s w (back_open t h) r
 back_name t k c x s w h r = back_name_other t k c x s w h r
 
@@ -233,7 +233,7 @@ back_member b soft t k c Digit s w h r = back_member_digit b soft t h r
 back_member b soft t k c x s w h r = r_member no_more_member (un_end (λ l. member b l soft) t (back_follow (member b t soft) k c x s w h r))
 
 pub back_in_int : {T : ℕ} (neg : Bool) (v : ℕ) (k : Stack) (c : ℕ) (x : Kind) (s : List ℕ) (w : Reading) → v < limit neg → kind c ≡ x → Resumes T (step_at (in_int neg v) k c x) s w → Rest T (in_int neg v) k (c ∷ s) w
-back_in_int neg v k c Digit s w lt h r = back_int neg h (unchecked (nat_lt (10 * v + (c - 48)) (limit neg)) (in_int neg (10 * v + (c - 48)), k) s w r)
+back_in_int neg v k c Digit s w lt h r = back_int neg h (if_allowed (nat_lt (10 * v + (c - 48)) (limit neg)) (in_int neg (10 * v + (c - 48)), k) s w r)
 back_in_int neg v k c x s w lt h r = r_int {neg = neg} no_digit lt (back_follow (number_literal (signed neg v)) k c x s w h r)
 
 -- the text around the parts
@@ -247,7 +247,7 @@ back_one_at (r_one i) = r_plain i
 pub back_plain : {T : ℕ} (front : List Item) (k : Stack) (c : ℕ) (s : List ℕ) (w : Reading) → (kind c ≡ At → ⊥) → Rest T (plain (front ++ character c ∷ [])) k s w → Rest T (plain front) k (c ∷ s) w
 back_plain front k c s w n (r_plain {items = items} i) = ungroup (plain front) k (c ∷ s) front (character c ∷ []) items (r_plain (itself_char n i))
 
-pub back_text : {T : ℕ} (front : List Item) (k : Stack) (c : ℕ) (x : Kind) (s : List ℕ) (w : Reading) → kind c ≡ x → Resumes T (text_step front k c x) s w → Rest T (plain front) k (c ∷ s) w
+pub back_text : {T : ℕ} (front : List Item) (k : Stack) (c : ℕ) (x : Kind) (s : List ℕ) (w : Reading) → kind c ≡ x → ResumesAt T (plain_step front k c x) s w → Rest T (plain front) k (c ∷ s) w
 back_text front k c At s w h r = back_one_at r
 back_text front k c x s w h r = back_plain front k c s w (λ h'. cc) r
 
@@ -301,7 +301,7 @@ back_sign_expr ha (r_first x done) = r_sign (expression ha x)
 pub back_sign : {T : ℕ} (a : ℕ) (k : Stack) (c : ℕ) (x : Kind) (s : List ℕ) (w : Reading) → kind a ≡ At → kind c ≡ x → Resumes T (step_at (at_sign a) k c x) s w → Rest T (at_sign a) k (c ∷ s) w
 back_sign a k c At s w ha h r = back_sign_two ha h r
 back_sign a k c Brace s w ha h r = back_sign_part ha h r
-back_sign a k c x s w ha h r = back_sign_expr ha (back_begin whole c x s w h r)
+back_sign a k c x s w ha h r = back_sign_expr ha (back_begun whole c x s w h r)
 
 abbrev pub GoodIf : Option State → Type 0
 GoodIf None = Unit {0}
@@ -313,7 +313,7 @@ back (at_sign a) k c x s w g h r = back_sign a k c x s w g h r
 back (plain front) k c x s w g h r = back_text front k c x s w h r
 back (one_at front a) k c x s w g h r = back_one front a k c x s w g h r
 back (two_at front a b) k c x s w g h r = back_two front a b k c x s w g.0 g.1 h r
-back at_first k c x s w g h r = back_begin k c x s w h r
+back at_first k c x s w g h r = back_begun k c x s w h r
 back (at_args f) k c x s w g h r = back_args f k c x s w h r
 back at_minus k c x s w g h r = back_minus k c x s w h r
 back (in_int neg v) k c x s w g h r = back_in_int neg v k c x s w g h r

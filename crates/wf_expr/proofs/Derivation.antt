@@ -13,11 +13,11 @@ use Rattle.wf_val.specs.WellFormed.{IsWellFormed}
 use Rattle.wf_expr.specs.Kinds.{kind, is_blank, is_digit, is_letter}
 use Rattle.wf_expr.specs.declared.kind.Kind.{Kind}
 use Rattle.wf_expr.specs.declared.kind.Kind.TheVariants.{Blank, Digit, Letter, Quote, Open, Close, Bracket, Unbracket, Comma, Dot, Soft, Under, Dollar, Minus, At, Brace, Unbrace, Other}
-use Rattle.wf_expr.specs.TemplateTree.{whole}
+use Rattle.wf_template.specs.TemplateTree.{whole}
 use Rattle.wf_expr.specs.Spells.{over, Derives, Spells}
 use Rattle.wf_expr.specs.Words.{is_true, is_false, is_null, true_text, false_text, null_text}
 use Rattle.wf_expr.specs.Reading.{whole_of, number_literal, text_literal, null_literal, boolean_literal}
-use Rattle.wf_expr.specs.ExprTree.{ExprTree, literal, call, member, index, ExprTrees, no_exprs, expr_then}
+use Rattle.wf_template.specs.ExprTree.{ExprTree, literal, call, member, index, ExprTrees, no_exprs, expr_then}
 use Rattle.wf_expr.specs.Grammar.{expression, Digits, no_digit, digit, Quoted, closed, twice, itself, IsMore, more_letter, more_digit, more_under, Tail, no_more, more, IsFirst, first_letter, first_under, first_dollar, MemberTail, no_more_member, more_digit_member, more_member, MemberName, member_name, Opens, open_now, Expr, blank, begins, Primary, int, minus_int, quoted, word, calls, Args, no_args, args, More, close, comma, Accesses, no_access, blank_access, access, soft_access, name_access, key_access}
 use Rattle.wf_expr.specs.Printed.{quoted_byte, printed_value, dot, bracket, printed, printed_args, printed_more}
 use Rattle.wf_expr.specs.Printable.{IsPrintableValue, IsFunctionName, IsMemberMore, IsMemberName, IsPrintable, ArePrintable}

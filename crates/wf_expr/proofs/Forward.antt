@@ -4,14 +4,14 @@ use Rattle.std.specs.Char.{encode_utf8}
 use Rattle.wf_expr.specs.declared.kind.Kind.{Kind}
 use Rattle.wf_expr.specs.declared.kind.Kind.TheVariants.{Blank, Digit, Letter, Quote, Open, Under, Dollar, At, Brace}
 use Rattle.wf_expr.specs.Kinds.{kind}
-use Rattle.wf_expr.specs.ExprTree.{ExprTree, call, member, ExprTrees, no_exprs, expr_then}
+use Rattle.wf_template.specs.ExprTree.{ExprTree, call, member, ExprTrees, no_exprs, expr_then}
 use Rattle.wf_expr.specs.Reading.{number_literal, text_literal, Item, character, embedded, Reading, whole_of, items_of, signed, limit}
 use Rattle.wf_expr.specs.Words.{Word}
 use Rattle.wf_expr.specs.WordTests.{word_of, word_front}
 use Rattle.wf_expr.proofs.WordLemmas.{of-Word}
 use Rattle.wf_expr.specs.Grammar.{place, Digits, no_digit, digit, Quoted, closed, twice, itself, more_letter, more_digit, more_under, IsFirst, first_letter, first_under, first_dollar, MemberTail, no_more_member, more_digit_member, more_member, MemberName, blank_member, member_name, Tail, no_more, more, Expr, blank, begins, int, minus_int, quoted, word, calls, Opens, blank_open, open_now, Args, blank_args, no_args, args, close, comma, no_access, blank_access, access, soft_access, Access, name_access, key_access, no_mark, at_at_end, at_no_mark, Items, escape, part, itself_char, itself_at, Reads, expression, two_ats, no_at, part_first}
-use Rattle.wf_expr.specs.Machine.{Stack, whole, in_part, depth, call_of, Mode, at_start, at_sign, plain, one_at, two_at, at_first, at_args, in_int, in_quoted, at_quote, in_name, at_named, after, at_soft, at_dot, in_member, text_step, is_word, follow, begin, step_at, step}
-use Rattle.wf_expr.proofs.Residual.{Up, done, part_done, key, arg, After, accessed, Rest, r_start, r_sign, r_plain, r_one, r_two, r_first, r_args, r_int, r_minus, r_quoted, r_ended, r_twice, r_call, r_word, r_named_call, r_named_word, r_after, r_soft, r_dot, r_member, Resumes, joined-snoc, opened, or_left, or_right, can_open, named_call, named_word}
+use Rattle.wf_expr.specs.Machine.{Stack, whole, in_part, depth, call_of, Mode, at_start, at_sign, plain, one_at, two_at, at_first, at_args, in_int, in_quoted, at_quote, in_name, at_named, after, at_soft, at_dot, in_member, plain_step, is_word, follow, begun, step_at, step}
+use Rattle.wf_expr.proofs.Residual.{Up, done, part_done, key, arg, After, accessed, Rest, r_start, r_sign, r_plain, r_one, r_two, r_first, r_args, r_int, r_minus, r_quoted, r_ended, r_twice, r_call, r_word, r_named_call, r_named_word, r_after, r_soft, r_dot, r_member, ResumesAt, Resumes, joined-snoc, opened, or_left, or_right, can_open, named_call, named_word}
 
 abbrev pub Takes : ℕ → Mode → Stack → ℕ → List ℕ → Reading → Type 0
 Takes T m k c s w = Resumes T (step_at m k c (kind c)) s w
@@ -30,13 +30,13 @@ forward_after {k = k} {b = b} (accessed (access (key_access h lt x hu) xs) up) =
 forward_after (accessed (soft_access h x xs) up) = rw h (r_soft x (accessed xs up))
 
 -- letters and digits
-pub forward_begin : {T : ℕ} {k : Stack} {c : ℕ} {e : ExprTree} {s r : List ℕ} {w : Reading} → Expr (depth k) (c ∷ s) e r → Up T k e r w → Resumes T (begin k c (kind c)) s w
-forward_begin (blank h x) up = rw h (r_first x up)
-forward_begin (begins (int h ds lt) xs) up = rw h (r_int ds lt (accessed xs up))
-forward_begin (begins (minus_int h h' ds lt) xs) up = rw h (r_minus h' ds lt (accessed xs up))
-forward_begin (begins (quoted h q) xs) up = rw h (r_quoted q (accessed xs up))
-forward_begin {k = k} (begins (calls h t op lt es) xs) up = rw h (named_call _ k _ _ lt (r_call t op lt es (accessed xs up)))
-forward_begin {k = k} (begins (word {c = c} {t = t} {v = v} h tail wd) xs) up = rw h (named_word (encode_utf8 c) t v k _ _ wd (r_word tail wd (accessed xs up)))
+pub forward_begun : {T : ℕ} {k : Stack} {c : ℕ} {e : ExprTree} {s r : List ℕ} {w : Reading} → Expr (depth k) (c ∷ s) e r → Up T k e r w → ResumesAt T (begun k c (kind c)) s w
+forward_begun (blank h x) up = rw h (r_first x up)
+forward_begun (begins (int h ds lt) xs) up = rw h (r_int ds lt (accessed xs up))
+forward_begun (begins (minus_int h h' ds lt) xs) up = rw h (r_minus h' ds lt (accessed xs up))
+forward_begun (begins (quoted h q) xs) up = rw h (r_quoted q (accessed xs up))
+forward_begun {k = k} (begins (calls h t op lt es) xs) up = rw h (named_call _ k _ _ lt (r_call t op lt es (accessed xs up)))
+forward_begun {k = k} (begins (word {c = c} {t = t} {v = v} h tail wd) xs) up = rw h (named_word (encode_utf8 c) t v k _ _ wd (r_word tail wd (accessed xs up)))
 
 -- where blanks may not be lost, ( stays open for an empty list
 pub forward_args : {T : ℕ} {k : Stack} {f : List ℕ} {c : ℕ} {es : ExprTrees} {s r : List ℕ} {w : Reading} → Args (suc (depth k)) (c ∷ s) es r → After T k (call f es) r w → Takes T (at_args f) k c s w
@@ -187,7 +187,7 @@ regroup {T = T} {k = k} m {s = s} front own items r = let P : List Item → Type
 pub plain_past : {T : ℕ} {k : Stack} (front : List Item) (c : ℕ) {s : List ℕ} {items : List Item} → Past T c s items → Rest T (plain (front ++ character c ∷ [])) k s (items_of (front ++ items))
 plain_past front c (past {items = items} i) = regroup plain front (character c ∷ []) items (r_plain i)
 
-pub forward_text : {T : ℕ} (front : List Item) (k : Stack) (c : ℕ) (x : Kind) (s : List ℕ) (items : List Item) → kind c ≡ x → Items T (c ∷ s) items → Resumes T (text_step front k c x) s (items_of (front ++ items))
+pub forward_text : {T : ℕ} (front : List Item) (k : Stack) (c : ℕ) (x : Kind) (s : List ℕ) (items : List Item) → kind c ≡ x → Items T (c ∷ s) items → ResumesAt T (plain_step front k c x) s (items_of (front ++ items))
 forward_text front k c At s items h i = r_one i
 forward_text front k c x s items h i = plain_past front c (past_char (λ h'. cc) i)
 
@@ -253,10 +253,10 @@ forward_two front a b k c Brace s items ha hb h i = plain_past2 front b c (two_b
 forward_two front a b k c x s items ha hb h i = plain_past3 front a b c (two_other ha hb (λ h'. cc) (λ h'. cc) i)
 
 -- no expression begins with what no expression begins with
-pub forward_whole : (T : ℕ) {c : ℕ} {e : ExprTree} {s : List ℕ} → (x : Kind) → kind c ≡ x → Expr 0 (c ∷ s) e [] → Resumes T (begin whole c x) s (whole_of e)
-forward_whole T {c = c} {e = e} {s = s} x h ex = let P : Kind → Type 0 = λ x. Resumes T (begin whole c x) s (whole_of e) in subst P h (forward_begin ex done)
+pub forward_whole : (T : ℕ) {c : ℕ} {e : ExprTree} {s : List ℕ} → (x : Kind) → kind c ≡ x → Expr 0 (c ∷ s) e [] → ResumesAt T (begun whole c x) s (whole_of e)
+forward_whole T {c = c} {e = e} {s = s} x h ex = let P : Kind → Type 0 = λ x. ResumesAt T (begun whole c x) s (whole_of e) in subst P h (forward_begun ex done)
 
-pub start_other : {T : ℕ} (k : Stack) {c : ℕ} {s : List ℕ} {w : Reading} → (x : Kind) → kind c ≡ x → (kind c ≡ At → ⊥) → Reads T (c ∷ s) w → Resumes T (text_step [] k c x) s w
+pub start_other : {T : ℕ} (k : Stack) {c : ℕ} {s : List ℕ} {w : Reading} → (x : Kind) → kind c ≡ x → (kind c ≡ At → ⊥) → Reads T (c ∷ s) w → ResumesAt T (plain_step [] k c x) s w
 start_other k x h n (expression ha ex) = absurd (n ha)
 start_other k x h n (two_ats ha hb i) = absurd (n ha)
 start_other k {c = c} {s = s} x h n (no_at {items = items} h' i) = forward_text [] k c x s items h i
@@ -278,7 +278,7 @@ sign_brace ha h (two_ats h1 h2 i) = absurd (cc)
 sign_brace ha h (no_at h1 i) = absurd (h1 ha)
 sign_brace ha h (part_first h1 h2 i) = one_brace ha h i
 
-pub sign_other : {T : ℕ} {a c : ℕ} {s : List ℕ} {w : Reading} → (x : Kind) → kind a ≡ At → kind c ≡ x → (kind c ≡ At → ⊥) → (kind c ≡ Brace → ⊥) → Reads T (a ∷ c ∷ s) w → Resumes T (begin whole c x) s w
+pub sign_other : {T : ℕ} {a c : ℕ} {s : List ℕ} {w : Reading} → (x : Kind) → kind a ≡ At → kind c ≡ x → (kind c ≡ At → ⊥) → (kind c ≡ Brace → ⊥) → Reads T (a ∷ c ∷ s) w → ResumesAt T (begun whole c x) s w
 sign_other x ha h n n' (expression h1 ex) = forward_whole _ x h ex
 sign_other x ha h n n' (two_ats h1 h2 i) = absurd (n h2)
 sign_other x ha h n n' (no_at h1 i) = absurd (h1 ha)
@@ -305,7 +305,7 @@ forward {k = k} {c = c} {s = s} {w = w} g (r_sign {a = a} r) = forward_sign a k 
 forward {k = k} {c = c} {s = s} g (r_plain {front = front} {items = items} i) = forward_text front k c (kind c) s items refl i
 forward {k = k} {c = c} {s = s} g (r_one {front = front} {items = items} {a = a} i) = forward_one front a k c (kind c) s items g refl i
 forward {k = k} {c = c} {s = s} g (r_two {front = front} {items = items} {a = a} {b = b} i) = forward_two front a b k c (kind c) s items g.0 g.1 refl i
-forward g (r_first x up) = forward_begin x up
+forward g (r_first x up) = forward_begun x up
 forward g (r_args x a) = forward_args x a
 forward g (r_int {neg = neg} {v = v} ds lt a) = forward_int neg v ds lt a
 forward g (r_minus h ds lt a) = rw h (r_int {neg = true} ds lt a)

@@ -1,5 +1,3 @@
-mod TreeFieldLemmas
-pub mod ChainLemmas
 pub mod DraftLemmas
 pub mod FrontLemmas
 pub mod PieceLemmas
@@ -12,6 +10,7 @@ pub mod Keeps
 pub mod Alive
 pub mod Scans
 pub mod ParseLemmas
+pub mod TextLemmas
 mod Rows
 mod QuoteLemmas
 mod Derivation

@@ -5,10 +5,10 @@ use Rattle.wf_expr.specs.Parsed.{IsTemplate, IsSyntaxAt, IsTooLongBy, HasFault}
 use Rattle.wf_expr.specs.Parses.{Parses}
 use Rattle.wf_expr.specs.Reading.{Reading, template_of}
 use Rattle.wf_expr.specs.Spells.{Spells, IsFault, IsTooLong, too_long}
-use Rattle.wf_expr.specs.TemplateSeen.{template_tree}
-use Rattle.wf_expr.specs.TemplateTree.{TemplateTree}
+use Rattle.wf_template.specs.TemplateSeen.{template_tree}
+use Rattle.wf_template.specs.TemplateTree.{TemplateTree}
 use Rattle.wf_expr.specs.declared.fault.ParseFault.{ParseFault}
-use Rattle.wf_expr.specs.declared.template.Template.{Template}
+use Rattle.wf_template.specs.declared.template.Template.{Template}
 use Rattle.wf_expr.proofs.Scans.{found, only, fault}
 
 pub spelled : (r : Result Template ParseFault) (s : List ℕ) → Parses r s → IfOk r (λ t. Spells s (template_tree t))

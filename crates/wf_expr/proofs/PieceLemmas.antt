@@ -4,8 +4,8 @@ use Rattle.std.specs.Char.{encode_utf8}
 use Rattle.std.specs.declared.string.String.{String}
 use Rattle.std.proofs.lemmas.Str.{encodes-chars, IsUtf8-string_bytes, length-encode, len_utf8_bounds}
 use lib.Utf8.{encodes}
-use Rattle.wf_expr.specs.ExprTree.{ExprTree}
-use Rattle.wf_expr.specs.TemplateTree.{PieceTree, letters, part, plain, parts}
+use Rattle.wf_template.specs.ExprTree.{ExprTree}
+use Rattle.wf_template.specs.TemplateTree.{PieceTree, letters, part, plain, parts}
 use Rattle.wf_expr.specs.Reading.{Item, character, embedded, put_character, pieces_of, template_of_pieces}
 use Rattle.wf_expr.specs.Spells.{over, first_over}
 use Rattle.wf_expr.specs.FrontSeen.{characters, sections_seen, items_seen, lettered, sections_pieces, sections_over}

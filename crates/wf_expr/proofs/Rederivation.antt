@@ -5,7 +5,7 @@ use Rattle.std.specs.Char.{encode_utf8}
 use Rattle.wf_expr.specs.Kinds.{kind}
 use Rattle.wf_expr.specs.declared.kind.Kind.TheVariants.{Letter}
 use Rattle.wf_expr.specs.Words.{Word, is_true, is_false, is_null}
-use Rattle.wf_expr.specs.ExprTree.{ExprTree, ExprTrees}
+use Rattle.wf_template.specs.ExprTree.{ExprTree, ExprTrees}
 use Rattle.wf_expr.specs.Grammar.{IsMore, Tail, no_more, more, MemberTail, no_more_member, more_digit_member, more_member, MemberName, blank_member, member_name, Expr, blank, begins, Primary, int, minus_int, quoted, word, calls, Args, blank_args, no_args, args, More, close, comma, Accesses, no_access, blank_access, access, soft_access, Access, name_access, key_access}
 use Rattle.wf_expr.specs.Printable.{IsFunctionName, IsMemberMore, IsMemberName, IsPrintable, ArePrintable}
 use Rattle.wf_expr.proofs.Derivation.{own, low_letter, low_more, low_first, low_member}

@@ -3,13 +3,13 @@ use Rattle.std.proofs.Common.{length, ◌≡◌, ℕ, suc, ◌-◌, ◌<◌, Boo
 use Rattle.std.specs.Char.{encode_utf8}
 use Rattle.wf_expr.specs.declared.kind.Kind.TheVariants.{Digit, Quote, Unbracket, Unbrace}
 use Rattle.wf_expr.specs.Kinds.{kind}
-use Rattle.wf_expr.specs.ExprTree.{ExprTree, call, member, index, ExprTrees, expr_then}
+use Rattle.wf_template.specs.ExprTree.{ExprTree, call, member, index, ExprTrees, expr_then}
 use Rattle.wf_expr.specs.Reading.{number_literal, text_literal, joined, Item, embedded, Reading, whole_of, items_of, signed, limit}
 use Rattle.wf_expr.specs.Words.{Word}
 use Rattle.wf_expr.specs.WordTests.{word_front}
 use Rattle.wf_expr.proofs.WordLemmas.{front-Word}
 use Rattle.wf_expr.specs.Grammar.{place, Digits, Quoted, MemberTail, MemberName, Tail, Expr, Opens, Args, More, Accesses, Access, Items, Reads}
-use Rattle.wf_expr.specs.Machine.{Stack, whole, in_part, depth, call_of, key_of, Mode, at_start, at_sign, plain, one_at, two_at, at_first, at_args, at_minus, in_int, in_quoted, at_quote, in_name, at_named, after, at_soft, at_dot, in_member, State, opens, names}
+use Rattle.wf_expr.specs.Machine.{Stack, whole, in_part, depth, call_of, key_of, Mode, at_start, at_sign, plain, one_at, two_at, at_first, at_args, at_minus, in_int, in_quoted, at_quote, in_name, at_named, after, at_soft, at_dot, in_member, State, opens, named}
 
 mutual
   -- e is read whole, and s follows
@@ -57,7 +57,7 @@ pub joined-snoc : (xs : List ExprTree) (b : ExprTree) (es : ExprTrees) → joine
 joined-snoc [] b es = refl
 joined-snoc (x ∷ xs) b es = ap (λ t. expr_then x t) (joined-snoc xs b es)
 
-pub opened : {T : ℕ} (k : Stack) (st : State) {s : List ℕ} {w : Reading} → depth k < 64 → Rest T st.0 st.1 s w → Resumes T (opens k st) s w
+pub opened : {T : ℕ} (k : Stack) (st : State) {s : List ℕ} {w : Reading} → depth k < 64 → Rest T st.0 st.1 s w → ResumesAt T (opens k st) s w
 opened k st lt r = let e : nat_lt (depth k) 64 ≡ true = grind arith in rw e r
 
 pub or_left : (a b : Bool) → a ≡ true → (a || b) ≡ true
@@ -71,8 +71,8 @@ or_right false b h = h
 pub can_open : (k : Stack) → depth k < 64 → nat_lt (depth k) 64 ≡ true
 can_open k lt = grind arith
 
-pub named_call : {T : ℕ} (t : List ℕ) (k : Stack) (s : List ℕ) (w : Reading) → depth k < 64 → Rest T (in_name t) k s w → Resumes T (names t k) s w
+pub named_call : {T : ℕ} (t : List ℕ) (k : Stack) (s : List ℕ) (w : Reading) → depth k < 64 → Rest T (in_name t) k s w → ResumesAt T (named t k) s w
 named_call t k s w lt r = let e = or_left (nat_lt (depth k) 64) (word_front t) (can_open k lt) in rw e r
 
-pub named_word : {T : ℕ} (t a : List ℕ) (v : ExprTree) (k : Stack) (s : List ℕ) (w : Reading) → Word (t ++ a) v → Rest T (in_name t) k s w → Resumes T (names t k) s w
+pub named_word : {T : ℕ} (t a : List ℕ) (v : ExprTree) (k : Stack) (s : List ℕ) (w : Reading) → Word (t ++ a) v → Rest T (in_name t) k s w → ResumesAt T (named t k) s w
 named_word t a v k s w wd r = let e = or_right (nat_lt (depth k) 64) (word_front t) (front-Word t a wd) in rw e r

@@ -1,15 +1,17 @@
 -- What the machine answers is what the grammar says.
 use Rattle.std.proofs.Common.{◌-◌, zero-add, ◌≡◌, ℕ, suc, ◌+◌, ◌<◌, ◌≤◌, Bool, zero, List, [], ◌∷◌, ◌++◌, length, take, Option, Some, None, Result, Ok, Err, refl, sym, ap, subst, arith, append-nil, ◌∙◌, inl, inr}
+use Rattle.std.specs.Char.{IsScalar}
+use Rattle.std.specs.List.{AllByRecursion}
 use Rattle.wf_expr.specs.declared.kind.Kind.TheVariants.{At}
 use Rattle.wf_expr.specs.Kinds.{kind}
-use Rattle.wf_expr.specs.ExprTree.{ExprTree, member}
+use Rattle.wf_template.specs.ExprTree.{ExprTree, member}
 use Rattle.wf_expr.specs.Reading.{template_of, number_literal, text_literal, Item, character, Reading, whole_of, items_of, signed}
 use Rattle.wf_expr.specs.Words.{Word}
 use Rattle.wf_expr.specs.WordTests.{word_of}
 use Rattle.wf_expr.proofs.WordLemmas.{Word-of, of-Word}
 use Rattle.wf_expr.specs.Grammar.{Digits, no_digit, digit, Quoted, Tail, no_more, more, MemberTail, no_more_member, Expr, begins, blank, Accesses, no_access, access, Access, Unmarked, no_mark, at_at_end, at_no_mark, Items, no_items, escape, part, itself_char, itself_at, Reads, expression, two_ats, empty, no_at, part_first}
 use Rattle.wf_expr.specs.Spells.{Derives, Spells, IsFault, IsTooLong, too_long, Outcome}
-use Rattle.wf_expr.specs.TemplateTree.{TemplateTree}
+use Rattle.wf_template.specs.TemplateTree.{TemplateTree}
 use Rattle.wf_expr.specs.Machine.{step_at, Stack, whole, Mode, at_start, at_sign, plain, one_at, two_at, in_int, at_quote, in_name, at_named, after, in_member, State, step, word_end, finish, went, ended, scan, start}
 use Rattle.wf_expr.proofs.Residual.{ResumesAt, Up, done, part_done, After, accessed, Rest, r_start, r_sign, r_plain, r_one, r_two, r_first, r_args, r_int, r_quoted, r_ended, r_twice, r_call, r_word, r_named_call, r_named_word, r_after, r_soft, r_dot, r_member, Resumes}
 use Rattle.wf_expr.proofs.Forward.{forward, Good}
@@ -145,11 +147,11 @@ scan_ok (c ∷ s) m k at w g e =
 -- the fault, behind a state and `at` characters
 pub record Stops (at : ℕ) (m : Mode) (k : Stack) (s : List ℕ) (d : ℕ) : Type 0 where
   pub within : d ≤ length s
-  pub viable : (rest : List ℕ) × (w : Reading) × Rest (at + length (take d s ++ rest)) m k (take d s ++ rest) w
+  pub viable : (rest : List ℕ) × AllByRecursion IsScalar rest × (w : Reading) × Rest (at + length (take d s ++ rest)) m k (take d s ++ rest) w
   pub longest : (j : ℕ) → d < j → j ≤ length s → (rest : List ℕ) (w : Reading) → Rest (at + length (take j s ++ rest)) m k (take j s ++ rest) w → ⊥
 
-completed : (at : ℕ) (m : Mode) (k : Stack) → Good m k → (rest : List ℕ) × (w : Reading) × Rest (at + length rest) m k rest w
-completed at m k g = let a = alive m k g in let r = a.1 (at + length a.0) in (a.0, r.0, r.1)
+completed : (at : ℕ) (m : Mode) (k : Stack) → Good m k → (rest : List ℕ) × AllByRecursion IsScalar rest × (w : Reading) × Rest (at + length rest) m k rest w
+completed at m k g = let a = alive m k g in let r = a.2 (at + length a.0) in (a.0, a.1, r.0, r.1)
 
 stops_here : (at : ℕ) (m : Mode) (k : Stack) (c : ℕ) (s : List ℕ) → Good m k → step (m, k) c at ≡ None → Stops at m k (c ∷ s) 0
 stops_here at m k c s g e = record {
@@ -165,7 +167,7 @@ stops_here at m k c s g e = record {
 stops_after : (at : ℕ) (m : Mode) (k : Stack) (c : ℕ) (s : List ℕ) (st : State) (d : ℕ) → Good m k → step (m, k) c at ≡ Some st → Stops (at + 1) st.0 st.1 s d → Stops at m k (c ∷ s) (suc d)
 stops_after at m k c s st d g e x = record {
   within = omega (arith, x.within);
-  viable = let v = x.viable in (v.0, v.1, given at m k c _ _ g (let P : Option State → Type 0 = λ o. ResumesAt (at + 1 + length (take d s ++ v.0)) o (take d s ++ v.0) v.1 in subst P (sym e) v.2));
+  viable = let v = x.viable in (v.0, v.1, v.2, given at m k c _ _ g (let P : Option State → Type 0 = λ o. ResumesAt (at + 1 + length (take d s ++ v.0)) o (take d s ++ v.0) v.2 in subst P (sym e) v.3));
   longest = λ j lt le rest w r. refuses j lt le rest w r;
 }
   where
@@ -245,8 +247,8 @@ fault s at h = let x = scan_err s at_start whole 0 at tt h in let e : x.0 ≡ at
     let P : ℕ → Type 0 = IsFault s in subst P e (record {
       none = λ t d. let o = only s d.reading d.reads in cc;
       within = x.2.within;
-      viable = let v = x.2.viable in (v.0, template_of v.1, derived v.1 (leaves v.2));
-      longest = λ j lt le y. x.2.longest j lt le y.0 y.2.reading (enters y.2.reads);
+      viable = let v = x.2.viable in (v.0, v.1, template_of v.2, derived v.2 (leaves v.3));
+      longest = λ j lt le y. x.2.longest j lt le y.0 y.3.reading (enters y.3.reads);
     })
 
 -- every text is read, is read but for its length, or is refused

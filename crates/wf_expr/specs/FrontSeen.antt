@@ -1,7 +1,7 @@
 -- What the part of a text that is read stands for.
 use Rattle.std.specs.Prelude.{ℕ, Option, None, List, [], ◌∷◌, ◌++◌, map, chars, string_bytes}
 use Rattle.wf_expr.specs.Reading.{Item, character, embedded}
-use Rattle.wf_expr.specs.TemplateTree.{PieceTree, letters, part}
+use Rattle.wf_template.specs.TemplateTree.{PieceTree, letters, part}
 use Rattle.wf_expr.specs.Spells.{over}
 use Rattle.wf_expr.specs.declared.front.Front.{Front}
 use Rattle.wf_expr.specs.declared.front.Section.{Section}

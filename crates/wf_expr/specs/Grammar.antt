@@ -6,7 +6,7 @@ use Rattle.std.specs.Char.{encode_utf8}
 use Rattle.wf_expr.specs.Kinds.{kind}
 use Rattle.wf_expr.specs.declared.kind.Kind.TheVariants.{Blank, Digit, Letter, Quote, Open, Close, Bracket, Unbracket, Comma, Dot, Soft, Under, Dollar, Minus, At, Brace, Unbrace}
 use Rattle.wf_expr.specs.Words.{Word}
-use Rattle.wf_expr.specs.ExprTree.{ExprTree, call, member, index, ExprTrees, no_exprs, expr_then}
+use Rattle.wf_template.specs.ExprTree.{ExprTree, call, member, index, ExprTrees, no_exprs, expr_then}
 use Rattle.wf_expr.specs.Reading.{number_literal, text_literal, Item, character, embedded, Reading, whole_of, items_of, signed, limit}
 
 -- Digits go on from the number so far to the whole number.

@@ -1,15 +1,3 @@
-pub mod ExprTree
-pub mod ExprSeen
-pub mod ChainSeen
-pub mod TemplateTree
-pub mod TemplateSeen
-pub mod DataTree
-pub mod DataSeen
-pub mod DataCode
-pub mod DataCounts
-pub mod DataCountFalls
-pub mod CondTree
-pub mod CondSeen
 pub mod Kinds
 pub mod Reading
 pub mod Words
@@ -17,8 +5,7 @@ pub mod Grammar
 pub mod Spells
 pub mod WordTests
 pub mod Machine
-pub mod DraftSeen
-pub mod ExprCounts
+pub mod Text
 pub mod FrontSeen
 pub mod StackSeen
 pub mod ModeSeen
@@ -26,7 +13,6 @@ pub mod InPlace
 pub mod ReadSeen
 pub mod Parsed
 pub mod Parses
-pub mod DraftFalls
 pub mod Printed
 pub mod Printable
 pub mod Unwritten

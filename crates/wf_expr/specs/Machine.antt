@@ -5,7 +5,7 @@ use Rattle.wf_expr.specs.declared.kind.Kind.{Kind}
 use Rattle.wf_expr.specs.declared.kind.Kind.TheVariants.{Blank, Digit, Letter, Quote, Open, Close, Bracket, Unbracket, Comma, Dot, Soft, Under, Dollar, Minus, At, Brace, Unbrace}
 use Rattle.wf_expr.specs.Kinds.{kind}
 use Rattle.wf_expr.specs.WordTests.{word_of, word_front}
-use Rattle.wf_expr.specs.ExprTree.{ExprTree, call, member, index, no_exprs}
+use Rattle.wf_template.specs.ExprTree.{ExprTree, call, member, index, no_exprs}
 use Rattle.wf_expr.specs.Reading.{number_literal, text_literal, joined, Item, character, embedded, Reading, whole_of, items_of, signed, limit}
 
 -- what is open: a call with the arguments so far, or a base whose key is read
@@ -48,11 +48,9 @@ abbrev pub allowed : Bool → State → Option State
 allowed true s = Some s
 allowed false s = None
 
-abbrev pub checked : Bool → State → ℕ → Option State
-checked b s at = allowed b s
-
-abbrev pub opens : Stack → State → ℕ → Option State
-opens k s at = checked (nat_lt (depth k) 64) s at
+-- another bracket opens only below 64
+abbrev pub opens : Stack → State → Option State
+opens k s = allowed (nat_lt (depth k) 64) s
 
 -- the innermost part that a bracket opened
 pub data Opened : Type 0 where
@@ -95,8 +93,8 @@ closed b (Some (open_call f front)) k = Some (after (call f (joined (front ++ b 
 closed b (Some (open_key x soft)) k = None
 closed b None k = None
 
-abbrev pub closes : ExprTree → Stack → ℕ → Option State
-closes b k at = closed b (top k) (below k)
+abbrev pub closes : ExprTree → Stack → Option State
+closes b k = closed b (top k) (below k)
 
 -- a `,` after it
 abbrev pub separated : ExprTree → Option Opened → Stack → Option State
@@ -104,8 +102,8 @@ separated b (Some (open_call f front)) k = Some (at_first, call_of f (front ++ b
 separated b (Some (open_key x soft)) k = None
 separated b None k = None
 
-abbrev pub separates : ExprTree → Stack → ℕ → Option State
-separates b k at = separated b (top k) (below k)
+abbrev pub separates : ExprTree → Stack → Option State
+separates b k = separated b (top k) (below k)
 
 -- a `]` after it
 abbrev pub key_ended : ExprTree → Option Opened → Stack → Option State
@@ -113,8 +111,8 @@ key_ended b (Some (open_key x soft)) k = Some (after (index x b soft), k)
 key_ended b (Some (open_call f front)) k = None
 key_ended b None k = None
 
-abbrev pub ends_key : ExprTree → Stack → ℕ → Option State
-ends_key b k at = key_ended b (top k) (below k)
+abbrev pub ends_key : ExprTree → Stack → Option State
+ends_key b k = key_ended b (top k) (below k)
 
 -- a `}` after it
 abbrev pub part_ended : ExprTree → Option (List Item × ℕ) → ℕ → Option State
@@ -129,10 +127,10 @@ abbrev pub follow : ExprTree → Stack → Kind → ℕ → Option State
 follow b k Blank at = Some (after b, k)
 follow b k Dot at = Some (at_dot b false, k)
 follow b k Soft at = Some (at_soft b, k)
-follow b k Bracket at = opens k (at_first, key_of b false k) at
-follow b k Comma at = separates b k at
-follow b k Close at = closes b k at
-follow b k Unbracket at = ends_key b k at
+follow b k Bracket at = opens k (at_first, key_of b false k)
+follow b k Comma at = separates b k
+follow b k Close at = closes b k
+follow b k Unbracket at = ends_key b k
 follow b k Unbrace at = ends_part b k at
 follow b k _ at = None
 
@@ -143,9 +141,6 @@ is_word (Some v) = true
 -- a name that can still be a call's, or a word
 abbrev pub named : List ℕ → Stack → Option State
 named t k = allowed (nat_lt (depth k) 64 || word_front t) (in_name t, k)
-
-abbrev pub names : List ℕ → Stack → ℕ → Option State
-names t k at = named t k
 
 -- after a word
 abbrev pub after_word : Option ExprTree → Stack → Kind → ℕ → Option State
@@ -160,9 +155,6 @@ begun k c Minus = Some (at_minus, k)
 begun k c Quote = Some (in_quoted [], k)
 begun k c Letter = named (encode_utf8 c) k
 begun k c _ = None
-
-abbrev pub begin : Stack → ℕ → Kind → ℕ → Option State
-begin k c x at = begun k c x
 
 -- where arguments may begin
 abbrev pub args_step : List ℕ → Stack → ℕ → Kind → Option State
@@ -183,7 +175,7 @@ quoted_step t k c x = Some (in_quoted (t ++ encode_utf8 c), k)
 -- after a `?`
 abbrev pub soft_step : ExprTree → Stack → Kind → Option State
 soft_step b k Dot = Some (at_dot b true, k)
-soft_step b k Bracket = allowed (nat_lt (depth k) 64) (at_first, key_of b true k)
+soft_step b k Bracket = opens k (at_first, key_of b true k)
 soft_step b k x = None
 
 -- after a `.`
@@ -199,9 +191,6 @@ abbrev pub plain_step : List Item → Stack → ℕ → Kind → Option State
 plain_step items k c At = Some (one_at items c, k)
 plain_step items k c x = Some (plain (items ++ character c ∷ []), k)
 
-abbrev pub text_step : List Item → Stack → ℕ → Kind → ℕ → Option State
-text_step items k c x at = plain_step items k c x
-
 -- at the start of the text
 abbrev pub start_step : Stack → ℕ → Kind → Option State
 start_step k c At = Some (at_sign c, k)
@@ -211,30 +200,30 @@ abbrev pub step_at : Mode → Stack → ℕ → Kind → ℕ → Option State
 step_at at_start k c x at = start_step k c x
 step_at (at_sign a) k c At at = Some (plain (character a ∷ []), k)
 step_at (at_sign a) k c Brace at = Some (at_first, in_part [] at)
-step_at (at_sign a) k c x at = begin whole c x at
-step_at (plain items) k c x at = text_step items k c x at
+step_at (at_sign a) k c x at = begun whole c x
+step_at (plain items) k c x at = plain_step items k c x
 step_at (one_at items a) k c At at = Some (two_at items a c, k)
 step_at (one_at items a) k c Brace at = Some (at_first, in_part items at)
 step_at (one_at items a) k c x at = Some (plain (items ++ character a ∷ character c ∷ []), k)
 step_at (two_at items a b) k c At at = Some (two_at (items ++ character a ∷ []) b c, k)
 step_at (two_at items a b) k c Brace at = Some (plain (items ++ character b ∷ character c ∷ []), k)
 step_at (two_at items a b) k c x at = Some (plain (items ++ character a ∷ character b ∷ character c ∷ []), k)
-step_at at_first k c x at = begin k c x at
+step_at at_first k c x at = begun k c x
 step_at (at_args f) k c x at = args_step f k c x
 step_at at_minus k c x at = minus_step k c x
-step_at (in_int neg v) k c Digit at = let z = 10 * v + (c - 48) in checked (nat_lt z (limit neg)) (in_int neg z, k) at
+step_at (in_int neg v) k c Digit at = let z = 10 * v + (c - 48) in allowed (nat_lt z (limit neg)) (in_int neg z, k)
 step_at (in_int neg v) k c x at = follow (number_literal (signed neg v)) k x at
 step_at (in_quoted t) k c x at = quoted_step t k c x
 step_at (at_quote t) k c Quote at = Some (in_quoted (t ++ encode_utf8 c), k)
 step_at (at_quote t) k c x at = follow (text_literal t) k x at
-step_at (in_name t) k c Letter at = names (t ++ encode_utf8 c) k at
-step_at (in_name t) k c Digit at = names (t ++ encode_utf8 c) k at
-step_at (in_name t) k c Under at = names (t ++ encode_utf8 c) k at
-step_at (in_name t) k c Blank at = checked (nat_lt (depth k) 64 || is_word (word_of t)) (at_named t, k) at
-step_at (in_name t) k c Open at = opens k (at_args t, k) at
+step_at (in_name t) k c Letter at = named (t ++ encode_utf8 c) k
+step_at (in_name t) k c Digit at = named (t ++ encode_utf8 c) k
+step_at (in_name t) k c Under at = named (t ++ encode_utf8 c) k
+step_at (in_name t) k c Blank at = allowed (nat_lt (depth k) 64 || is_word (word_of t)) (at_named t, k)
+step_at (in_name t) k c Open at = opens k (at_args t, k)
 step_at (in_name t) k c x at = after_word (word_of t) k x at
 step_at (at_named t) k c Blank at = Some (at_named t, k)
-step_at (at_named t) k c Open at = opens k (at_args t, k) at
+step_at (at_named t) k c Open at = opens k (at_args t, k)
 step_at (at_named t) k c x at = after_word (word_of t) k x at
 step_at (after b) k c x at = follow b k x at
 step_at (at_soft b) k c x at = soft_step b k x

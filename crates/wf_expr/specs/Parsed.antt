@@ -2,10 +2,10 @@
 use Rattle.std.specs.Prelude.{◌≡◌, ℕ, List, Result, Ok, Err}
 use Rattle.wf_val.specs.Cut.{cut_u32}
 use Rattle.wf_expr.specs.Spells.{IsFault, IsTooLong}
-use Rattle.wf_expr.specs.TemplateSeen.{template_tree}
-use Rattle.wf_expr.specs.TemplateTree.{TemplateTree}
+use Rattle.wf_template.specs.TemplateSeen.{template_tree}
+use Rattle.wf_template.specs.TemplateTree.{TemplateTree}
 use Rattle.wf_expr.specs.declared.fault.ParseFault.{ParseFault}
-use Rattle.wf_expr.specs.declared.template.Template.{Template}
+use Rattle.wf_template.specs.declared.template.Template.{Template}
 
 -- the template t is given, unless memory ran out
 abbrev pub IsTemplate : Result Template ParseFault → TemplateTree → Type 0

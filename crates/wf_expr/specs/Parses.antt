@@ -5,10 +5,10 @@ use Rattle.wf_expr.specs.Machine.{scan, start}
 use Rattle.wf_expr.specs.ReadSeen.{Refused}
 use Rattle.wf_expr.specs.Reading.{Reading, template_of}
 use Rattle.wf_expr.specs.Spells.{too_long}
-use Rattle.wf_expr.specs.TemplateSeen.{template_tree}
-use Rattle.wf_expr.specs.TemplateTree.{TemplateTree}
+use Rattle.wf_template.specs.TemplateSeen.{template_tree}
+use Rattle.wf_template.specs.TemplateTree.{TemplateTree}
 use Rattle.wf_expr.specs.declared.fault.ParseFault.{ParseFault}
-use Rattle.wf_expr.specs.declared.template.Template.{Template}
+use Rattle.wf_template.specs.declared.template.Template.{Template}
 
 -- the length that is told is that of an expression that is too long, cut
 pub record IsOver (o : Option ℕ) (length : ℕ) : Type 0 where

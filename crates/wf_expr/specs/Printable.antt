@@ -5,7 +5,7 @@ use Rattle.wf_val.specs.ValueTree.{ValueTree, null, boolean, number, text, list,
 use Rattle.wf_expr.specs.Kinds.{kind}
 use Rattle.wf_expr.specs.declared.kind.Kind.TheVariants.{Letter, Digit}
 use Rattle.wf_expr.specs.Grammar.{IsMore, IsFirst}
-use Rattle.wf_expr.specs.ExprTree.{ExprTree, literal, call, member, index, ExprTrees, no_exprs, expr_then}
+use Rattle.wf_template.specs.ExprTree.{ExprTree, literal, call, member, index, ExprTrees, no_exprs, expr_then}
 
 abbrev pub IsPrintableValue : ValueTree → Type 0
 IsPrintableValue null = ⊤

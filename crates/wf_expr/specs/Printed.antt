@@ -2,7 +2,7 @@
 use Rattle.std.specs.Prelude.{ℕ, Bool, true, false, List, [], ◌∷◌, ◌++◌, ◌==◌, if◌then◌else◌, flat_map}
 use Rattle.std.specs.Fmt.{signed_decimal}
 use Rattle.wf_val.specs.ValueTree.{ValueTree, null, boolean, number, text, list, object}
-use Rattle.wf_expr.specs.ExprTree.{ExprTree, literal, call, member, index, ExprTrees, no_exprs, expr_then}
+use Rattle.wf_template.specs.ExprTree.{ExprTree, literal, call, member, index, ExprTrees, no_exprs, expr_then}
 use Rattle.wf_expr.specs.Words.{true_text, false_text, null_text}
 
 -- a quote stands twice in a quoted text, and every other byte once

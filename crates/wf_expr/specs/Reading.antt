@@ -2,8 +2,8 @@
 use Rattle.std.specs.Prelude.{ℕ, zero, suc, ℤ, pos, negsuc, true, false, ◌^◌, ◌+◌, ◌++◌, Bool, List, [], ◌∷◌}
 use Rattle.std.specs.Char.{encode_utf8}
 use Rattle.wf_val.specs.ValueTree.{null, boolean, number, text}
-use Rattle.wf_expr.specs.ExprTree.{ExprTree, literal, ExprTrees, expr_then}
-use Rattle.wf_expr.specs.TemplateTree.{PieceTree, letters, part, TemplateTree, plain, whole, parts}
+use Rattle.wf_template.specs.ExprTree.{ExprTree, literal, ExprTrees, expr_then}
+use Rattle.wf_template.specs.TemplateTree.{PieceTree, letters, part, TemplateTree, plain, whole, parts}
 
 -- the literals that a text can write
 abbrev pub null_literal : ExprTree

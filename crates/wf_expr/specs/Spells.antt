@@ -1,9 +1,11 @@
 -- Which template a text spells, where a text goes wrong that spells none, and which text has too long an expression.
 -- Texts are characters here; lengths and places count Unicode scalar values.
 use Rattle.std.specs.Prelude.{◌≡◌, ℕ, ◌<◌, ◌≤◌, ◌-◌, ◌⊎◌, List, [], ◌∷◌, ◌++◌, Option, Some, None, if◌then◌else◌, nat_lt, take, length}
+use Rattle.std.specs.Char.{IsScalar}
+use Rattle.std.specs.List.{AllByRecursion}
 use Rattle.wf_expr.specs.Grammar.{Reads}
 use Rattle.wf_expr.specs.Reading.{Item, character, embedded, Reading, whole_of, items_of, template_of}
-use Rattle.wf_expr.specs.TemplateTree.{TemplateTree}
+use Rattle.wf_template.specs.TemplateTree.{TemplateTree}
 
 -- an expression of n characters, after which others are measured
 abbrev pub over : ℕ → Option ℕ → Option ℕ
@@ -39,9 +41,9 @@ pub record IsTooLong (s : List ℕ) (n : ℕ) : Type 0 where
   pub reads : Reads (length s) s reading
   pub first : too_long s reading ≡ Some n
 
--- it can be continued to a text that derives a template
+-- characters can follow it so that the whole derives a template
 abbrev pub CanGoOn : List ℕ → Type 0
-CanGoOn front = (rest : List ℕ) × (t : TemplateTree) × Derives (front ++ rest) t
+CanGoOn front = (rest : List ℕ) × AllByRecursion IsScalar rest × (t : TemplateTree) × Derives (front ++ rest) t
 
 -- the text derives no template, and at is the length of the longest front of it that can be continued to one that does
 pub record IsFault (s : List ℕ) (at : ℕ) : Type 0 where

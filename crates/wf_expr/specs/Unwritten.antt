@@ -1,8 +1,9 @@
 -- What is left to write while an expression is printed.
-use Rattle.std.specs.Prelude.{◌≡◌, ℕ, ◌+◌, List, [], ◌∷◌, ◌++◌, map, reverse, Option, Some, None, ⊤}
+use Rattle.std.specs.Prelude.{◌≡◌, ℕ, ◌+◌, ◌*◌, List, [], ◌∷◌, ◌++◌, map, reverse, Option, Some, None, ⊤}
 use Rattle.wf_val.specs.WellFormed.{IsWellFormed}
-use Rattle.wf_expr.specs.ExprTree.{ExprTree, literal, call, member, index, ExprTrees, no_exprs, expr_then, expr_trees}
-use Rattle.wf_expr.specs.ExprSeen.{expr_tree}
+use Rattle.wf_template.specs.ExprTree.{ExprTree, literal, call, member, index, ExprTrees, no_exprs, expr_then, expr_trees}
+use Rattle.wf_template.specs.ExprSeen.{expr_tree}
+use Rattle.wf_template.specs.ExprCounts.{expr_count, exprs_count}
 use Rattle.wf_expr.specs.Printed.{printed, printed_more}
 use Rattle.wf_expr.specs.declared.unwritten.Part.{Part}
 use Rattle.wf_expr.specs.declared.unwritten.Unwritten.{Unwritten}
@@ -36,21 +37,10 @@ text_left [] = []
 text_left (u ∷ us) = text_of_part u ++ text_left us
 
 -- a bound on how many parts are still to be taken: each counts for more than those that it leaves
-abbrev mutual
-  pub work : ExprTree → ℕ
-  work (literal v) = 1
-  work (call f es) = 1 + works es
-  work (member b x soft) = 3 + work b
-  work (index b k soft) = 3 + (work b + work k)
-
-  pub works : ExprTrees → ℕ
-  works no_exprs = 1
-  works (expr_then e es) = 1 + (work e + works es)
-
 abbrev pub work_of_part : PartTree → ℕ
-work_of_part (expression e) = work e
+work_of_part (expression e) = 3 * expr_count e
 work_of_part (bytes s) = 1
-work_of_part (arguments es) = works es
+work_of_part (arguments es) = 3 * exprs_count es + 1
 
 abbrev pub work_left : List PartTree → ℕ
 work_left [] = 0

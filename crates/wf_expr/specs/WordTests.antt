@@ -1,7 +1,7 @@
 -- Whether a name is a word, or begins one, as tests.
 use Rattle.std.specs.Prelude.{ℕ, Bool, true, false, List, [], ◌∷◌, nat_eq, ◌&&◌, ◌||◌, if◌then◌else◌, Option, Some, None}
 use Rattle.std.specs.Str.{str_eq_ignore_ascii_case}
-use Rattle.wf_expr.specs.ExprTree.{ExprTree}
+use Rattle.wf_template.specs.ExprTree.{ExprTree}
 use Rattle.wf_expr.specs.Reading.{boolean_literal, null_literal}
 use Rattle.wf_expr.specs.Words.{lower, true_text, false_text, null_text}
 

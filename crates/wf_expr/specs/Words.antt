@@ -1,7 +1,7 @@
 -- The words of expressions, without letter case: true, false and null.
 use Rattle.std.specs.Prelude.{◌≡◌, ℕ, true, false, List, [], ◌∷◌, map}
 use Rattle.std.specs.Char.{to_ascii_lowercase}
-use Rattle.wf_expr.specs.ExprTree.{ExprTree}
+use Rattle.wf_template.specs.ExprTree.{ExprTree}
 use Rattle.wf_expr.specs.Reading.{boolean_literal, null_literal}
 
 abbrev pub lower : List ℕ → List ℕ

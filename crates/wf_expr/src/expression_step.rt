@@ -74,7 +74,7 @@ pub(crate) fn in_args(
     match next.kind {
         Kind::Blank => Ok(Some(Mode::Args { name })),
         Kind::Close => Ok(Some(Mode::After {
-            base: Draft::call(alloc, name, Drafts::new(alloc)),
+            base: Draft::call(name, Drafts::new(alloc)),
         })),
         _ => {
             stack.push(Frame::Call {
@@ -108,7 +108,7 @@ pub(crate) fn in_number(
     match next.kind {
         Kind::Digit => Ok(digits.then(next.value).map(|digits| Mode::Int { digits })),
         _ => {
-            let base = Draft::literal(alloc, Val::Int(digits.value()));
+            let base = Draft::literal(Val::Int(digits.value()));
             after_base(alloc, base, stack, next)
         }
     }
@@ -142,7 +142,7 @@ pub(crate) fn after_quote(
             text: with_char(text, next.value)?,
         })),
         _ => {
-            let base = Draft::literal(alloc, Val::Text(Text::from_string(text)));
+            let base = Draft::literal(Val::Text(Text::from_string(text)));
             after_base(alloc, base, stack, next)
         }
     }
@@ -171,7 +171,7 @@ fn after_name(
     ensures { IfOk result (λ m. state_seen m stack.new ≡ after_word (word_of (string_bytes name)) (stack_seen stack.old) next.kind next.at) }
 {
     match word_value(&name) {
-        Some(value) => after_base(alloc, Draft::literal(alloc, value), stack, next),
+        Some(value) => after_base(alloc, Draft::literal(value), stack, next),
         None => Ok(None),
     }
 }
@@ -272,7 +272,7 @@ pub(crate) fn in_member_name(
             name: with_char(name, next.value)?,
         })),
         _ => {
-            let base = base.member(Text::from_string(name), soft)?;
+            let base = base.member(alloc, Text::from_string(name), soft)?;
             after_base(alloc, base, stack, next)
         }
     }

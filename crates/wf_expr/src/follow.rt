@@ -29,13 +29,13 @@ pub(crate) fn open_key(
 }
 
 #[tactic(auto, using(crate::proofs::DraftLemmas::joined_none))]
-fn close(alloc: Global, last: Draft, stack: &mut Stack) -> Result<Option<Mode>, AllocError>
+fn close(last: Draft, stack: &mut Stack) -> Result<Option<Mode>, AllocError>
     ensures { IfOk result (λ m. state_seen m stack.new ≡ closed last (top (stack_seen stack.old)) (below (stack_seen stack.old))) }
 {
     match stack.pop() {
         Some(Frame::Call { name, args }) => {
             let args = args.with(last)?;
-            let base = Draft::call(alloc, name, args);
+            let base = Draft::call(name, args);
             Ok(Some(Mode::After { base }))
         }
         _ => Ok(None),
@@ -55,12 +55,12 @@ fn separate(last: Draft, stack: &mut Stack) -> Result<Option<Mode>, AllocError>
     }
 }
 
-fn end_key(key: Draft, stack: &mut Stack) -> Result<Option<Mode>, AllocError>
+fn end_key(alloc: Global, key: Draft, stack: &mut Stack) -> Result<Option<Mode>, AllocError>
     ensures { IfOk result (λ m. state_seen m stack.new ≡ key_ended key (top (stack_seen stack.old)) (below (stack_seen stack.old))) }
 {
     match stack.pop() {
         Some(Frame::Key { base, soft }) => {
-            let base = base.index(key, soft)?;
+            let base = base.index(alloc, key, soft)?;
             Ok(Some(Mode::After { base }))
         }
         _ => Ok(None),
@@ -99,8 +99,8 @@ pub(crate) fn after_base(
         Kind::Soft => Ok(Some(Mode::Soft { base })),
         Kind::Bracket => open_key(base, false, stack),
         Kind::Comma => separate(base, stack),
-        Kind::Close => close(alloc, base, stack),
-        Kind::Unbracket => end_key(base, stack),
+        Kind::Close => close(base, stack),
+        Kind::Unbracket => end_key(alloc, base, stack),
         Kind::Unbrace => end_part(alloc, base, stack, next),
         _ => Ok(None),
     }

@@ -3,11 +3,11 @@ ghost use Rattle.std.specs.Prelude.{◌≡◌, [], ◌∷◌, ◌++◌, IfOk, On
 ghost use Rattle.wf_expr.specs.FrontSeen.{items_seen, lettered, sections_over, sections_pieces};
 ghost use Rattle.wf_expr.specs.Reading.{character, embedded, items_of, template_of};
 ghost use Rattle.wf_expr.specs.Spells.{first_over};
-ghost use Rattle.wf_expr.specs.TemplateSeen.{template_tree, pieces_seen};
+ghost use Rattle.wf_template.specs.TemplateSeen.{template_tree, pieces_seen};
 
 use crate::draft::Draft;
-use crate::template::{Piece, Pieces, Template};
 use std::alloc::{AllocError, Global};
+use wf_template::{Piece, Pieces, Template};
 use wf_val::Text;
 
 /// The greatest length of an expression in characters.
@@ -117,7 +117,7 @@ fn pieces_of(alloc: Global, sections: Vec<Section>) -> Result<Pieces, AllocError
     let mut pieces = Pieces::new(alloc);
     for section in sections {
         push_literal(&mut pieces, section.literal)?;
-        pieces.push(Piece::Part(section.expression.into_expr(alloc)?))?;
+        pieces.push(Piece::Part(section.expression.into_expr()))?;
     }
     Ok(pieces)
 }

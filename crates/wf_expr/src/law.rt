@@ -1,7 +1,8 @@
 //! Laws of the grammar, as promises of functions that do nothing.
-ghost use Rattle.std.specs.Prelude.{◌≡◌, ℕ, List, chars};
+ghost use Rattle.std.specs.Prelude.{◌≡◌, ◌↔◌, ℕ, List, Some, chars};
+ghost use Rattle.wf_expr.specs.Text.{template_in};
 ghost use Rattle.wf_expr.specs.Spells.{Derives, Spells, IsTooLong, Outcome};
-ghost use Rattle.wf_expr.specs.TemplateTree.{TemplateTree};
+ghost use Rattle.wf_template.specs.TemplateTree.{TemplateTree};
 
 /// Promises that no text has two templates or two lengths of its first too long expression, and does nothing.
 pub fn no_two_templates()
@@ -14,4 +15,9 @@ pub fn no_two_templates()
 /// does nothing. Places and lengths count Unicode scalar values.
 pub fn a_template_or_a_fault()
     ensures { (text : List ℕ) → Outcome (chars text) }
+{}
+
+/// Promises that the template of a text as a function of its bytes is the one that the text spells, and does nothing.
+pub fn the_template_of_a_text()
+    ensures { (text : List ℕ) (t : TemplateTree) → (template_in text ≡ Some t) ↔ Spells (chars text) t }
 {}

@@ -1,18 +1,19 @@
 //! Which template a text spells.
-ghost use Rattle.std.specs.Prelude.{◌≡◌, ℕ, IfOk, IfErr, chars};
+ghost use Rattle.std.specs.Prelude.{◌≡◌, ◌≢◌, ℕ, Some, None, IfOk, IfErr, chars};
 ghost use Rattle.wf_expr.specs.Parsed.{IsTemplate, IsSyntaxAt, IsTooLongBy, HasFault};
 ghost use Rattle.wf_expr.specs.Parses.{Concludes, Parses};
 ghost use Rattle.wf_expr.specs.ReadSeen.{read_seen};
 ghost use Rattle.wf_expr.specs.Reading.{template_of};
+ghost use Rattle.wf_expr.specs.Text.{template_in};
 ghost use Rattle.wf_expr.specs.Spells.{Spells, IsFault, IsTooLong, too_long};
-ghost use Rattle.wf_expr.specs.TemplateSeen.{template_tree};
-ghost use Rattle.wf_expr.specs.TemplateTree.{TemplateTree};
+ghost use Rattle.wf_template.specs.TemplateSeen.{template_tree};
+ghost use Rattle.wf_template.specs.TemplateTree.{TemplateTree};
 
 use crate::fault::{ParseFault, cut};
 use crate::front::LONGEST;
 use crate::reader::{Read, characters_of, read_text};
-use crate::template::Template;
 use std::alloc::{AllocError, Global};
+use wf_template::Template;
 use wf_val::Text;
 
 /// The length of the first expression that is too long.
@@ -32,7 +33,7 @@ fn template(alloc: Global, read: Read) -> Result<Template, AllocError>
     ensures { IfOk result (λ t. template_tree t ≡ template_of (read_seen read)) }
 {
     match read {
-        Read::Whole { expression } => Ok(Template::Whole(expression.into_expr(alloc)?)),
+        Read::Whole { expression } => Ok(Template::Whole(expression.into_expr())),
         Read::Items { front } => front.into_template(alloc),
     }
 }
@@ -64,6 +65,10 @@ pub fn parse_template(alloc: Global, text: &Text) -> Result<Template, ParseFault
     ensures spelled { IfOk result (λ t. Spells (chars text.now) (template_tree t)) }
     // The template that the text spells is given, unless memory runs out.
     ensures only { (t : TemplateTree) → Spells (chars text.now) t → IsTemplate result t }
+
+    // And so says the template of a text as a function.
+    ensures read { IfOk result (λ t. template_in text.now ≡ Some (template_tree t)) }
+    ensures refused { IfErr result (λ fault. fault ≢ ParseFault.Memory → template_in text.now ≡ None) }
 
     // Each fault is the text's.
     ensures faults { IfErr result (λ fault. HasFault (chars text.now) fault) }

@@ -1,23 +1,24 @@
 //! The text of an expression.
-ghost use Rattle.std.specs.Prelude.{◌≡◌, ◌+◌, ◌<◌, ◌≤◌, ◌∷◌, ◌++◌, [], ℕ, List, IfOk, OnOk, map, length, string_bytes, flat_map};
+ghost use Rattle.std.specs.Prelude.{◌≡◌, ◌+◌, ◌*◌, ◌<◌, ◌≤◌, ◌∷◌, ◌++◌, [], ℕ, List, IfOk, OnOk, map, length, string_bytes, flat_map};
 ghost use Rattle.std.specs.Str.{chars};
 ghost use Rattle.std.specs.Char.{encode_utf8};
 ghost use Rattle.std.specs.Fmt.{signed_decimal};
 ghost use Rattle.wf_val.specs.Seen.{tree};
 ghost use Rattle.wf_val.specs.WellFormed.{IsWellFormed};
-ghost use Rattle.wf_expr.specs.ExprTree.{expr_trees};
-ghost use Rattle.wf_expr.specs.ExprSeen.{expr_tree};
+ghost use Rattle.wf_template.specs.ExprTree.{expr_trees};
+ghost use Rattle.wf_template.specs.ExprSeen.{expr_tree};
+ghost use Rattle.wf_template.specs.ExprCounts.{expr_count, exprs_count};
 ghost use Rattle.wf_expr.specs.Printed.{printed, printed_args, printed_more, printed_value, quoted_byte, dot, bracket};
 ghost use Rattle.wf_expr.specs.Grammar as grammar;
 ghost use Rattle.wf_expr.specs.Printable.{IsPrintable};
 ghost use Rattle.wf_expr.specs.Spells.{Derives, Spells};
-ghost use Rattle.wf_expr.specs.TemplateTree.{whole};
-ghost use Rattle.wf_expr.specs.Unwritten.{part_tree, unwritten_seen, text_of_part, text_left, work, works, work_of_part, work_left, HasWellFormedLiterals, HaveWellFormedLiterals, IsWellFormedPart, AreWellFormed};
+ghost use Rattle.wf_template.specs.TemplateTree.{whole};
+ghost use Rattle.wf_expr.specs.Unwritten.{part_tree, unwritten_seen, text_of_part, text_left, work_of_part, work_left, HasWellFormedLiterals, HaveWellFormedLiterals, IsWellFormedPart, AreWellFormed};
 
-use crate::expr::Expr;
 use crate::unwritten::{Part, Unwritten};
 use std::alloc::{AllocError, Global};
 use std::fmt::Write;
+use wf_template::Expr;
 use wf_val::{Text, Val};
 
 /// The text of an expression, without white space. `IsPrintable` says which expressions a text can write: the printed
@@ -84,7 +85,7 @@ fn write_expr<'a>(
         ≡ string_bytes out.old
         ++ (printed (expr_tree expression.now) ++ text_left (unwritten_seen rest.old))) }
     ensures fewer { OnOk result (work_left (unwritten_seen rest.new)
-        < work (expr_tree expression.now) + work_left (unwritten_seen rest.old)) }
+        < 3 * expr_count (expr_tree expression.now) + work_left (unwritten_seen rest.old)) }
     ensures formed { OnOk result (AreWellFormed (unwritten_seen rest.new)
         → HasWellFormedLiterals (expr_tree expression.now) × AreWellFormed (unwritten_seen rest.old)) }
 {
@@ -119,7 +120,7 @@ fn write_args<'a>(
         ≡ string_bytes out.old
         ++ (printed_args (expr_trees (map expr_tree args.now)) ++ text_left (unwritten_seen rest.old))) }
     ensures fewer { OnOk result (work_left (unwritten_seen rest.new)
-        < 1 + works (expr_trees (map expr_tree args.now)) + work_left (unwritten_seen rest.old)) }
+        < 3 + 3 * exprs_count (expr_trees (map expr_tree args.now)) + work_left (unwritten_seen rest.old)) }
     ensures formed { OnOk result (AreWellFormed (unwritten_seen rest.new)
         → HaveWellFormedLiterals (expr_trees (map expr_tree args.now)) × AreWellFormed (unwritten_seen rest.old)) }
 {
@@ -142,7 +143,7 @@ fn write_more<'a>(
         ≡ string_bytes out.old
         ++ (printed_more (expr_trees (map expr_tree args.now)) ++ text_left (unwritten_seen rest.old))) }
     ensures fewer { OnOk result (work_left (unwritten_seen rest.new)
-        < works (expr_trees (map expr_tree args.now)) + work_left (unwritten_seen rest.old)) }
+        < 3 * exprs_count (expr_trees (map expr_tree args.now)) + 1 + work_left (unwritten_seen rest.old)) }
     ensures formed { OnOk result (AreWellFormed (unwritten_seen rest.new)
         → HaveWellFormedLiterals (expr_trees (map expr_tree args.now)) × AreWellFormed (unwritten_seen rest.old)) }
 {

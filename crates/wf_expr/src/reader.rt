@@ -37,11 +37,11 @@ fn whole(expression: Draft, stack: &Stack) -> Option<Read>
 }
 
 /// A word may.
-fn whole_word(alloc: Global, name: String, stack: &Stack) -> Option<Read>
+fn whole_word(name: String, stack: &Stack) -> Option<Read>
     ensures { option_map read_seen result ≡ in_whole (stack_seen stack.now) (word_end (word_of (string_bytes name))) }
 {
     match word_value(&name) {
-        Some(value) => whole(Draft::literal(alloc, value), stack),
+        Some(value) => whole(Draft::literal(value), stack),
         None => None,
     }
 }
@@ -65,16 +65,16 @@ fn end(alloc: Global, mode: Mode, stack: &Stack) -> Result<Option<Read>, AllocEr
         } => Ok(Some(Read::Items {
             front: front.with(first)?.with(second)?,
         })),
-        Mode::Int { digits } => Ok(whole(Draft::literal(alloc, Val::Int(digits.value())), stack)),
+        Mode::Int { digits } => Ok(whole(Draft::literal(Val::Int(digits.value())), stack)),
         Mode::Quote { text } => Ok(whole(
-            Draft::literal(alloc, Val::Text(Text::from_string(text))),
+            Draft::literal(Val::Text(Text::from_string(text))),
             stack,
         )),
-        Mode::Name { name } => Ok(whole_word(alloc, name, stack)),
-        Mode::Named { name } => Ok(whole_word(alloc, name, stack)),
+        Mode::Name { name } => Ok(whole_word(name, stack)),
+        Mode::Named { name } => Ok(whole_word(name, stack)),
         Mode::After { base } => Ok(whole(base, stack)),
         Mode::Member { base, soft, name } => {
-            let base = base.member(Text::from_string(name), soft)?;
+            let base = base.member(alloc, Text::from_string(name), soft)?;
             Ok(whole(base, stack))
         }
         _ => Ok(None),

@@ -2,8 +2,8 @@
 ghost use Rattle.std.specs.Prelude.{◌≡◌, [], ◌∷◌, OnOk};
 ghost use Rattle.wf_expr.specs.Unwritten.{part_tree, unwritten_seen, Popped};
 
-use crate::expr::Expr;
 use std::alloc::{AllocError, Global};
+use wf_template::Expr;
 
 // An expression, a text as it is, or further arguments with the `)` behind them.
 #[derive(Drop)]

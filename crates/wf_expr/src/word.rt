@@ -1,7 +1,7 @@
 //! The words of expressions: `true`, `false` and `null`, without letter case.
 ghost use Rattle.std.specs.Prelude.{◌≡◌, option_map};
 ghost use Rattle.wf_val.specs.Seen.{tree};
-ghost use Rattle.wf_expr.specs.ExprTree.{literal};
+ghost use Rattle.wf_template.specs.ExprTree.{literal};
 ghost use Rattle.wf_expr.specs.Words.{lower};
 ghost use Rattle.wf_expr.specs.WordTests.{word_of, word_front, is_front};
 

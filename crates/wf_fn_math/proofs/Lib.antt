@@ -2,4 +2,8 @@ pub mod ExtremesLemmas
 pub mod ComparisonLemmas
 pub mod ConversionLemmas
 pub mod LawLemmas
-pub mod WorkedRows
+pub mod RowValues
+pub mod ArithmeticRows
+pub mod ExtremesRows
+pub mod ComparisonRows
+pub mod ConversionRows

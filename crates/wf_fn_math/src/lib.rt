@@ -21,8 +21,6 @@ mod comparison;
 mod conversion;
 mod extremes;
 mod laws;
-#[cfg(test)]
-mod tests;
 
 pub use arithmetic::{f_add, f_div, f_mod, f_mul, f_sub};
 pub use comparison::{

@@ -28,7 +28,7 @@ use Rattle.wf_val.specs.WellFormed.{IsWellFormed, AllWellFormed, AllMembersWellF
 use Rattle.wf_json.specs.Json as text
 use Rattle.wf_json.specs.Pointer.{least}
 use Rattle.wf_json.specs.Read.{after_mark, json_of, greatest_nesting, flawed_places, flawed_items, flawed_members, value_unless, value_of, values_of, members_of, read_json, read_value}
-use Rattle.wf_json.specs.Sent as sent
+use Rattle.wf_json.proofs.Sent as sent
 use Rattle.wf_json.specs.declared.fault.Flaw.{Flaw}
 use Rattle.wf_json.proofs.SentLemmas.{compact-json, quoted-string}
 

@@ -5,7 +5,7 @@ use Rattle.std.specs.List.{starts_with}
 use Rattle.serde_json.specs.Data as json
 use Rattle.serde_json.specs.Read as reader
 use Rattle.wf_val.specs.ValueTree as value
-use Rattle.wf_json.specs.Pointer.{item_step, member_step, least}
+use Rattle.wf_json.specs.Pointer.{here, item_step, member_step, least}
 use Rattle.wf_json.specs.declared.fault.JsonFault.{JsonFault}
 use Rattle.wf_json.specs.declared.fault.Flaw.{Flaw}
 
@@ -39,10 +39,6 @@ has_flaw Flaw.NotWhole room (json.number n) = is_none (whole n)
 has_flaw Flaw.TooDeep room (json.array ds) = room == 0
 has_flaw Flaw.TooDeep room (json.object ms) = room == 0
 has_flaw flaw room d = false
-
--- the place itself, if the test says so
-abbrev pub here : Bool → List (List ℕ)
-here flawed = if flawed then [] ∷ [] else []
 
 -- the pointers, from a value on, of all places in it that have the flaw
 abbrev mutual

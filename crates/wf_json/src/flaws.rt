@@ -1,14 +1,14 @@
 //! The places of a JSON tree that are refused.
 
-ghost use Rattle.std.specs.Prelude.{◌≡◌, ◌++◌, Some, IfOk, option_map, string_bytes};
+ghost use Rattle.std.specs.Prelude.{◌≡◌, IfOk, option_map, string_bytes};
 ghost use Rattle.serde_json.specs.View.{view, items_view, members_view};
-ghost use Rattle.wf_json.specs.Pointer.{lesser, least, item_step, member_step};
+ghost use Rattle.wf_json.specs.Pointer.{least};
 ghost use Rattle.wf_json.specs.Read.{has_flaw, flawed_places, flawed_items, flawed_members, least_flaw};
 
 use crate::fault::Flaw;
+use crate::pointer::{with_item, with_member};
 use serde_json::{Map, Value};
 use std::alloc::{AllocError, Global};
-use std::cmp::Ordering;
 
 const GREATEST_NESTING: u32 = 120;
 
@@ -94,72 +94,4 @@ fn least_in_members(
         )?;
     }
     Ok(best)
-}
-
-// The lesser of the best pointer so far and the item's own, if either is there.
-fn with_item(
-    alloc: Global,
-    best: Option<String>,
-    place: usize,
-    rest: Option<String>,
-) -> Result<Option<String>, AllocError>
-    ensures { IfOk result (λ p. option_map string_bytes p ≡ lesser (option_map string_bytes best)
-        (option_map (λ q. item_step place ++ q) (option_map string_bytes rest))) }
-{
-    match rest {
-        None => Ok(best),
-        Some(rest) => {
-            let pointer = format!(in alloc; "/{place}{rest}")?;
-            Ok(Some(lesser_of(best, pointer)))
-        }
-    }
-}
-
-// The same, of a member.
-fn with_member(
-    alloc: Global,
-    best: Option<String>,
-    name: &str,
-    rest: Option<String>,
-) -> Result<Option<String>, AllocError>
-    ensures { IfOk result (λ p. option_map string_bytes p ≡ lesser (option_map string_bytes best)
-        (option_map (λ q. member_step name.now ++ q) (option_map string_bytes rest))) }
-{
-    match rest {
-        None => Ok(best),
-        Some(rest) => {
-            let mut pointer = step_to(alloc, name)?;
-            pointer.push_str(rest.as_str())?;
-            Ok(Some(lesser_of(best, pointer)))
-        }
-    }
-}
-
-// The pointer's step to the member of a name.
-fn step_to(alloc: Global, name: &str) -> Result<String, AllocError>
-    ensures { IfOk result (λ p. string_bytes p ≡ member_step name.now) }
-{
-    let mut step = String::from_str(alloc, "/")?;
-    for c in name.chars() {
-        match c {
-            '~' => step.push_str("~0")?,
-            '/' => step.push_str("~1")?,
-            _ => step.push(c)?,
-        }
-    }
-    Ok(step)
-}
-
-// The lesser pointer, where there is one already.
-fn lesser_of(best: Option<String>, found: String) -> String
-    ensures { Some (string_bytes result)
-        ≡ lesser (option_map string_bytes best) (Some (string_bytes found)) }
-{
-    match best {
-        None => found,
-        Some(best) => match best.as_str().cmp(found.as_str()) {
-            Ordering::Greater => found,
-            _ => best,
-        },
-    }
 }

@@ -9,20 +9,23 @@
 //! A value is written without white space, with the members of objects in the byte order of their
 //! names: equal values have equal texts.
 //!
+//! Whoever judges the places of a value in other ways makes and compares pointers by `pointer`.
+//!
 //! It is no reader of streams, keeps no order of members and no spelling of numbers, and lays
 //! nothing out.
 #![tactic(auto)]
 
 mod convert;
+mod eval_fault;
 mod fault;
 mod flaws;
 mod laws;
+pub mod pointer;
 mod reading;
-#[cfg(test)]
-mod tests;
 mod writing;
 
+pub use eval_fault::fault_text;
 pub use fault::JsonFault;
-pub use laws::{least_is_least, reads_back};
+pub use laws::{least_is_least, pointers_lead_to_flaws, read_is_shallow, reads_back};
 pub use reading::read;
-pub use writing::{text, write};
+pub use writing::{quote_to, quoted, text, write, write_fields_to, write_to};

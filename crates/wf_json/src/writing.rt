@@ -1,24 +1,72 @@
-ghost use Rattle.std.specs.Prelude.{◌≡◌, IfOk, OnOk};
-ghost use Rattle.serde_json.specs.Data.{array, object};
-ghost use Rattle.serde_json.specs.Events.{SendsValue};
+ghost use Rattle.std.specs.Prelude.{◌≡◌, ◌++◌, [], IfOk, IsUtf8, OnOk, OnErr, length};
+ghost use Rattle.json.specs.Print.{print};
 ghost use Rattle.wf_val.specs.Seen.{tree};
-ghost use Rattle.wf_val.specs.ValueTree.{trees, members as member_trees};
-ghost use Rattle.wf_json.specs.Json.{json, text as text_of};
-ghost use Rattle.wf_json.specs.Sent.{data_of, items_of, members_of};
+ghost use Rattle.wf_val.specs.ValueTree.{list, object, trees, members as member_trees};
+ghost use Rattle.wf_json.specs.Json.{json, string, text as text_of};
+ghost use Rattle.wf_json.specs.Tokens.{tokens_of};
 
-use serde::{Described, Serialize, Serializer};
+use json::Writer;
 use std::alloc::{AllocError, Global};
+use std::mem;
 use wf_val::{Fields, Text, Val, Vals};
 
 /// The JSON text of a value, without white space and with the members in the byte order of their
 /// names.
+#[tactic(auto, using(crate::proofs::PrintLemmas::printed_value))]
 pub fn write(alloc: Global, value: &Val) -> Result<Vec<u8>, AllocError>
-    ensures { IfOk result (λ b. b.items ≡ json (tree value.now)) }
+    ensures text { IfOk result (λ b. b.items ≡ json (tree value.now)) }
+    ensures utf8 { IfOk result (λ b. IsUtf8 b.items) }
 {
-    match serde_json::to_vec(alloc, &Sent { value }) {
-        Ok(bytes) => Ok(bytes),
-        Err(_) => Err(AllocError),
-    }
+    let mut writer = Writer::new(Vec::new(alloc));
+    put(value, &mut writer)?;
+    Ok(writer.into_inner())
+}
+
+/// Writes the JSON text of a value behind what there is.
+#[tactic(auto, using(crate::proofs::PrintLemmas::printed_value))]
+pub fn write_to(out: &mut Vec<u8>, value: &Val) -> Result<(), AllocError>
+    ensures ok { OnOk result (out.new.items ≡ out.old.items ++ json (tree value.now)) }
+    ensures err { OnErr result (out.new.items ≡ out.old.items) }
+{
+    let before = out.len();
+    let mut writer = writer_behind(out);
+    let written = put(value, &mut writer);
+    give_back(out, before, writer, written)
+}
+
+/// Writes the JSON text of an object that has these members behind what there is.
+#[tactic(auto, using(crate::proofs::PrintLemmas::printed_members))]
+pub fn write_fields_to(out: &mut Vec<u8>, fields: &Fields) -> Result<(), AllocError>
+    ensures ok { OnOk result
+        (out.new.items ≡ out.old.items ++ json (object (member_trees fields.now))) }
+    ensures err { OnErr result (out.new.items ≡ out.old.items) }
+{
+    let before = out.len();
+    let mut writer = writer_behind(out);
+    let written = put_members(fields, &mut writer);
+    give_back(out, before, writer, written)
+}
+
+/// Writes a text as a JSON text behind what there is.
+#[tactic(auto, using(crate::proofs::PrintLemmas::printed_text))]
+pub fn quote_to(out: &mut Vec<u8>, text: &str) -> Result<(), AllocError>
+    ensures ok { OnOk result (out.new.items ≡ out.old.items ++ string text.now) }
+    ensures err { OnErr result (out.new.items ≡ out.old.items) }
+{
+    let before = out.len();
+    let mut writer = writer_behind(out);
+    let written = writer.string(text);
+    give_back(out, before, writer, written)
+}
+
+/// A text as a JSON text: between quotation marks, with escapes.
+#[tactic(auto, using(crate::proofs::PrintLemmas::printed_text))]
+pub fn quoted(alloc: Global, text: &str) -> Result<Text, AllocError>
+    ensures { IfOk result (λ t. t ≡ string text.now) }
+{
+    let mut writer = Writer::new(Vec::new(alloc));
+    writer.string(text)?;
+    Ok(Text::from_string(String::from_utf8(writer.into_inner()).unwrap()))
 }
 
 /// A value as text: a text is itself, null is empty, and all else is its JSON text.
@@ -28,75 +76,79 @@ pub fn text(alloc: Global, value: &Val) -> Result<Text, AllocError>
     match value {
         Val::Text(text) => text.copy(alloc),
         Val::Null => Text::of(alloc, ""),
-        _ => json_text(alloc, value),
+        _ => {
+            let bytes = write(alloc, value)?;
+            Ok(Text::from_string(String::from_utf8(bytes).unwrap()))
+        }
     }
 }
 
-fn json_text(alloc: Global, value: &Val) -> Result<Text, AllocError>
-    ensures { IfOk result (λ t. t ≡ json (tree value.now)) }
+// A writer behind the bytes, which it takes.
+fn writer_behind(out: &mut Vec<u8>) -> Writer
+    ensures before { result.before ≡ out.old.items }
+    ensures tokens { result.tokens ≡ [] }
 {
-    match serde_json::to_string(alloc, &Sent { value }) {
-        Ok(text) => Ok(Text::from_string(text)),
-        Err(_) => Err(AllocError),
+    let empty = Vec::new(*out.allocator());
+    Writer::new(mem::replace(out, empty))
+}
+
+// Gives back so many bytes that there were before, and what was written behind them where all of it was.
+fn give_back(
+    out: &mut Vec<u8>,
+    before: usize,
+    writer: Writer,
+    written: Result<(), AllocError>,
+) -> Result<(), AllocError>
+    requires { before ≡ length writer.before }
+    ensures same { result ≡ written }
+    ensures ok { OnOk result (out.new.items ≡ writer.before ++ print writer.tokens) }
+    ensures err { OnErr result (out.new.items ≡ writer.before) }
+{
+    *out = writer.into_inner();
+    if written.is_err() {
+        out.truncate(before);
     }
+    written
 }
 
-// A value as it is sent to a serializer.
-#[derive(Drop)]
-struct Sent<'a> {
-    value: &'a Val,
-}
-
-impl Described for Sent<'_> {
-    ghost writes = { λ w. SendsValue (data_of (tree w.value.now)) };
-}
-
-impl Serialize for Sent<'_> {
-    fn serialize<S: Serializer>(&self, out: &mut S) -> Result<(), S::Error> {
-        send(self.value, out)
-    }
-}
-
-#[cycle(send)]
-fn send<S: Serializer>(value: &Val, out: &mut S) -> Result<(), S::Error>
-    ensures { OnOk result
-        (SendsValue (data_of (tree value.now)) (S.written out.old) (S.written out.new)) }
+#[cycle(put)]
+fn put(value: &Val, out: &mut Writer) -> Result<(), AllocError>
+    ensures ok { OnOk result (out.new.tokens ≡ out.old.tokens ++ tokens_of (tree value.now)) }
+    ensures before { out.new.before ≡ out.old.before }
 {
     match value {
-        Val::Null => out.unit(),
-        Val::Bool(b) => out.bool(*b),
-        Val::Int(n) => if *n >= 0 {
-            out.u64(*n as u64)
-        } else {
-            out.i64(*n)
-        },
-        Val::Text(text) => out.str(text.as_str()),
-        Val::List(items) => send_items(items, out),
-        Val::Obj(fields) => send_members(fields, out),
+        Val::Null => out.null(),
+        Val::Bool(b) => out.boolean(*b),
+        Val::Int(n) => out.i64(*n),
+        Val::Text(text) => out.string(text.as_str()),
+        Val::List(items) => put_items(items, out),
+        Val::Obj(fields) => put_members(fields, out),
     }
 }
 
-#[cycle(send)]
-fn send_items<S: Serializer>(items: &Vals, out: &mut S) -> Result<(), S::Error>
-    ensures { OnOk result (SendsValue (array (items_of (trees items.now)))
-        (S.written out.old) (S.written out.new)) }
+#[cycle(put)]
+fn put_items(items: &Vals, out: &mut Writer) -> Result<(), AllocError>
+    ensures ok { OnOk result
+        (out.new.tokens ≡ out.old.tokens ++ tokens_of (list (trees items.now))) }
+    ensures before { out.new.before ≡ out.old.before }
 {
-    out.begin_seq(Some(items.len() as usize))?;
+    out.begin_array()?;
     for item in items.as_slice() {
-        send(item, out)?;
+        put(item, out)?;
     }
-    out.end_seq()
+    out.end_array()
 }
 
-#[cycle(send)]
-fn send_members<S: Serializer>(fields: &Fields, out: &mut S) -> Result<(), S::Error>
-    ensures { OnOk result (SendsValue (object (members_of (member_trees fields.now)))
-        (S.written out.old) (S.written out.new)) }
+#[cycle(put)]
+fn put_members(fields: &Fields, out: &mut Writer) -> Result<(), AllocError>
+    ensures ok { OnOk result
+        (out.new.tokens ≡ out.old.tokens ++ tokens_of (object (member_trees fields.now))) }
+    ensures before { out.new.before ≡ out.old.before }
 {
-    out.begin_map(Some(fields.len() as usize))?;
+    out.begin_object()?;
     for (name, value) in fields.as_slice() {
         out.key(name.as_str())?;
-        send(value, out)?;
+        put(value, out)?;
     }
-    out.end_map()
+    out.end_object()
 }

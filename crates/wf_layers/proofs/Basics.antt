@@ -54,7 +54,8 @@ same_self_at (a ∷ i) = and_of (nat_eq a a) (same_at i i) (same_self a) (same_s
 pub starts_outer : (i : List ℕ) (j : ℕ) (at : List ℕ) → starts (i ++ j ∷ []) at ≡ true → starts i at ≡ true
 starts_outer [] j at e = refl
 starts_outer (a ∷ i) j [] e = e
-starts_outer (a ∷ i) j (b ∷ at) e = let h = and_in (nat_eq a b) (starts (i ++ j ∷ []) at) e in and_of (nat_eq a b) (starts i at) h.0 (starts_outer i j at h.1)
+starts_outer (a ∷ i) j (b ∷ at) e =
+    let h = and_in (nat_eq a b) (starts (i ++ j ∷ []) at) e in and_of (nat_eq a b) (starts i at) h.0 (starts_outer i j at h.1)
 
 pub index_once : (i : List ℕ) (j m : ℕ) (at : List ℕ) → starts (i ++ j ∷ []) at ≡ true → starts (i ++ m ∷ []) at ≡ true → j ≡ m
 index_once [] j m [] e f = absurd (true≢false (sym e))
@@ -62,7 +63,8 @@ index_once [] j m (b ∷ at) e f =
     let x = eqb-true j b (and_in (nat_eq j b) (starts [] at) e).0 in
     let y = eqb-true m b (and_in (nat_eq m b) (starts [] at) f).0 in omega arith
 index_once (a ∷ i) j m [] e f = absurd (true≢false (sym e))
-index_once (a ∷ i) j m (b ∷ at) e f = index_once i j m at (and_in (nat_eq a b) (starts (i ++ j ∷ []) at) e).1 (and_in (nat_eq a b) (starts (i ++ m ∷ []) at) f).1
+index_once (a ∷ i) j m (b ∷ at) e f =
+    index_once i j m at (and_in (nat_eq a b) (starts (i ++ j ∷ []) at) e).1 (and_in (nat_eq a b) (starts (i ++ m ∷ []) at) f).1
 
 pub when {ℓ} : {A : Type ℓ} (b : Bool) (u v : A) → b ≡ true → cond b u v ≡ u
 when b u v e = ap (λ x. cond x u v) e
@@ -80,13 +82,16 @@ cond_same false r q u v h g = g refl
 
 -- ADDRESSES OF A GRAPH
 
-pub in_within : (n : ℕ) (after : List Need) (kind : Kind) (rest : Graph) (i : List ℕ) (y : Address) → is_in n kind i y ≡ true → is_within (add n after kind rest) i y ≡ true
+pub in_within : (n : ℕ) (after : List Need) (kind : Kind) (rest : Graph) (i : List ℕ) (y : Address) → is_in n kind i y ≡ true
+    → is_within (add n after kind rest) i y ≡ true
 in_within n after kind rest i y e = front (nat_eq n y.name || holds kind y.name) (has rest y.name) (starts i y.at) e
 
-pub rest_within : (n : ℕ) (after : List Need) (kind : Kind) (rest : Graph) (i : List ℕ) (y : Address) → is_within rest i y ≡ true → is_within (add n after kind rest) i y ≡ true
+pub rest_within : (n : ℕ) (after : List Need) (kind : Kind) (rest : Graph) (i : List ℕ) (y : Address) → is_within rest i y ≡ true
+    → is_within (add n after kind rest) i y ≡ true
 rest_within n after kind rest i y e = back (nat_eq n y.name || holds kind y.name) (has rest y.name) (starts i y.at) e
 
-pub other_within : (n : ℕ) (after : List Need) (kind : Kind) (rest : Graph) (i : List ℕ) (y : Address) → is_within (add n after kind rest) i y ≡ true → is_in n kind i y ≡ false → is_within rest i y ≡ true
+pub other_within : (n : ℕ) (after : List Need) (kind : Kind) (rest : Graph) (i : List ℕ) (y : Address)
+    → is_within (add n after kind rest) i y ≡ true → is_in n kind i y ≡ false → is_within rest i y ≡ true
 other_within n after kind rest i y e f = fork (nat_eq n y.name || holds kind y.name) (has rest y.name) (starts i y.at) e f
 
 pub own_in : (n : ℕ) (kind : Kind) (i : List ℕ) → is_in n kind i (address n i) ≡ true
@@ -95,9 +100,11 @@ own_in n kind i = and_of (nat_eq n n || holds kind n) (starts i i) (ap (λ x. x 
 pub held_in : (n : ℕ) (kind : Kind) (i : List ℕ) (y : Address) → (holds kind y.name && starts i y.at) ≡ true → is_in n kind i y ≡ true
 held_in n kind i y e = back (nat_eq n y.name) (holds kind y.name) (starts i y.at) e
 
-pub inner_not_own : (n : ℕ) (kind : Kind) (i : List ℕ) (y : Address) → holds kind n ≡ false → holds kind y.name ≡ true → is_own n i y ≡ false
+pub inner_not_own : (n : ℕ) (kind : Kind) (i : List ℕ) (y : Address) → holds kind n ≡ false → holds kind y.name ≡ true
+    → is_own n i y ≡ false
 inner_not_own n kind i y nh h =
-    not_true (is_own n i y) (λ e. let same = eqb-true n y.name (and_in (nat_eq n y.name) (same_at i y.at) e).0 in true≢false (sym h ∙ ap (λ m. holds kind m) (sym same) ∙ nh))
+    not_true (is_own n i y) (λ e. let same = eqb-true n y.name (and_in (nat_eq n y.name) (same_at i y.at) e).0 in
+    true≢false (sym h ∙ ap (λ m. holds kind m) (sym same) ∙ nh))
 
 module _ (depth : ℕ → ℕ) where
   abbrev pub depth_of : Option ℕ → ℕ
@@ -108,8 +115,10 @@ module _ (depth : ℕ → ℕ) where
   rank_below done i y e = absurd (true≢false (sym e))
   rank_below (add n after kind rest) i y e =
       ⊎_elim
-      (λ t. let r : rank depth (add n after kind rest) i y ≡ depth n = when (is_in n kind i y) (depth n) (rank depth rest i y) t in omega (arith, r))
-      (λ f. let r : rank depth (add n after kind rest) i y ≡ rank depth rest i y = unless (is_in n kind i y) (depth n) (rank depth rest i y) f in
+      (λ t. let r : rank depth (add n after kind rest) i y ≡ depth n = when (is_in n kind i y) (depth n) (rank depth rest i y) t in
+      omega (arith, r))
+      (λ f. let r : rank depth (add n after kind rest) i y ≡ rank depth rest i y =
+      unless (is_in n kind i y) (depth n) (rank depth rest i y) f in
       let h = rank_below rest i y (other_within n after kind rest i y e f) in omega (arith, r, h))
       (two (is_in n kind i y))
 
@@ -117,26 +126,37 @@ module _ (depth : ℕ → ℕ) where
   rank_owner done i y o e = ap depth_of e
   rank_owner (add n after kind rest) i y o e =
       ⊎_elim
-      (λ t. when (is_in n kind i y) (depth n) (rank depth rest i y) t ∙ ap depth_of (sym (when (is_in n kind i y) (Some n) (owner rest i y) t) ∙ e))
-      (λ u. unless (is_in n kind i y) (depth n) (rank depth rest i y) u ∙ rank_owner rest i y o (sym (unless (is_in n kind i y) (Some n) (owner rest i y) u) ∙ e))
+      (λ t. when (is_in n kind i y) (depth n) (rank depth rest i y) t
+      ∙ ap depth_of (sym (when (is_in n kind i y) (Some n) (owner rest i y) t) ∙ e))
+      (λ u. unless (is_in n kind i y) (depth n) (rank depth rest i y) u
+      ∙ rank_owner rest i y o (sym (unless (is_in n kind i y) (Some n) (owner rest i y) u) ∙ e))
       (two (is_in n kind i y))
 
-  pub falls_rank : (low : ℕ → ℕ → Type 0) → ((a b : ℕ) → low a b → depth a < depth b) → (g : Graph) (i : List ℕ) (y z : Address) → Lower low (owner g i y) (owner g i z) → rank depth g i y < rank depth g i z
+  pub falls_rank : (low : ℕ → ℕ → Type 0) → ((a b : ℕ) → low a b → depth a < depth b) → (g : Graph) (i : List ℕ) (y z : Address)
+      → Lower low (owner g i y) (owner g i z) → rank depth g i y < rank depth g i z
   falls_rank low falls g i y z l = go (owner g i y) (owner g i z) refl refl l
     where
       go : (o q : Option ℕ) → owner g i y ≡ o → owner g i z ≡ q → Lower low o q → rank depth g i y < rank depth g i z
       go None q e h l = absurd l
       go (Some a) None e h l = absurd l
-      go (Some a) (Some b) e h l = let x = rank_owner g i y (Some a) e in let v = rank_owner g i z (Some b) h in let m : depth a < depth b = falls a b l in omega arith
+      go (Some a) (Some b) e h l =
+          let x = rank_owner g i y (Some a) e in let v = rank_owner g i z (Some b) h in let m : depth a < depth b = falls a b l in
+          omega arith
 
 module _ (low : ℕ → ℕ → Type 0) where
   -- what is earlier in one of the branches is in one of them
-  pub any_within : (bs : Branches) (i : List ℕ) (y z : Address) → earlier_any low bs i y z → (is_among bs i y ≡ true) × (is_among bs i z ≡ true)
+  pub any_within : (bs : Branches) (i : List ℕ) (y z : Address) → earlier_any low bs i y z
+      → (is_among bs i y ≡ true) × (is_among bs i z ≡ true)
   any_within no_branch i y z e = absurd e
   any_within (branch b rest) i y z e =
       ⊎_elim
-      (λ h. (front (has b y.name) (has_any rest y.name) (starts i y.at) h.0, front (has b z.name) (has_any rest z.name) (starts i z.at) h.1))
-      (λ h. let r = any_within rest i y z h in (back (has b y.name) (has_any rest y.name) (starts i y.at) r.0, back (has b z.name) (has_any rest z.name) (starts i z.at) r.1))
+      (λ h. (
+        front (has b y.name) (has_any rest y.name) (starts i y.at) h.0,
+        front (has b z.name) (has_any rest z.name)
+            (starts i z.at) h.1,
+      ))
+      (λ h. let r = any_within rest i y z h in
+      (back (has b y.name) (has_any rest y.name) (starts i y.at) r.0, back (has b z.name) (has_any rest z.name) (starts i z.at) r.1))
       e
 
   -- an action sees nothing inside itself
@@ -160,22 +180,29 @@ longer i j l e = omega (arith, length-append i (j ∷ []), e)
 
 -- ITERATIONS
 
-pub some_turn : (c : ℕ) (i at : List ℕ) → ((j : ℕ) × (j < c) × (starts (i ++ j ∷ []) at ≡ true)) ⊎ ((j : ℕ) → j < c → starts (i ++ j ∷ []) at ≡ false)
+pub some_turn : (c : ℕ) (i at : List ℕ) → ((j : ℕ) × (j < c) × (starts (i ++ j ∷ []) at ≡ true))
+    ⊎ ((j : ℕ) → j < c → starts (i ++ j ∷ []) at ≡ false)
 some_turn zero i at = inr (λ j lt. absurd (omega arith))
 some_turn (suc c) i at =
     ⊎_elim
     (λ h. inl (h.0, omega (arith, h.1), h.2))
-    (λ h. ⊎_elim (λ t. inl (c, omega arith, t)) (λ f. inr (λ j lt. ⊎_elim (λ e. ap (λ m. starts (i ++ m ∷ []) at) (eqb-true j c e) ∙ f) (λ ne. h j (less j lt ne)) (two (nat_eq j c)))) (two (starts (i ++ c ∷ []) at)))
+    (λ h. ⊎_elim (λ t. inl (c, omega arith, t))
+    (λ f. inr (λ j lt. ⊎_elim (λ e. ap (λ m. starts (i ++ m ∷ []) at) (eqb-true j c e) ∙ f) (λ ne. h j (less j lt ne))
+    (two (nat_eq j c)))) (two (starts (i ++ c ∷ []) at)))
     (some_turn c i at)
   where
     less : (j : ℕ) → j < suc c → nat_eq j c ≡ false → j < c
     less j lt ne = omega (arith, eqb-false j c ne)
 
-pub sides_out : {Row : Type 0} (c : ℕ) (i : List ℕ) (body : ℕ → Table Row → Table Row) (k : Table Row) (y : Address) → ((j : ℕ) → j < c → starts (i ++ j ∷ []) y.at ≡ false) → sides c i body k y ≡ k y
+pub sides_out : {Row : Type 0} (c : ℕ) (i : List ℕ) (body : ℕ → Table Row → Table Row) (k : Table Row) (y : Address)
+    → ((j : ℕ) → j < c → starts (i ++ j ∷ []) y.at ≡ false) → sides c i body k y ≡ k y
 sides_out zero i body k y h = refl
-sides_out (suc c) i body k y h = unless (starts (i ++ c ∷ []) y.at) (body c k y) (sides c i body k y) (h c (omega arith)) ∙ sides_out c i body k y (λ j lt. h j (omega arith))
+sides_out (suc c) i body k y h =
+    unless (starts (i ++ c ∷ []) y.at) (body c k y) (sides c i body k y) (h c (omega arith))
+    ∙ sides_out c i body k y (λ j lt. h j (omega arith))
 
-pub sides_at : {Row : Type 0} (c : ℕ) (i : List ℕ) (body : ℕ → Table Row → Table Row) (k : Table Row) (y : Address) (j : ℕ) → j < c → starts (i ++ j ∷ []) y.at ≡ true → sides c i body k y ≡ body j k y
+pub sides_at : {Row : Type 0} (c : ℕ) (i : List ℕ) (body : ℕ → Table Row → Table Row) (k : Table Row) (y : Address) (j : ℕ) → j < c
+    → starts (i ++ j ∷ []) y.at ≡ true → sides c i body k y ≡ body j k y
 sides_at zero i body k y j lt e = absurd (omega arith)
 sides_at (suc c) i body k y j lt e =
     ⊎_elim
@@ -208,7 +235,8 @@ rounds_same (suc m) j p q same =
     ⊎_elim
     (λ t. when (p j) (suc j) (rounds m (suc j) p) t ∙ sym (when (q j) (suc j) (rounds m (suc j) q) (sym e ∙ t)))
     (λ f. let x = unless (p j) (suc j) (rounds m (suc j) p) f in
-    x ∙ rounds_same m (suc j) p q (λ h le lt. same h (omega arith) (subst (λ c. h < c) (sym x) lt)) ∙ sym (unless (q j) (suc j) (rounds m (suc j) q) (sym e ∙ f)))
+    x ∙ rounds_same m (suc j) p q (λ h le lt. same h (omega arith) (subst (λ c. h < c) (sym x) lt))
+    ∙ sym (unless (q j) (suc j) (rounds m (suc j) q) (sym e ∙ f)))
     (two (p j))
 
 -- BRANCHES

@@ -48,7 +48,9 @@ abbrev after : ℕ → List Need
 after n = record { name = n; listed = Succeeded ∷ [] } ∷ []
 
 abbrev pub around : Kind → Graph
-around loop = add 0 [] Leaf (add 1 (record { name = 0; listed = Succeeded ∷ [] } ∷ []) loop (add 3 (record { name = 1; listed = Succeeded ∷ [] } ∷ []) Leaf done))
+around loop =
+    add 0 [] Leaf (add 1 (record { name = 0; listed = Succeeded ∷ [] } ∷ []) loop
+    (add 3 (record { name = 1; listed = Succeeded ∷ [] } ∷ []) Leaf done))
 
 abbrev pub inner : Graph
 inner = add 2 [] Leaf done
@@ -102,9 +104,21 @@ both : (b : Bool) → b ≡ true → (b && true) ≡ true
 both b e = ap (λ x. x && true) e
 
 sees_previous : (j : ℕ) (js : List ℕ) → SeenIn graph (address 2 (suc j ∷ js)) (address 2 (j ∷ []))
-sees_previous j js = (refl, inr (inr (refl, inl (refl, refl, inr (j, suc j, refl, omega arith, both (nat_eq j j) (same_self j), both (nat_eq (suc j) (suc j)) (same_self (suc j)))))))
+sees_previous j js = (
+  refl,
+  inr (inr (
+    refl,
+    inl (
+      refl,
+      refl,
+      inr
+          (j, suc j, refl, omega arith, both (nat_eq j j) (same_self j), both (nat_eq (suc j) (suc j)) (same_self (suc j))),
+    ),
+  )),
+)
 
-same_before : (i : List ℕ) (t u : Table ℕ) → length i ≡ 1 → ((y : Address) → SeenIn graph (address 2 i) y → t y ≡ u y) → before i t ≡ before i u
+same_before : (i : List ℕ) (t u : Table ℕ) → length i ≡ 1 → ((y : Address) → SeenIn graph (address 2 i) y → t y ≡ u y)
+    → before i t ≡ before i u
 unfolding before value_of
 same_before [] t u e h = refl
 same_before (zero ∷ js) t u e h = ap value_of (h (address 0 []) (refl, inl first_before))
@@ -114,20 +128,35 @@ sound : Sound answers (SeenIn graph) graph 0
 sound = (
   ((λ i li p q. absurd q), λ i li t u h. refl),
   refl,
-  (λ m e. once 0 m (add 1 (record { name = 0; listed = Succeeded ∷ [] } ∷ []) (Foreach InTurn inner) (add 3 (record { name = 1; listed = Succeeded ∷ [] } ∷ []) Leaf done)) refl (or_none' (nat_eq 0 m) e)),
+  (λ m e. once 0 m (add 1 (record { name = 0; listed = Succeeded ∷ [] } ∷ []) (Foreach InTurn inner)
+      (add 3 (record { name = 1; listed = Succeeded ∷ [] } ∷ []) Leaf done)) refl (or_none' (nat_eq 0 m) e)),
   ((λ i li t u h. refl), λ i li t u b h. refl),
   (
-    ((λ i li p q. ⊎_elim (λ e. subst (λ z. SeenIn graph (address 1 i) (address z i)) e (refl, inl first_before)) (λ e. absurd e) q), λ i li t u h. refl),
+    (
+      (λ i li p q. ⊎_elim (λ e. subst (λ z. SeenIn graph (address 1 i) (address z i)) e (refl, inl first_before)) (λ e. absurd e) q),
+      λ i li t u h. refl,
+    ),
     refl,
     (λ m e. ⊎_elim (λ t. once 1 m (add 3 (record { name = 1; listed = Succeeded ∷ [] } ∷ []) Leaf done) refl t)
-        (λ t. once 2 m (add 3 (record { name = 1; listed = Succeeded ∷ [] } ∷ []) Leaf done) refl (or_none' (nat_eq 2 m) (or_none' (nat_eq 2 m || false) (sym (ap (λ b. b || (nat_eq 2 m || false || false)) t) ∙ e)))) (two (nat_eq 1 m))),
+        (λ t. once 2 m (add 3 (record { name = 1; listed = Succeeded ∷ [] } ∷ []) Leaf done) refl
+        (or_none' (nat_eq 2 m) (or_none' (nat_eq 2 m || false) (sym (ap (λ b. b || (nat_eq 2 m || false || false)) t) ∙ e))))
+        (two (nat_eq 1 m))),
     (
       (λ i li t u d c v h k. refl),
       (λ i li t u h. refl),
-      (((λ i li p q. absurd q), λ i li t u h. refl), refl, (λ m e. refl), ((λ i li t u h. ap (λ v. v + 1) (same_before i t u li h)), λ i li t u b h. refl), tt),
+      (
+        ((λ i li p q. absurd q), λ i li t u h. refl),
+        refl,
+        (λ m e. refl),
+        ((λ i li t u h. ap (λ v. v + 1) (same_before i t u li h)), λ i li t u b h. refl),
+        tt,
+      ),
     ),
     (
-      ((λ i li p q. ⊎_elim (λ e. subst (λ z. SeenIn graph (address 3 i) (address z i)) e (refl, inl loop_before)) (λ e. absurd e) q), λ i li t u h. refl),
+      (
+        (λ i li p q. ⊎_elim (λ e. subst (λ z. SeenIn graph (address 3 i) (address z i)) e (refl, inl loop_before)) (λ e. absurd e) q),
+        λ i li t u h. refl,
+      ),
       refl,
       (λ m e. refl),
       ((λ i li t u h. ap (λ r. value_of r) (h (address 2 (2 ∷ [])) (refl, inl loop_before))), λ i li t u b h. refl),
@@ -153,7 +182,8 @@ falls p a n =
     at_three : Names (needs_of last_one a) p → depths p < depths a
     at_three k =
         ⊎_elim
-        (λ t. ⊎_elim (λ e. subst (λ x. depths x < depths a) e (subst (λ x. 1 < depths x) (eqb-true 3 a t) (omega arith))) (λ e. absurd e) (subst (λ b. Names (cond b (record { name = 1; listed = Succeeded ∷ [] } ∷ []) []) p) t k))
+        (λ t. ⊎_elim (λ e. subst (λ x. depths x < depths a) e (subst (λ x. 1 < depths x) (eqb-true 3 a t) (omega arith))) (λ e. absurd e)
+        (subst (λ b. Names (cond b (record { name = 1; listed = Succeeded ∷ [] } ∷ []) []) p) t k))
         (λ u. absurd (subst (λ b. Names (cond b (record { name = 1; listed = Succeeded ∷ [] } ∷ []) []) p) u k))
         (two (nat_eq 3 a))
 
@@ -170,19 +200,32 @@ falls p a n =
     at_one : Names (needs_of last_two a) p → depths p < depths a
     at_one k =
         ⊎_elim
-        (λ t. ⊎_elim (λ e. subst (λ x. depths x < depths a) e (subst (λ x. 0 < depths x) (eqb-true 1 a t) (omega arith))) (λ e. absurd e) (subst (λ b. Names (cond b (record { name = 0; listed = Succeeded ∷ [] } ∷ []) (cond (has inner a) (needs_of inner a) (needs_of last_one a))) p) t k))
-        (λ u. at_two (subst (λ b. Names (cond b (record { name = 0; listed = Succeeded ∷ [] } ∷ []) (cond (has inner a) (needs_of inner a) (needs_of last_one a))) p) u k))
+        (λ t. ⊎_elim (λ e. subst (λ x. depths x < depths a) e (subst (λ x. 0 < depths x) (eqb-true 1 a t) (omega arith))) (λ e. absurd e)
+        (subst (λ b. Names (cond b (record { name = 0; listed = Succeeded ∷ [] } ∷ [])
+        (cond (has inner a) (needs_of inner a) (needs_of last_one a))) p) t k))
+        (λ u. at_two (subst (λ b. Names
+        (cond b (record { name = 0; listed = Succeeded ∷ [] } ∷ [])
+        (cond (has inner a) (needs_of inner a) (needs_of last_one a))) p) u k))
         (two (nat_eq 1 a))
 
 pub instance_there : IsInstance graph answers depths
 instance_there = record {
   local = sound;
-  closed = ((λ p n. absurd n), tt, ((λ p n. ⊎_elim (λ e. subst (λ x. has_own graph x ≡ true) e refl) (λ e. absurd e) n), ((λ p n. absurd n), tt, tt), ((λ p n. ⊎_elim (λ e. subst (λ x. has_own graph x ≡ true) e refl) (λ e. absurd e) n), tt, tt)));
+  closed = (
+    (λ p n. absurd n),
+    tt,
+    (
+      (λ p n. ⊎_elim (λ e. subst (λ x. has_own graph x ≡ true) e refl) (λ e. absurd e) n),
+      ((λ p n. absurd n), tt, tt),
+      ((λ p n. ⊎_elim (λ e. subst (λ x. has_own graph x ≡ true) e refl) (λ e. absurd e) n), tt, tt),
+    ),
+  );
   falls = falls;
   turns = (tt, ((tt, (tt, tt)), (tt, tt)));
   own = λ n. (refl, refl);
 }
 
 -- states whose tables are the same at each address are equal
-pub state_path : {Row Begun Decision Verdict : Type 0} (s t : State Row Begun Decision Verdict) → ((x : Address) → s.rows x ≡ t.rows x) → ((x : Address) → s.running x ≡ t.running x) → ((x : Address) → s.opens x ≡ t.opens x) → s ≡ t
+pub state_path : {Row Begun Decision Verdict : Type 0} (s t : State Row Begun Decision Verdict) → ((x : Address) → s.rows x ≡ t.rows x)
+    → ((x : Address) → s.running x ≡ t.running x) → ((x : Address) → s.opens x ≡ t.opens x) → s ≡ t
 state_path s t r q o = λ k. record { rows = λ x. r x k; running = λ x. q x k; opens = λ x. o x k }

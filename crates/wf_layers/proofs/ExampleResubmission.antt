@@ -20,7 +20,9 @@ abbrev pub adding : ℕ → Source ℕ ℕ ℕ Bool
 adding step = record {
   status = λ r. Succeeded;
   skipped = 0;
-  start = λ x t. cond (nat_eq x.name 2) (number_of (t (address 1 x.at)) + step) (cond (nat_eq x.name 3) (number_of (t (address 2 x.at)) + step) 1);
+  start =
+      λ x t. cond (nat_eq x.name 2) (number_of (t (address 1 x.at)) + step)
+      (cond (nat_eq x.name 3) (number_of (t (address 2 x.at)) + step) 1);
   tries = λ x b. 0;
   finish = λ x b t. b;
   decide = λ x t. 0;
@@ -39,7 +41,9 @@ abbrev pub after : ℕ → List Need
 after n = record { name = n; listed = Succeeded ∷ [] } ∷ []
 
 abbrev pub three : Graph
-three = add 1 [] Leaf (add 2 (record { name = 1; listed = Succeeded ∷ [] } ∷ []) Leaf (add 3 (record { name = 2; listed = Succeeded ∷ [] } ∷ []) Leaf done))
+three =
+    add 1 [] Leaf (add 2 (record { name = 1; listed = Succeeded ∷ [] } ∷ []) Leaf
+    (add 3 (record { name = 2; listed = Succeeded ∷ [] } ∷ []) Leaf done))
 
 abbrev pub scope_of_three : Graph
 scope_of_three = add 0 [] (Scope three) done
@@ -60,10 +64,14 @@ abbrev pub no_decision : Address → ℕ
 no_decision x = 0
 
 -- the kept row is the old one, and the others are made anew from it
-pub three_is_anew : meaning (pin (adding 1) (adding 10) is_redone is_closed_again (meaning (adding 1) levels scope_of_three) no_decision) levels scope_of_three (address 3 []) ≡ Some 21
+pub three_is_anew : meaning
+    (pin (adding 1) (adding 10) is_redone is_closed_again (meaning (adding 1) levels scope_of_three) no_decision) levels scope_of_three
+    (address 3 []) ≡ Some 21
 three_is_anew = refl
 
-one_is_kept : meaning (pin (adding 1) (adding 10) is_redone is_closed_again (meaning (adding 1) levels scope_of_three) no_decision) levels scope_of_three (address 1 []) ≡ Some 1
+one_is_kept : meaning
+    (pin (adding 1) (adding 10) is_redone is_closed_again (meaning (adding 1) levels scope_of_three) no_decision) levels scope_of_three
+    (address 1 []) ≡ Some 1
 one_is_kept = refl
 
 once_there : Once scope_of_three
@@ -73,14 +81,32 @@ once_there = (refl, (λ m e. refl), (refl, (λ m e. lift1 m e), tt, (refl, (λ m
     either true e = refl
     either false e = e
 
-    lift1 : (m : ℕ) → (nat_eq 1 m || false) ≡ true → has (add 2 (record { name = 1; listed = Succeeded ∷ [] } ∷ []) Leaf (add 3 (record { name = 2; listed = Succeeded ∷ [] } ∷ []) Leaf done)) m ≡ false
-    lift1 m e = subst (λ x. has (add 2 (record { name = 1; listed = Succeeded ∷ [] } ∷ []) Leaf (add 3 (record { name = 2; listed = Succeeded ∷ [] } ∷ []) Leaf done)) x ≡ false) (eqb-true 1 m (either (nat_eq 1 m) e)) refl
+    lift1 : (m : ℕ) → (nat_eq 1 m || false) ≡ true
+        → has (add 2 (record { name = 1; listed = Succeeded ∷ [] } ∷ []) Leaf
+        (add 3 (record { name = 2; listed = Succeeded ∷ [] } ∷ []) Leaf done)) m ≡ false
+    lift1 m e =
+        subst (λ x. has (add 2 (record { name = 1; listed = Succeeded ∷ [] } ∷ []) Leaf
+        (add 3 (record { name = 2; listed = Succeeded ∷ [] } ∷ []) Leaf done)) x ≡ false) (eqb-true 1 m (either (nat_eq 1 m) e)) refl
 
     lift2 : (m : ℕ) → (nat_eq 2 m || false) ≡ true → has (add 3 (record { name = 2; listed = Succeeded ∷ [] } ∷ []) Leaf done) m ≡ false
-    lift2 m e = subst (λ x. has (add 3 (record { name = 2; listed = Succeeded ∷ [] } ∷ []) Leaf done) x ≡ false) (eqb-true 2 m (either (nat_eq 2 m) e)) refl
+    lift2 m e =
+        subst (λ x. has (add 3 (record { name = 2; listed = Succeeded ∷ [] } ∷ []) Leaf done) x ≡ false)
+        (eqb-true 2 m (either (nat_eq 2 m) e)) refl
 
 closed_there : Closed scope_of_three scope_of_three
-closed_there = ((λ p n. absurd n), ((λ p n. absurd n), tt, ((λ p n. ⊎_elim (λ e. subst (λ x. has_own three x ≡ true) e refl) (λ e. absurd e) n), tt, ((λ p n. ⊎_elim (λ e. subst (λ x. has_own three x ≡ true) e refl) (λ e. absurd e) n), tt, tt))), tt)
+closed_there = (
+  (λ p n. absurd n),
+  (
+    (λ p n. absurd n),
+    tt,
+    (
+      (λ p n. ⊎_elim (λ e. subst (λ x. has_own three x ≡ true) e refl) (λ e. absurd e) n),
+      tt,
+      ((λ p n. ⊎_elim (λ e. subst (λ x. has_own three x ≡ true) e refl) (λ e. absurd e) n), tt, tt),
+    ),
+  ),
+  tt,
+)
 
 waits : Waits scope_of_three scope_of_three 0
 waits = what_is_waited_for scope_of_three once_there closed_there
@@ -109,7 +135,13 @@ sound_there step = (
         once_there.2.3.0,
         once_there.2.3.1,
         ((λ i li t u h. ap (λ r. number_of r + step) (h (address 1 i) (sees_one i li))), λ i li t u b h. refl),
-        ((waits.1.2.2.0, λ i li t u h. refl), once_there.2.3.3.0, once_there.2.3.3.1, ((λ i li t u h. ap (λ r. number_of r + step) (h (address 2 i) (sees_two i li))), λ i li t u b h. refl), tt),
+        (
+          (waits.1.2.2.0, λ i li t u h. refl),
+          once_there.2.3.3.0,
+          once_there.2.3.3.1,
+          ((λ i li t u h. ap (λ r. number_of r + step) (h (address 2 i) (sees_two i li))), λ i li t u b h. refl),
+          tt,
+        ),
       ),
     ),
   ),
@@ -117,7 +149,8 @@ sound_there step = (
 )
 
 -- nothing stands before the Scope or the first of the three
-none_before : (c n : ℕ) → (Names (needs_of scope_of_three n) c → ⊥) → ((q : ℕ) → Names (needs_of scope_of_three n) q → ⊥) → IsBefore scope_of_three c n → ⊥
+none_before : (c n : ℕ) → (Names (needs_of scope_of_three n) c → ⊥) → ((q : ℕ) → Names (needs_of scope_of_three n) q → ⊥)
+    → IsBefore scope_of_three c n → ⊥
 none_before c n no_next no_more (next e) = no_next e
 none_before c n no_next no_more (more {q = q} h e) = no_more q e
 
@@ -125,12 +158,14 @@ pub redo_there : IsRedo scope_of_three is_picked is_redone is_closed_again
 redo_there = record {
   tree = (
     (λ e. absurd (true≢false (sym e))),
-    (λ h. absurd (⊎_elim (λ e. true≢false (sym e)) (λ k. ⊎_elim (λ e. true≢false (sym e)) (λ z. none_before z.0 0 (λ q. q) (λ q e. e) z.4) k) h)),
+    (λ h. absurd (⊎_elim (λ e. true≢false (sym e))
+        (λ k. ⊎_elim (λ e. true≢false (sym e)) (λ z. none_before z.0 0 (λ q. q) (λ q e. e) z.4) k) h)),
     (λ e. (refl, (2, refl, refl))),
     (λ e h. refl),
     (
       (λ e. absurd (true≢false (sym e))),
-      (λ h. absurd (⊎_elim (λ e. true≢false (sym e)) (λ k. ⊎_elim (λ e. true≢false (sym e)) (λ z. none_before z.0 1 (λ q. q) (λ q e. e) z.4) k) h)),
+      (λ h. absurd (⊎_elim (λ e. true≢false (sym e))
+          (λ k. ⊎_elim (λ e. true≢false (sym e)) (λ z. none_before z.0 1 (λ q. q) (λ q e. e) z.4) k) h)),
       (λ e. absurd (true≢false (sym e))),
       (λ e h. absurd (true≢false (sym h.1))),
       tt,
@@ -140,7 +175,21 @@ redo_there = record {
         (λ e. absurd (true≢false (sym e))),
         (λ e h. absurd (true≢false (sym h.1))),
         tt,
-        ((λ e. inr (inr (2, record { name = 1; listed = Succeeded ∷ [] } ∷ [], Leaf, there here, next {p = 2} {a = 3} (inl refl), inl refl))), (λ h. refl), (λ e. absurd (true≢false (sym e))), (λ e h. absurd (true≢false (sym h.1))), tt, tt),
+        (
+          (λ e. inr (inr (
+            2,
+            record { name = 1; listed = Succeeded ∷ [] } ∷ [],
+            Leaf,
+            there here,
+            next {p = 2} {a = 3} (inl refl),
+            inl refl,
+          ))),
+          (λ h. refl),
+          (λ e. absurd (true≢false (sym e))),
+          (λ e h. absurd (true≢false (sym h.1))),
+          tt,
+          tt,
+        ),
       ),
     ),
     tt,

@@ -12,7 +12,8 @@ use Rattle.wf_layers.proofs.Meaning.{meaning_solves}
 use Rattle.wf_layers.proofs.Unique.{all_unique, part_unique}
 use Rattle.wf_layers.proofs.Called.{called_has, row_called}
 
-module _ {Row Begun Decision Verdict : Type 0} (d : Graph) (m : Source Row Begun Decision Verdict) (depth : ℕ → ℕ) (falls : IsDepth d depth) (local : Sound m (SeenIn d) d 0) where
+module _ {Row Begun Decision Verdict : Type 0} (d : Graph) (m : Source Row Begun Decision Verdict) (depth : ℕ → ℕ) (falls : IsDepth d depth)
+    (local : Sound m (SeenIn d) d 0) where
   pub meaning_obeys_the_rule : MeaningObeysTheRule d m depth
   meaning_obeys_the_rule = meaning_solves m depth d falls local
 
@@ -30,7 +31,9 @@ module _ {Row Begun Decision Verdict : Type 0} (d : Graph) (m : Source Row Begun
       go (Some r) h e = row_called m d local f sol own x r w h
 
   pub rows_are_unique : RowsAreUnique d m
-  rows_are_unique t u t_obeys u_obeys x w = sym (all_unique m depth d falls local t t_obeys x w) ∙ all_unique m depth d falls local u u_obeys x w
+  rows_are_unique t u t_obeys u_obeys x w =
+      sym (all_unique m depth d falls local t t_obeys x w) ∙ all_unique m depth d falls local u u_obeys x w
 
   pub part_is_unique : PartIsUnique d m
-  part_is_unique part near is t u t_obeys u_obeys x w p = sym (part_unique m depth d falls local part near is t t_obeys x w p) ∙ part_unique m depth d falls local part near is u u_obeys x w p
+  part_is_unique part near is t u t_obeys u_obeys x w p =
+      sym (part_unique m depth d falls local part near is t t_obeys x w p) ∙ part_unique m depth d falls local part near is u u_obeys x w p

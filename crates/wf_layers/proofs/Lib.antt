@@ -20,7 +20,6 @@ pub mod Variables
 pub mod Redo
 pub mod Chosen
 pub mod Bound
-pub mod Ends
 pub mod Bounded
 pub mod OneEvent
 pub mod Positions
@@ -32,3 +31,15 @@ pub mod Shape
 pub mod Shaped
 pub mod Seen
 pub mod ExampleResubmission
+pub mod Rooted
+pub mod Left
+pub mod Decide
+pub mod Whole
+pub mod Worth
+pub mod Equal
+pub mod Enabled
+pub mod Waiting
+pub mod Changes
+pub mod Redone
+pub mod Answered
+pub mod Record

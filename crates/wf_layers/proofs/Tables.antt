@@ -22,7 +22,8 @@ same_starts (a ∷ i) [] e = e
 same_starts (a ∷ i) (b ∷ j) e = let h = and_in (nat_eq a b) (same_at i j) e in and_of (nat_eq a b) (starts i j) h.0 (same_starts i j h.1)
 
 pub own_is : (n : ℕ) (i : List ℕ) (x : Address) → is_own n i x ≡ true → address n i ≡ x
-own_is n i x e = let h = and_in (nat_eq n x.name) (same_at i x.at) e in ap₂ (λ a b. address a b) (eqb-true n x.name h.0) (same_at_is i x.at h.1)
+own_is n i x e =
+    let h = and_in (nat_eq n x.name) (same_at i x.at) e in ap₂ (λ a b. address a b) (eqb-true n x.name h.0) (same_at_is i x.at h.1)
 
 pub own_self : (n : ℕ) (i : List ℕ) → is_own n i (address n i) ≡ true
 own_self n i = and_of (nat_eq n n) (same_at i i) (same_self n) (same_self_at i)
@@ -81,16 +82,20 @@ nothing {A} t f w y e = go (t y) refl
     go None h = h ∙ sym e
     go (Some r) h = absurd (none-some r (sym e ∙ w.by y r h))
 
-pub own_placed : {A : Type 0} (n : ℕ) (i : List ℕ) (v : A) (t f : Table A) (y : Address) → f (address n i) ≡ Some v → is_own n i y ≡ true → place (one n i v) t y ≡ f y
+pub own_placed : {A : Type 0} (n : ℕ) (i : List ℕ) (v : A) (t f : Table A) (y : Address) → f (address n i) ≡ Some v → is_own n i y ≡ true
+    → place (one n i v) t y ≡ f y
 own_placed n i v t f y e h = ap (λ o. or_else o (t y)) (when (is_own n i y) (Some v) None h) ∙ sym e ∙ ap f (own_is n i y h)
 
 pub without_split : {A : Type 0} (n : ℕ) (i : List ℕ) (t : Table A) (x : Address) (r : A) → without n i t x ≡ Some r → t x ≡ Some r
 without_split n i t x r e =
-    ⊎_elim (λ h. absurd (none-some r (sym (when (is_own n i x) None (t x) h) ∙ e))) (λ h. sym (unless (is_own n i x) None (t x) h) ∙ e) (two (is_own n i x))
+    ⊎_elim (λ h. absurd (none-some r (sym (when (is_own n i x) None (t x) h) ∙ e))) (λ h. sym (unless (is_own n i x) None (t x) h) ∙ e)
+    (two (is_own n i x))
 
-pub opened_split : {A : Type 0} (n : ℕ) (i : List ℕ) (w : Option A) (o : Table A) (x : Address) (u : A) → opened n i w o x ≡ Some u → ((address n i ≡ x) × (w ≡ Some u)) ⊎ (o x ≡ Some u)
+pub opened_split : {A : Type 0} (n : ℕ) (i : List ℕ) (w : Option A) (o : Table A) (x : Address) (u : A) → opened n i w o x ≡ Some u
+    → ((address n i ≡ x) × (w ≡ Some u)) ⊎ (o x ≡ Some u)
 opened_split n i w o x u e =
-    ⊎_elim (λ h. inl (own_is n i x h, sym (when (is_own n i x) w (o x) h) ∙ e)) (λ h. inr (sym (unless (is_own n i x) w (o x) h) ∙ e)) (two (is_own n i x))
+    ⊎_elim (λ h. inl (own_is n i x h, sym (when (is_own n i x) w (o x) h) ∙ e)) (λ h. inr (sym (unless (is_own n i x) w (o x) h) ∙ e))
+    (two (is_own n i x))
 
 pub either_or : (p q u v : Bool) → (p ≡ true → u ≡ true) → (q ≡ true → v ≡ true) → (p || q) ≡ true → (u || v) ≡ true
 either_or true q u v f g e = ap (λ x. x || v) (f refl)
@@ -107,13 +112,20 @@ held n kind rest b h = ap (λ x. nat_eq n b || x || has rest b) h ∙ ap (λ x. 
 pub later' : (n : ℕ) (kind : Kind) (rest : Graph) (b : ℕ) → has rest b ≡ true → (nat_eq n b || holds kind b || has rest b) ≡ true
 later' n kind rest b h = ap (λ x. nat_eq n b || holds kind b || x) h ∙ or_true (nat_eq n b || holds kind b)
 
-pub skip_in : {Row Begun Decision Verdict : Type 0} (m : Source Row Begun Decision Verdict) (n : ℕ) (kind : Kind) (i : List ℕ) (y : Address) (r : Row) → skip m n kind i y ≡ Some r → ((nat_eq n y.name || shows kind y.name) ≡ true) × (same_at i y.at ≡ true)
+pub skip_in : {Row Begun Decision Verdict : Type 0} (m : Source Row Begun Decision Verdict) (n : ℕ) (kind : Kind) (i : List ℕ) (y : Address)
+    (r : Row) → skip m n kind i y ≡ Some r → ((nat_eq n y.name || shows kind y.name) ≡ true) × (same_at i y.at ≡ true)
 skip_in m n kind i y r e =
-    ⊎_elim (λ t. and_in (nat_eq n y.name || shows kind y.name) (same_at i y.at) t) (λ u. absurd (none-some r (sym (unless ((nat_eq n y.name || shows kind y.name) && same_at i y.at) (Some m.skipped) None u) ∙ e))) (two ((nat_eq n y.name || shows kind y.name) && same_at i y.at))
+    ⊎_elim (λ t. and_in (nat_eq n y.name || shows kind y.name) (same_at i y.at) t)
+    (λ u. absurd (none-some r (sym (unless ((nat_eq n y.name || shows kind y.name) && same_at i y.at) (Some m.skipped) None u) ∙ e)))
+    (two ((nat_eq n y.name || shows kind y.name) && same_at i y.at))
 
-pub skip_all_in : {Row Begun Decision Verdict : Type 0} (m : Source Row Begun Decision Verdict) (g : Graph) (i : List ℕ) (y : Address) (r : Row) → skip_all m g i y ≡ Some r → (plain g y.name ≡ true) × (same_at i y.at ≡ true)
-skip_all_in m g i y r e =
-    ⊎_elim (λ t. and_in (plain g y.name) (same_at i y.at) t) (λ u. absurd (none-some r (sym (unless (plain g y.name && same_at i y.at) (Some m.skipped) None u) ∙ e))) (two (plain g y.name && same_at i y.at))
+pub skip_all_in : {Row Begun Decision Verdict : Type 0} (m : Source Row Begun Decision Verdict) (g : Graph) (i : List ℕ) (y : Address)
+    (r : Row) → m.pinned y.name ≡ false → skip_all m g i y ≡ Some r → (plain g y.name ≡ true) × (same_at i y.at ≡ true)
+skip_all_in m g i y r free e =
+    let e' = sym (unless (m.pinned y.name) (m.old y) _ free) ∙ e in
+    ⊎_elim (λ t. and_in (plain g y.name) (same_at i y.at) t)
+    (λ u. absurd (none-some r (sym (unless (plain g y.name && same_at i y.at) (Some m.skipped) None u) ∙ e')))
+    (two (plain g y.name && same_at i y.at))
 
 mutual
   pub shows_holds : (kind : Kind) (q : ℕ) → shows kind q ≡ true → holds kind q ≡ true
@@ -146,14 +158,16 @@ mutual
   any_in (branch x rest) a b k e h =
       ⊎_elim
       (λ t. ap (λ p. p || has_any rest b) (has_in x a b k (sym (when (has x a) (kind_of x a) (kind_any rest a) t) ∙ e) h))
-      (λ u. either_or (has x b) true (has x b) (has_any rest b) (λ p. p) (λ p. any_in rest a b k (sym (unless (has x a) (kind_of x a) (kind_any rest a) u) ∙ e) h) (or_true (has x b)))
+      (λ u. either_or (has x b) true (has x b) (has_any rest b) (λ p. p)
+      (λ p. any_in rest a b k (sym (unless (has x a) (kind_of x a) (kind_any rest a) u) ∙ e) h) (or_true (has x b)))
       (two (has x a))
 
   pub has_in : (g : Graph) (a b : ℕ) (k : Kind) → kind_of g a ≡ Some k → holds k b ≡ true → has g b ≡ true
   has_in done a b k e h = absurd (none-some k e)
   has_in (add n after kind rest) a b k e h =
       ⊎_elim
-      (λ t. let s : Some kind ≡ Some k = sym (when (nat_eq n a) (Some kind) _ t) ∙ e in let same : kind ≡ k = cc in held n kind rest b (subst (λ x. holds x b ≡ true) (sym same) h))
+      (λ t. let s : Some kind ≡ Some k = sym (when (nat_eq n a) (Some kind) _ t) ∙ e in let same : kind ≡ k = cc in
+      held n kind rest b (subst (λ x. holds x b ≡ true) (sym same) h))
       (λ u. let e' = sym (unless (nat_eq n a) (Some kind) _ u) ∙ e in
       ⊎_elim
       (λ t. held n kind rest b (holds_in kind a b k (sym (when (holds kind a) (kind_in kind a) (kind_of rest a) t) ∙ e') h))
@@ -161,13 +175,16 @@ mutual
       (two (holds kind a)))
       (two (nat_eq n a))
 
-pub inner_name : (kind : Kind) (a b : ℕ) (l : Kind) → kind_in kind a ≡ Some l → holds kind a ≡ true → (nat_eq a b || holds l b) ≡ true → holds kind b ≡ true
+pub inner_name : (kind : Kind) (a b : ℕ) (l : Kind) → kind_in kind a ≡ Some l → holds kind a ≡ true → (nat_eq a b || holds l b) ≡ true
+    → holds kind b ≡ true
 inner_name kind a b l e h t =
-    ⊎_elim (λ q. subst (λ x. holds kind x ≡ true) (eqb-true a b q) h) (λ q. holds_in kind a b l e (sym (ap (λ x. x || holds l b) q) ∙ t)) (two (nat_eq a b))
+    ⊎_elim (λ q. subst (λ x. holds kind x ≡ true) (eqb-true a b q) h) (λ q. holds_in kind a b l e (sym (ap (λ x. x || holds l b) q) ∙ t))
+    (two (nat_eq a b))
 
 pub inner_of : (g : Graph) (a b : ℕ) (l : Kind) → kind_of g a ≡ Some l → has g a ≡ true → (nat_eq a b || holds l b) ≡ true → has g b ≡ true
 inner_of g a b l e h t =
-    ⊎_elim (λ q. subst (λ x. has g x ≡ true) (eqb-true a b q) h) (λ q. has_in g a b l e (sym (ap (λ x. x || holds l b) q) ∙ t)) (two (nat_eq a b))
+    ⊎_elim (λ q. subst (λ x. has g x ≡ true) (eqb-true a b q) h) (λ q. has_in g a b l e (sym (ap (λ x. x || holds l b) q) ∙ t))
+    (two (nat_eq a b))
 
 -- THE BRANCH THAT IS TAKEN
 
@@ -181,9 +198,13 @@ module _ (b : Graph) where
   taken_has no_branch c e q h = absurd (none-some b e)
   taken_has (branch a rest) c e q h =
       ⊎_elim
-      (λ t. let same : Some a ≡ Some b = sym (when (is_one c) (Some a) _ t) ∙ e in let is : a ≡ b = cc in ap (λ p. p || has_any rest q) (subst (λ g. has g q ≡ true) (sym is) h))
-      (λ u. either_or (has a q) true (has a q) (has_any rest q) (λ p. p) (λ p. taken_has rest (less_one c) (sym (unless (is_one c) (Some a) _ u) ∙ e) q h) (or_true (has a q)))
+      (λ t. let same : Some a ≡ Some b = sym (when (is_one c) (Some a) _ t) ∙ e in let is : a ≡ b = cc in
+      ap (λ p. p || has_any rest q) (subst (λ g. has g q ≡ true) (sym is) h))
+      (λ u. either_or (has a q) true (has a q) (has_any rest q) (λ p. p)
+      (λ p. taken_has rest (less_one c) (sym (unless (is_one c) (Some a) _ u) ∙ e) q h) (or_true (has a q)))
       (two (is_one c))
 
-  pub taken_within : (bs : Branches) (c : ℕ) → branch_at bs c ≡ Some b → (i : List ℕ) (y : Address) → is_within b i y ≡ true → is_among bs i y ≡ true
-  taken_within bs c e i y w = let h = and_in (has b y.name) (starts i y.at) w in and_of (has_any bs y.name) (starts i y.at) (taken_has bs c e y.name h.0) h.1
+  pub taken_within : (bs : Branches) (c : ℕ) → branch_at bs c ≡ Some b → (i : List ℕ) (y : Address) → is_within b i y ≡ true
+      → is_among bs i y ≡ true
+  taken_within bs c e i y w =
+      let h = and_in (has b y.name) (starts i y.at) w in and_of (has_any bs y.name) (starts i y.at) (taken_has bs c e y.name h.0) h.1

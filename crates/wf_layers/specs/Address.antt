@@ -55,20 +55,24 @@ module _ (low : ℕ → ℕ → Type 0) where
   abbrev mutual
     pub earlier_in : Kind → List ℕ → Address → Address → Type 0
     earlier_in Leaf i y z = ⊥
-    earlier_in (Scope g) i y z = (is_within g i y ≡ true) × (is_within g i z ≡ true) × (Lower low (owner g i y) (owner g i z) ⊎ together g i y z)
+    earlier_in (Scope g) i y z =
+        (is_within g i y ≡ true) × (is_within g i z ≡ true) × (Lower low (owner g i y) (owner g i z) ⊎ together g i y z)
     earlier_in (Choice bs) i y z = earlier_any bs i y z
     earlier_in (Foreach pace g) i y z =
-        ((j : ℕ) × (is_within g (i ++ j ∷ []) y ≡ true) × (is_within g (i ++ j ∷ []) z ≡ true) × (Lower low (owner g (i ++ j ∷ []) y) (owner g (i ++ j ∷ []) z) ⊎ together g (i ++ j ∷ []) y z))
+        ((j : ℕ) × (is_within g (i ++ j ∷ []) y ≡ true) × (is_within g (i ++ j ∷ []) z ≡ true)
+        × (Lower low (owner g (i ++ j ∷ []) y) (owner g (i ++ j ∷ []) z) ⊎ together g (i ++ j ∷ []) y z))
         ⊎ ((j : ℕ) × (m : ℕ) × (pace ≡ InTurn) × (j < m) × (is_within g (i ++ j ∷ []) y ≡ true) × (is_within g (i ++ m ∷ []) z ≡ true))
     earlier_in (Until most g) i y z =
-        ((j : ℕ) × (is_within g (i ++ j ∷ []) y ≡ true) × (is_within g (i ++ j ∷ []) z ≡ true) × (Lower low (owner g (i ++ j ∷ []) y) (owner g (i ++ j ∷ []) z) ⊎ together g (i ++ j ∷ []) y z))
+        ((j : ℕ) × (is_within g (i ++ j ∷ []) y ≡ true) × (is_within g (i ++ j ∷ []) z ≡ true)
+        × (Lower low (owner g (i ++ j ∷ []) y) (owner g (i ++ j ∷ []) z) ⊎ together g (i ++ j ∷ []) y z))
         ⊎ ((j : ℕ) × (m : ℕ) × (j < m) × (is_within g (i ++ j ∷ []) y ≡ true) × (is_within g (i ++ m ∷ []) z ≡ true))
 
     -- In one and the same branch.
     pub earlier_any : Branches → List ℕ → Address → Address → Type 0
     earlier_any no_branch i y z = ⊥
     earlier_any (branch b rest) i y z =
-        ((is_within b i y ≡ true) × (is_within b i z ≡ true) × (Lower low (owner b i y) (owner b i z) ⊎ together b i y z)) ⊎ earlier_any rest i y z
+        ((is_within b i y ≡ true) × (is_within b i z ≡ true) × (Lower low (owner b i y) (owner b i z) ⊎ together b i y z))
+        ⊎ earlier_any rest i y z
 
     -- Both in one action of the graph, and y is earlier in it.
     pub together : Graph → List ℕ → Address → Address → Type 0

@@ -29,7 +29,12 @@ module _ {Row Begun Decision Verdict : Type 0} (m : Source Row Begun Decision Ve
 
 -- An address is called for: it is that of an action of a graph that is entered; or its action is in no loop of a container that is skipped
 -- there, or of a branch that isn't taken.
-pub data IsCalled {Row Begun Decision Verdict : Type 0} (m : Source Row Begun Decision Verdict) (d : Graph) (f : Table Row) : Address → Type 0 where
-  runs : {g : Graph} {i : List ℕ} {n : ℕ} {after : List Need} {kind : Kind} → IsOpen m.taken d (entries m d f) g i → In g n after kind → IsCalled m d f (address n i)
-  in_skipped : {g : Graph} {i : List ℕ} {n : ℕ} {after : List Need} {kind : Kind} (q : ℕ) → IsOpen m.taken d (entries m d f) g i → In g n after kind → gate m after n i f ≡ false → shows kind q ≡ true → IsCalled m d f (address q i)
-  not_taken : {g : Graph} {i : List ℕ} {n : ℕ} {after : List Need} {bs : Branches} (q : ℕ) → IsOpen m.taken d (entries m d f) g i → In g n after (Choice bs) → gate m after n i f ≡ true → in_others bs (m.taken (m.decide (address n i) f)) i (address q i) ≡ true → plain_any bs q ≡ true → IsCalled m d f (address q i)
+pub data IsCalled {Row Begun Decision Verdict : Type 0} (m : Source Row Begun Decision Verdict) (d : Graph) (f : Table Row) : Address
+    → Type 0 where
+  runs : {g : Graph} {i : List ℕ} {n : ℕ} {after : List Need} {kind : Kind} → IsOpen m.taken d (entries m d f) g i → In g n after kind
+      → IsCalled m d f (address n i)
+  in_skipped : {g : Graph} {i : List ℕ} {n : ℕ} {after : List Need} {kind : Kind} (q : ℕ) → IsOpen m.taken d (entries m d f) g i
+      → In g n after kind → gate m after n i f ≡ false → shows kind q ≡ true → IsCalled m d f (address q i)
+  not_taken : {g : Graph} {i : List ℕ} {n : ℕ} {after : List Need} {bs : Branches} (q : ℕ) → IsOpen m.taken d (entries m d f) g i
+      → In g n after (Choice bs) → gate m after n i f ≡ true → in_others bs (m.taken (m.decide (address n i) f)) i (address q i) ≡ true
+      → plain_any bs q ≡ true → IsCalled m d f (address q i)

@@ -1,5 +1,5 @@
 -- The laws of order independence, as facts of a definition, a source and its meaning.
-use Rattle.std.specs.Prelude.{◌≡◌, ℕ, Bool, true, false, List, [], Some, ◌≤◌, length, Option, None}
+use Rattle.std.specs.Prelude.{◌≡◌, ℕ, Bool, true, false, List, [], Some, ◌+◌, ◌*◌, ◌≤◌, length, Option, None, ◌++◌, ◌∷◌}
 use Rattle.wf_layers.specs.Definition.{Graph, IsDepth, Closed, Turns}
 use Rattle.wf_layers.specs.Address.{Address, SeenIn, is_within}
 use Rattle.wf_layers.specs.Source.{Source, Sound}
@@ -8,10 +8,13 @@ use Rattle.wf_layers.specs.Address.{Table}
 use Rattle.wf_layers.specs.Rule.{look, Obeys}
 use Rattle.wf_layers.specs.Part.{IsPart}
 use Rattle.wf_layers.specs.Called.{IsCalled}
-use Rattle.wf_layers.specs.Variables.{SeesFinished, SeenAreThere, TestSees, Stores, OneOrder, StoreHolds}
-use Rattle.wf_layers.specs.Bound.{total}
+use Rattle.wf_layers.specs.Variables.{SeesFinished, SeenAreThere, TestSees, Stores, OneOrder, IsLastWritten, StoreHolds, StoreHoldsAtTests}
+use Rattle.wf_layers.specs.Bound.{total, left, TellsTurns, Costs}
 use Rattle.wf_layers.specs.Facts.{Facts}
-use Rattle.wf_layers.specs.Machine.{State, fresh, has_ended, Event, place_of, Step, Run, IsOver}
+use Rattle.wf_layers.specs.Listed.{Lists, sum_of}
+use Rattle.wf_layers.specs.Enabled.{events}
+use Rattle.wf_layers.specs.Changes.{may_change}
+use Rattle.wf_layers.specs.Machine.{Running, Opening, State, fresh, has_ended, Event, place_of, Step, Run, IsOver}
 
 module _ {Row Begun Decision Verdict : Type 0} where
   -- A source of an environment of its own: no row is kept from an old table, and no container is closed again.
@@ -39,7 +42,8 @@ module _ {Row Begun Decision Verdict : Type 0} where
   abbrev pub RowsWhereCalledFor : Graph → Source Row Begun Decision Verdict → (ℕ → ℕ) → Type 0
   RowsWhereCalledFor d m depth =
       (x : Address) → is_within d [] x ≡ true
-      → (IsCalled m d (meaning m depth d) x → has_ended (meaning m depth d x) ≡ true) × (has_ended (meaning m depth d x) ≡ true → IsCalled m d (meaning m depth d) x)
+      → (IsCalled m d (meaning m depth d) x → has_ended (meaning m depth d x) ≡ true)
+      × (has_ended (meaning m depth d x) ≡ true → IsCalled m d (meaning m depth d) x)
 
   -- Two tables that obey the rule are the same.
   abbrev pub RowsAreUnique : Graph → Source Row Begun Decision Verdict → Type 0
@@ -51,40 +55,104 @@ module _ {Row Begun Decision Verdict : Type 0} where
 
   abbrev pub PartIsUnique : Graph → Source Row Begun Decision Verdict → Type 0
   PartIsUnique d m =
-      (part near : ℕ → Bool) → IsPart d part near → (t u : Table Row) → ObeysIn d m part t → ObeysIn d m part u → (x : Address) → is_within d [] x ≡ true → part x.name ≡ true → t x ≡ u x
+      (part near : ℕ → Bool) → IsPart d part near → (t u : Table Row) → ObeysIn d m part t → ObeysIn d m part u → (x : Address)
+      → is_within d [] x ≡ true → part x.name ≡ true → t x ≡ u x
 
   -- Whatever order the events of a run were taken in, each row is the meaning's.
   abbrev pub RowsAreTheMeanings : Graph → Source Row Begun Decision Verdict → (ℕ → ℕ) → Type 0
   RowsAreTheMeanings d m depth =
-      (es : List Event) (s : State Row Begun Decision Verdict) → Run d m fresh es s → (x : Address) (r : Row) → s.rows x ≡ Some r → meaning m depth d x ≡ Some r
+      (es : List Event) (s : State Row Begun Decision Verdict) → Run d m fresh es s → (x : Address) (r : Row) → s.rows x ≡ Some r
+      → meaning m depth d x ≡ Some r
 
   -- And where nothing is enabled any more, all rows of the meaning are there.
   abbrev pub AllRowsAtTheEnd : Graph → Source Row Begun Decision Verdict → (ℕ → ℕ) → Type 0
   AllRowsAtTheEnd d m depth =
-      (es : List Event) (s : State Row Begun Decision Verdict) → Run d m fresh es s → IsOver d m s → (x : Address) → is_within d [] x ≡ true → s.rows x ≡ meaning m depth d x
+      (es : List Event) (s : State Row Begun Decision Verdict) → Run d m fresh es s → IsOver d m s → (x : Address) → is_within d [] x ≡ true
+      → s.rows x ≡ meaning m depth d x
 
   -- Each state that a run reaches has the facts, with the meaning's rows.
   abbrev pub FactsOfStates : Graph → Source Row Begun Decision Verdict → (ℕ → ℕ) → Type 0
   FactsOfStates d m depth = (es : List Event) (s : State Row Begun Decision Verdict) → Run d m fresh es s → Facts d m (meaning m depth d) s
 
-  -- In each state that a run reaches: as an action is decided, the finished accesses that it is ordered with, or exclusive, are those that it sees, and all that it sees is there.
+  -- In each state that a run reaches: as an action is decided, the finished accesses that it is ordered with, or exclusive, are those that
+  -- it sees, and all that it sees is there.
   abbrev pub VariablesInOrder : Graph → Source Row Begun Decision Verdict → (ℕ → ℕ) → Type 0
-  VariablesInOrder d m depth = (es : List Event) (s : State Row Begun Decision Verdict) → Run d m fresh es s → SeesFinished d m s × SeenAreThere d m (meaning m depth d) s
+  VariablesInOrder d m depth =
+      (es : List Event) (s : State Row Begun Decision Verdict) → Run d m fresh es s
+      → SeesFinished d m s × SeenAreThere d m (meaning m depth d) s
 
   -- And the same as an Until is tested.
   abbrev pub TestsInOrder : Graph → Source Row Begun Decision Verdict → (ℕ → ℕ) → Type 0
-  TestsInOrder d m depth = (es : List Event) (s : State Row Begun Decision Verdict) → Run d m fresh es s → TestSees d m (meaning m depth d) s
+  TestsInOrder d m depth =
+      (es : List Event) (s : State Row Begun Decision Verdict) → Run d m fresh es s → TestSees d m (meaning m depth d) s
 
-  -- So a store that each finished writer overwrites holds, as an action is decided, the value of the last writer that it sees.
-  abbrev pub StoreHoldsTheLast : {Value : Type 0} → Graph → Source Row Begun Decision Verdict → (ℕ → ℕ) → (Address → Row → Option Value) → Type 0
+  -- A store that each finished writer overwrites holds at each moment the value of the last finished writer; as an action is decided, or an
+  -- Until tested, that of the last writer that it sees.
+  abbrev pub StoreHoldsTheLast : {Value : Type 0} → Graph → Source Row Begun Decision Verdict → (ℕ → ℕ) → (Address → Row → Option Value)
+      → Type 0
   StoreHoldsTheLast {Value} d m depth writes =
-      OneOrder d m writes (meaning m depth d) → (es : List Event) (s : State Row Begun Decision Verdict) (v : Option Value) → Stores d m writes fresh es s None v → StoreHolds d m writes (meaning m depth d) s v
+      OneOrder d m writes (meaning m depth d) → (es : List Event) (s : State Row Begun Decision Verdict) (v : Option Value)
+      → Stores d m writes fresh es s None v
+      → IsLastWritten d m writes s.rows v × StoreHolds d m writes (meaning m depth d) s v × StoreHoldsAtTests d m writes
+      (meaning m depth d) s v
 
-  -- A run has at most as many events as the meaning's rows give the definition, so each run ends.
-  abbrev pub EventsAreBounded : Graph → Source Row Begun Decision Verdict → (ℕ → ℕ) → Type 0
-  EventsAreBounded d m depth = (es : List Event) (s : State Row Begun Decision Verdict) → Run d m fresh es s → length es ≤ total m (meaning m depth d) d []
+  -- At each moment the events so far and those that are left are all that the meaning's rows give the definition.
+  abbrev pub EventsAreCounted : Graph → Source Row Begun Decision Verdict → (ℕ → ℕ) → Type 0
+  EventsAreCounted d m depth =
+      (es : List Event) (s : State Row Begun Decision Verdict) → Run d m fresh es s
+      → length es + left m (meaning m depth d) s d [] ≡ total m (meaning m depth d) d []
+
+  -- So each run that is over has exactly that many, in whatever order.
+  abbrev pub EventsAtTheEnd : Graph → Source Row Begun Decision Verdict → (ℕ → ℕ) → Type 0
+  EventsAtTheEnd d m depth =
+      (es : List Event) (s : State Row Begun Decision Verdict) → Run d m fresh es s → IsOver d m s
+      → length es ≡ total m (meaning m depth d) d []
+
+  -- And at each moment the events so far are at most two for each row, running leaf, open container, attempt and begun iteration. So 32
+  -- times their number is at most the cost of the entries of the state, however it is kept.
+  abbrev pub EventsAreFew : (RowAt LeafAt OpenAt : Type 0) → Graph → Source Row Begun Decision Verdict → Table Row
+      → State Row Begun Decision Verdict → List Event → Type 0
+  EventsAreFew RowAt LeafAt OpenAt d m f s es =
+      (turns : Row → ℕ) → TellsTurns d m f turns
+      → (row_at : RowAt → Address) (row : RowAt → Row) (leaf_at : LeafAt → Address) (leaf : LeafAt → Running Begun)
+      (open_at : OpenAt → Address) (opening : OpenAt → Opening Decision Verdict)
+      → (of_row : RowAt → ℕ) (of_leaf : LeafAt → ℕ) (of_open : OpenAt → ℕ) → Costs turns row leaf opening of_row of_leaf of_open
+      → (rows : List RowAt) (leaves : List LeafAt) (opens : List OpenAt) → Lists row_at row s.rows rows
+      → Lists leaf_at leaf s.running leaves → Lists open_at opening s.opens opens
+      → 32 * length es ≤ sum_of of_row rows + sum_of of_leaf leaves + sum_of of_open opens
+
+  abbrev pub EventsOfRunsAreFew : (RowAt LeafAt OpenAt : Type 0) → Graph → Source Row Begun Decision Verdict → (ℕ → ℕ) → Type 0
+  EventsOfRunsAreFew RowAt LeafAt OpenAt d m depth =
+      (es : List Event) (s : State Row Begun Decision Verdict) → Run d m fresh es s
+      → EventsAreFew RowAt LeafAt OpenAt d m (meaning m depth d) s es
 
   -- In a state that a run reaches, at most one event is enabled at an address.
   abbrev pub OneEventAtAnAddress : Graph → Source Row Begun Decision Verdict → (ℕ → ℕ) → Type 0
   OneEventAtAnAddress d m depth =
-      (es : List Event) (s : State Row Begun Decision Verdict) → Run d m fresh es s → (e e' : Event) (s1 s2 : State Row Begun Decision Verdict) → Step d m s e s1 → Step d m s e' s2 → place_of e ≡ place_of e' → e ≡ e'
+      (es : List Event) (s : State Row Begun Decision Verdict) → Run d m fresh es s
+      → (e e' : Event) (s1 s2 : State Row Begun Decision Verdict) → Step d m s e s1 → Step d m s e' s2 → place_of e ≡ place_of e'
+      → e ≡ e'
+
+  -- The table of events has at an address exactly the event that is enabled there.
+  pub record Exact (d : Graph) (m : Source Row Begun Decision Verdict) (s : State Row Begun Decision Verdict) : Type 0 where
+    pub each : (e : Event) (s' : State Row Begun Decision Verdict) → Step d m s e s' → events m s d [] (place_of e) ≡ Some e
+    pub only : (x : Address) (e : Event) → events m s d [] x ≡ Some e
+        → (x ≡ place_of e) × ((s' : State Row Begun Decision Verdict) × Step d m s e s')
+
+  abbrev pub EventsAreExact : Graph → Source Row Begun Decision Verdict → Type 0
+  EventsAreExact d m = (es : List Event) (s : State Row Begun Decision Verdict) → Run d m fresh es s → Exact d m s
+
+  -- As an event is taken, no other address changes what is enabled there.
+  abbrev pub ChangesOnlyThere : Graph → Source Row Begun Decision Verdict → State Row Begun Decision Verdict → Type 0
+  ChangesOnlyThere d m s =
+      (e : Event) (s' : State Row Begun Decision Verdict) → Step d m s e s' → (x : Address) → may_change d s e x ≡ false
+      → events m s' d [] x ≡ events m s d [] x
+
+  abbrev pub EventsChangeOnlyThere : Graph → Source Row Begun Decision Verdict → Type 0
+  EventsChangeOnlyThere d m = (es : List Event) (s : State Row Begun Decision Verdict) → Run d m fresh es s → ChangesOnlyThere d m s
+
+  -- A run goes on by one event at its end.
+  abbrev pub RunsGrow : Graph → Source Row Begun Decision Verdict → Type 0
+  RunsGrow d m =
+      (s mid s' : State Row Begun Decision Verdict) (es : List Event) (e : Event) → Run d m s es mid → Step d m mid e s'
+      → Run d m s (es ++ e ∷ []) s'

@@ -9,8 +9,14 @@ pub mod Called
 pub mod Facts
 pub mod Variables
 pub mod Bound
+pub mod Enabled
+pub mod Changes
+pub mod Listed
+pub mod Waiting
 pub mod Laws
 pub mod Redo
 pub mod Resubmission
 pub mod Shape
 pub mod Seen
+pub mod Answered
+pub mod Record

@@ -28,15 +28,22 @@ fresh = record { rows = λ x. None; running = λ x. None; opens = λ x. None }
 -- The action stands in the graph.
 pub data In : Graph → ℕ → List Need → Kind → Type 0 where
   here : {n : ℕ} {after : List Need} {kind : Kind} {rest : Graph} → In (add n after kind rest) n after kind
-  there : {n m : ℕ} {after before : List Need} {kind other : Kind} {rest : Graph} → In rest n after kind → In (add m before other rest) n after kind
+  there : {n m : ℕ} {after before : List Need} {kind other : Kind} {rest : Graph} → In rest n after kind
+      → In (add m before other rest) n after kind
 
--- The graph is open at these indexes: it is the whole definition, that of an open Scope, the taken branch of an open Choice, or that of a begun iteration.
-pub data IsOpen {Decision Verdict : Type 0} (taken : Decision → ℕ) (d : Graph) (o : Table (Opening Decision Verdict)) : Graph → List ℕ → Type 0 where
+-- The graph is open at these indexes: it is the whole definition, that of an open Scope, the taken branch of an open Choice, or that of a
+-- begun iteration.
+pub data IsOpen {Decision Verdict : Type 0} (taken : Decision → ℕ) (d : Graph) (o : Table (Opening Decision Verdict)) : Graph → List ℕ
+    → Type 0 where
   top : IsOpen taken d o d []
-  scope : {g h : Graph} {i : List ℕ} {n : ℕ} {after : List Need} {w : Opening Decision Verdict} → IsOpen taken d o g i → In g n after (Scope h) → o (address n i) ≡ Some w → IsOpen taken d o h i
-  chosen : {g b : Graph} {i : List ℕ} {n : ℕ} {after : List Need} {bs : Branches} {w : Opening Decision Verdict} → IsOpen taken d o g i → In g n after (Choice bs) → o (address n i) ≡ Some w → branch_at bs (taken w.decision) ≡ Some b → IsOpen taken d o b i
-  turn : {g h : Graph} {i : List ℕ} {n : ℕ} {after : List Need} {pace : Pace} {w : Opening Decision Verdict} (j : ℕ) → IsOpen taken d o g i → In g n after (Foreach pace h) → o (address n i) ≡ Some w → j < w.next → IsOpen taken d o h (i ++ j ∷ [])
-  round : {g h : Graph} {i : List ℕ} {n most : ℕ} {after : List Need} {w : Opening Decision Verdict} (j : ℕ) → IsOpen taken d o g i → In g n after (Until most h) → o (address n i) ≡ Some w → j < w.next → IsOpen taken d o h (i ++ j ∷ [])
+  scope : {g h : Graph} {i : List ℕ} {n : ℕ} {after : List Need} {w : Opening Decision Verdict} → IsOpen taken d o g i
+      → In g n after (Scope h) → o (address n i) ≡ Some w → IsOpen taken d o h i
+  chosen : {g b : Graph} {i : List ℕ} {n : ℕ} {after : List Need} {bs : Branches} {w : Opening Decision Verdict} → IsOpen taken d o g i
+      → In g n after (Choice bs) → o (address n i) ≡ Some w → branch_at bs (taken w.decision) ≡ Some b → IsOpen taken d o b i
+  turn : {g h : Graph} {i : List ℕ} {n : ℕ} {after : List Need} {pace : Pace} {w : Opening Decision Verdict} (j : ℕ) → IsOpen taken d o g i
+      → In g n after (Foreach pace h) → o (address n i) ≡ Some w → j < w.next → IsOpen taken d o h (i ++ j ∷ [])
+  round : {g h : Graph} {i : List ℕ} {n most : ℕ} {after : List Need} {w : Opening Decision Verdict} (j : ℕ) → IsOpen taken d o g i
+      → In g n after (Until most h) → o (address n i) ≡ Some w → j < w.next → IsOpen taken d o h (i ++ j ∷ [])
 
 abbrev pub has_ended : {A : Type 0} → Option A → Bool
 has_ended None = false
@@ -173,13 +180,27 @@ module _ {Row Begun Decision Verdict : Type 0} (d : Graph) (m : Source Row Begun
   abbrev pub Step : State Row Begun Decision Verdict → Event → State Row Begun Decision Verdict → Type 0
   Step s (Start n i) s' =
       (after : List Need) × IsDecided s n i after Leaf × (gate m after n i s.rows ≡ true)
-      × (s' ≡ record { rows = s.rows; running = place (one n i (record { begun = m.start (address n i) s.rows; tries = 0 })) s.running; opens = s.opens })
+      × (s' ≡ record {
+        rows = s.rows;
+        running = place (one n i (record { begun = m.start (address n i) s.rows; tries = 0 })) s.running;
+        opens = s.opens;
+      })
   Step s (Try n i) s' =
       (w : Running Begun) × (s.running (address n i) ≡ Some w) × (w.tries < m.tries (address n i) w.begun)
-      × (s' ≡ record { rows = s.rows; running = place (one n i (record { begun = w.begun; tries = suc w.tries })) s.running; opens = s.opens })
+      × (s' ≡ record {
+        rows = s.rows;
+        running = place (one n i (record { begun = w.begun; tries = suc w.tries })) s.running;
+        opens =
+            s.opens;
+      })
   Step s (End n i) s' =
       (w : Running Begun) × (s.running (address n i) ≡ Some w) × (w.tries ≡ m.tries (address n i) w.begun)
-      × (s' ≡ record { rows = place (one n i (m.finish (address n i) w.begun s.rows)) s.rows; running = without n i s.running; opens = s.opens })
+      × (s' ≡ record {
+        rows = place (one n i (m.finish (address n i) w.begun s.rows)) s.rows;
+        running = without n i s.running;
+        opens =
+            s.opens;
+      })
   Step s (Skip n i) s' =
       (after : List Need) × (kind : Kind) × IsDecided s n i after kind × (gate m after n i s.rows ≡ false)
       × (s' ≡ record { rows = place (skip m n kind i) s.rows; running = s.running; opens = s.opens })
@@ -191,14 +212,32 @@ module _ {Row Begun Decision Verdict : Type 0} (d : Graph) (m : Source Row Begun
         opens = opened n i (Some (record { decision = m.decide (address n i) s.rows; next = 0; test = None })) s.opens;
       })
   Step s (Begin n i) s' =
-      (after : List Need) × (kind : Kind) × (w : Opening Decision Verdict) × IsThere s n i after kind × (s.opens (address n i) ≡ Some w) × MayBegin m kind i w s.rows
-      × (s' ≡ record { rows = s.rows; running = s.running; opens = opened n i (Some (record { decision = w.decision; next = suc w.next; test = None })) s.opens })
+      (after : List Need) × (kind : Kind) × (w : Opening Decision Verdict) × IsThere s n i after kind × (s.opens (address n i) ≡ Some w)
+      × MayBegin m kind i w s.rows
+      × (s' ≡ record {
+        rows = s.rows;
+        running = s.running;
+        opens =
+            opened n i (Some (record { decision = w.decision; next = suc w.next; test = None })) s.opens;
+      })
   Step s (Test n i) s' =
-      (after : List Need) × (kind : Kind) × (w : Opening Decision Verdict) × (j : ℕ) × IsThere s n i after kind × (s.opens (address n i) ≡ Some w) × MayTest m kind i w s.rows j
-      × (s' ≡ record { rows = s.rows; running = s.running; opens = opened n i (Some (record { decision = w.decision; next = w.next; test = Some (m.test (address n i) j s.rows) })) s.opens })
+      (after : List Need) × (kind : Kind) × (w : Opening Decision Verdict) × (j : ℕ) × IsThere s n i after kind
+      × (s.opens (address n i) ≡ Some w) × MayTest m kind i w s.rows j
+      × (s' ≡ record {
+        rows = s.rows;
+        running = s.running;
+        opens =
+            opened n i (Some (record { decision = w.decision; next = w.next; test = Some (m.test (address n i) j s.rows) })) s.opens;
+      })
   Step s (Close n i) s' =
-      (after : List Need) × (kind : Kind) × (w : Opening Decision Verdict) × IsThere s n i after kind × (s.opens (address n i) ≡ Some w) × MayClose m kind i w s.rows
-      × (s' ≡ record { rows = place (one n i (closing m kind (address n i) w s.rows)) s.rows; running = s.running; opens = opened n i None s.opens })
+      (after : List Need) × (kind : Kind) × (w : Opening Decision Verdict) × IsThere s n i after kind × (s.opens (address n i) ≡ Some w)
+      × MayClose m kind i w s.rows
+      × (s' ≡ record {
+        rows = place (one n i (closing m kind (address n i) w s.rows)) s.rows;
+        running = s.running;
+        opens =
+            opened n i None s.opens;
+      })
 
   -- The list of events, each enabled in its turn, leads from s to s'.
   abbrev pub Run : State Row Begun Decision Verdict → List Event → State Row Begun Decision Verdict → Type 0

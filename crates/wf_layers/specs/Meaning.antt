@@ -53,9 +53,9 @@ module _ {Row Begun Decision Verdict : Type 0} (s : Source Row Begun Decision Ve
   abbrev pub skip : ℕ → Kind → List ℕ → Table Row
   skip n kind i x = cond ((nat_eq n x.name || shows kind x.name) && same_at i x.at) (Some s.skipped) None
 
-  -- And of a graph that isn't taken.
+  -- And of a graph that isn't taken; but what is kept there keeps its rows.
   abbrev pub skip_all : Graph → List ℕ → Table Row
-  skip_all g i x = cond (plain g x.name && same_at i x.at) (Some s.skipped) None
+  skip_all g i x = cond (s.pinned x.name) (s.old x) (cond (plain g x.name && same_at i x.at) (Some s.skipped) None)
 
 module _ {Row Begun Decision Verdict : Type 0} (s : Source Row Begun Decision Verdict) (depth : ℕ → ℕ) where
   -- THE LAYERED MEANING
@@ -78,19 +78,23 @@ module _ {Row Begun Decision Verdict : Type 0} (s : Source Row Begun Decision Ve
         let k' : ℕ → Table Row = λ c. turns c (λ j. layers (deepest depth g) (layer g (i ++ j ∷ []))) k in
         let tested : ℕ → Verdict = λ j. s.test (address n i) j (k' (suc j)) in
         let c = rounds most 0 (λ j. s.ends (tested j)) in
-        cond (is_own n i x) (Some (s.close (address n i) (s.decide (address n i) k) c (last c tested) (k' c))) (only (is_within g i x) (k' c x))
+        cond (is_own n i x) (Some (s.close (address n i) (s.decide (address n i) k) c (last c tested) (k' c)))
+        (only (is_within g i x) (k' c x))
 
     -- The rows of the branch that is taken, and Skipped ones of the others.
     pub run_any : Branches → ℕ → List ℕ → Table Row → Table Row
     run_any no_branch c i k x = k x
-    run_any (branch b rest) c i k x = cond (is_within b i x) (cond (is_one c) (layers (deepest depth b) (layer b i) k x) (skip_all s b i x)) (run_any rest (less_one c) i k x)
+    run_any (branch b rest) c i k x =
+        cond (is_within b i x) (cond (is_one c) (layers (deepest depth b) (layer b i) k x) (skip_all s b i x))
+        (run_any rest (less_one c) i k x)
 
     -- The blocks of all actions of depth d, each from what is known, joined.
     pub layer : Graph → List ℕ → ℕ → Table Row → Table Row
     layer done i d k x = k x
     layer (add n after kind rest) i d k x =
         cond (is_in n kind i x)
-        (cond (nat_eq (depth n) d) (cond (s.pinned n) (s.old x) (cond (s.reclosed n || gate s after n i k) (run kind n i k x) (skip s n kind i x))) (k x))
+        (cond (nat_eq (depth n) d)
+        (cond (s.pinned n) (s.old x) (cond (s.reclosed n || gate s after n i k) (run kind n i k x) (skip s n kind i x))) (k x))
         (layer rest i d k x)
 
   abbrev pub meaning : Graph → Table Row

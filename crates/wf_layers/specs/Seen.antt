@@ -19,7 +19,8 @@ abbrev mutual
 
   pub Once : Graph → Type 0
   Once done = Unit {0}
-  Once (add n after kind rest) = (holds kind n ≡ false) × ((m : ℕ) → (nat_eq n m || holds kind m) ≡ true → has rest m ≡ false) × OnceIn kind × Once rest
+  Once (add n after kind rest) =
+      (holds kind n ≡ false) × ((m : ℕ) → (nat_eq n m || holds kind m) ≡ true → has rest m ≡ false) × OnceIn kind × Once rest
 
 -- In l loops, each action of the graph sees what it waits for.
 module _ (d : Graph) where
@@ -40,7 +41,8 @@ module _ (d : Graph) where
     Waits (add n after kind rest) l =
         ((i : List ℕ) → length i ≡ l → (p : ℕ) → Names after p → SeenIn d (address n i) (address p i)) × WaitsIn kind l × Waits rest l
 
--- In l loops, each answer of the source looks only at what is earlier: the premise of the laws, but for the names and for what is waited for.
+-- In l loops, each answer of the source looks only at what is earlier: the premise of the laws, but for the names and for what is waited
+-- for.
 module _ {Row Begun Decision Verdict : Type 0} (d : Graph) (m : Source Row Begun Decision Verdict) where
   abbrev mutual
     pub AnswersIn : Kind → ℕ → ℕ → Type 0
@@ -48,7 +50,8 @@ module _ {Row Begun Decision Verdict : Type 0} (d : Graph) (m : Source Row Begun
     AnswersIn (Scope g) n l = CloseLocal m (SeenIn d) (Scope g) n l × DecideLocal m (SeenIn d) n l × Answers g l
     AnswersIn (Choice bs) n l = CloseLocal m (SeenIn d) (Choice bs) n l × DecideLocal m (SeenIn d) n l × AnswersAny bs l
     AnswersIn (Foreach pace g) n l = CloseLocal m (SeenIn d) (Foreach pace g) n l × DecideLocal m (SeenIn d) n l × Answers g (suc l)
-    AnswersIn (Until most g) n l = CloseLocal m (SeenIn d) (Until most g) n l × DecideLocal m (SeenIn d) n l × TestLocal m (SeenIn d) g n l × Answers g (suc l)
+    AnswersIn (Until most g) n l =
+        CloseLocal m (SeenIn d) (Until most g) n l × DecideLocal m (SeenIn d) n l × TestLocal m (SeenIn d) g n l × Answers g (suc l)
 
     pub AnswersAny : Branches → ℕ → Type 0
     AnswersAny no_branch l = Unit {0}
@@ -57,4 +60,5 @@ module _ {Row Begun Decision Verdict : Type 0} (d : Graph) (m : Source Row Begun
     pub Answers : Graph → ℕ → Type 0
     Answers done l = Unit {0}
     Answers (add n after kind rest) l =
-        ((i : List ℕ) → length i ≡ l → (t u : Table Row) → Agrees (SeenIn d) (address n i) t u → m.halts (address n i) t ≡ m.halts (address n i) u) × AnswersIn kind n l × Answers rest l
+        ((i : List ℕ) → length i ≡ l → (t u : Table Row) → Agrees (SeenIn d) (address n i) t u
+        → m.halts (address n i) t ≡ m.halts (address n i) u) × AnswersIn kind n l × Answers rest l

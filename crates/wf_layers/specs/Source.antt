@@ -78,26 +78,33 @@ module _ {Row Begun Decision Verdict : Type 0} (s : Source Row Begun Decision Ve
   abbrev pub GateLocal : List Need → ℕ → ℕ → Type 0
   GateLocal after n l =
       ((i : List ℕ) → length i ≡ l → (p : ℕ) → Names after p → Sees (address n i) (address p i))
-      × ((i : List ℕ) → length i ≡ l → (t u : Table Row) → Agrees Sees (address n i) t u → s.halts (address n i) t ≡ s.halts (address n i) u)
+      × ((i : List ℕ) → length i ≡ l → (t u : Table Row) → Agrees Sees (address n i) t u
+      → s.halts (address n i) t ≡ s.halts (address n i) u)
 
   abbrev pub StartLocal : ℕ → ℕ → Type 0
-  StartLocal n l = (i : List ℕ) → length i ≡ l → (t u : Table Row) → Agrees Sees (address n i) t u → s.start (address n i) t ≡ s.start (address n i) u
+  StartLocal n l =
+      (i : List ℕ) → length i ≡ l → (t u : Table Row) → Agrees Sees (address n i) t u → s.start (address n i) t ≡ s.start (address n i) u
 
   abbrev pub FinishLocal : ℕ → ℕ → Type 0
-  FinishLocal n l = (i : List ℕ) → length i ≡ l → (t u : Table Row) (b : Begun) → Agrees Sees (address n i) t u → s.finish (address n i) b t ≡ s.finish (address n i) b u
+  FinishLocal n l =
+      (i : List ℕ) → length i ≡ l → (t u : Table Row) (b : Begun) → Agrees Sees (address n i) t u
+      → s.finish (address n i) b t ≡ s.finish (address n i) b u
 
   -- the row of a container also looks at what is inside it
   abbrev pub CloseLocal : Kind → ℕ → ℕ → Type 0
   CloseLocal kind n l =
-      (i : List ℕ) → length i ≡ l → (t u : Table Row) (d : Decision) (c : ℕ) (v : Option Verdict) → Agrees Sees (address n i) t u → AgreesInside kind i t u → s.close (address n i) d c v t ≡ s.close (address n i) d c v u
+      (i : List ℕ) → length i ≡ l → (t u : Table Row) (d : Decision) (c : ℕ) (v : Option Verdict) → Agrees Sees (address n i) t u
+      → AgreesInside kind i t u → s.close (address n i) d c v t ≡ s.close (address n i) d c v u
 
   abbrev pub DecideLocal : ℕ → ℕ → Type 0
-  DecideLocal n l = (i : List ℕ) → length i ≡ l → (t u : Table Row) → Agrees Sees (address n i) t u → s.decide (address n i) t ≡ s.decide (address n i) u
+  DecideLocal n l =
+      (i : List ℕ) → length i ≡ l → (t u : Table Row) → Agrees Sees (address n i) t u → s.decide (address n i) t ≡ s.decide (address n i) u
 
   -- a test looks at the iterations so far, too
   abbrev pub TestLocal : Graph → ℕ → ℕ → Type 0
   TestLocal g n l =
-      (i : List ℕ) → length i ≡ l → (t u : Table Row) (j : ℕ) → Agrees Sees (address n i) t u → ((m : ℕ) → m < suc j → AgreesIn g (i ++ m ∷ []) t u) → s.test (address n i) j t ≡ s.test (address n i) j u
+      (i : List ℕ) → length i ≡ l → (t u : Table Row) (j : ℕ) → Agrees Sees (address n i) t u
+      → ((m : ℕ) → m < suc j → AgreesIn g (i ++ m ∷ []) t u) → s.test (address n i) j t ≡ s.test (address n i) j u
 
   abbrev mutual
     pub SoundIn : Kind → ℕ → ℕ → Type 0

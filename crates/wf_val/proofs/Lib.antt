@@ -6,3 +6,7 @@ pub mod ValueTreeLemmas
 pub mod ValueOrderLemmas
 pub mod ValueOrderLaws
 pub mod NodeCountLemmas
+pub mod CharacterLemmas
+pub mod ArityRows
+pub mod NameRows
+pub mod ValueRows

@@ -1,5 +1,5 @@
 -- Items and members that are well formed stay so when one is put, added behind the others or taken out.
-use Rattle.std.proofs.Common.{ℕ, List, [], ◌∷◌, ◌++◌, map, IsUtf8}
+use Rattle.std.proofs.Common.{ℕ, zero, suc, set, List, [], ◌∷◌, ◌++◌, map, IsUtf8}
 use Rattle.std.specs.List.{AllByRecursion}
 use Rattle.wf_val.specs.Get.{name_of}
 use Rattle.wf_val.specs.NameOrder.{IsAboveAll, put_named, without_named}
@@ -41,3 +41,8 @@ AreMembers-without k ms are = record {
 pub AreValues-push : (v : Val) (vs : List Val) → IsWellFormed (tree v) → AreValues (map tree vs) → AreValues (map tree (vs ++ v ∷ []))
 AreValues-push v [] value are = (value, tt)
 AreValues-push v (x ∷ vs) value are = (are.0, AreValues-push v vs value are.1)
+
+pub AreValues-set : (v : Val) (vs : List Val) (i : ℕ) → IsWellFormed (tree v) → AreValues (map tree vs) → AreValues (map tree (set vs i v))
+AreValues-set v [] i value are = are
+AreValues-set v (x ∷ vs) zero value are = (value, are.1)
+AreValues-set v (x ∷ vs) (suc i) value are = (are.0, AreValues-set v vs i value are.1)

@@ -7,7 +7,11 @@ pub mod ValueOrder
 pub mod Cut
 pub mod Address
 pub mod Function
+pub mod Arity
 pub mod ValueCode
 pub mod NodeCounts
 pub mod NodeCountFalls
 pub mod Arguments
+pub mod Joined
+pub mod ValueOrderLaws
+pub mod ValueKeys

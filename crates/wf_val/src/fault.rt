@@ -1,5 +1,6 @@
 //! Why an expression has no value.
 ghost use Rattle.std.specs.Prelude.{◌≡◌};
+ghost use Rattle.wf_val.specs.Arguments.{is_memory};
 ghost use Rattle.wf_val.specs.declared.fault.EvalFault.TheVariants.{Memory};
 
 use crate::function::Fun;
@@ -24,6 +25,18 @@ pub enum EvalFault {
     NoValue { name: Text },
     /// No memory was left.
     Memory,
+}
+
+impl EvalFault {
+    /// Whether memory ran out. No function's row names this fault.
+    pub fn is_memory(&self) -> bool
+        ensures { result ≡ is_memory self.now }
+    {
+        match self {
+            EvalFault::Memory => true,
+            _ => false,
+        }
+    }
 }
 
 impl From<AllocError> for EvalFault {

@@ -7,11 +7,11 @@ ghost use Rattle.wf_val.specs.Get.{name_of, value_of};
 ghost use Rattle.wf_val.specs.NameOrder.{bytes_cmp, IsInNameOrder, IsAboveAll, put_named, without_named, IsPlace, IsGap};
 ghost use Rattle.wf_val.specs.Seen.{tree, member};
 ghost use Rattle.wf_val.specs.ValueOrder.{order, members_order};
-ghost use Rattle.wf_val.specs.ValueTree.{members, members_depth, members_weight};
+ghost use Rattle.wf_val.specs.ValueTree.{object, members, members_depth, members_weight, weight};
 ghost use Rattle.wf_val.specs.WellFormed.{AreMembers};
 
 use crate::text::Text;
-use crate::val::Val;
+use crate::val::{Size, Val};
 use std::alloc::{AllocError, Global};
 use std::cmp::Ordering;
 use std::marker::Model;
@@ -100,7 +100,8 @@ impl Fields {
         }
     }
 
-    /// Adds a member in its place, or replaces the one that has the name.
+    /// Adds a member in its place, or replaces the one that has the name. It moves every member behind that place, so a
+    /// reader that gets members in order uses `append`.
     pub fn put(&mut self, name: Text, value: Val) -> Result<(), AllocError>
         ensures ok { OnOk result (self.new ≡ put_named name_of (name, tree value) self.old) }
         ensures err { OnErr result (self.new ≡ self.old) }
@@ -162,29 +163,29 @@ impl Fields {
         Ok(Fields { members: copies })
     }
 
-    // The greatest depth of a value in it.
-    #[cycle(depth)]
-    pub(crate) fn depth(&self) -> u32
-        ensures { result ≡ cut_u32 (members_depth (members self.now)) }
+    /// The weight of an object that has them (`Val::weight`).
+    pub fn weight(&self) -> u64
+        ensures { result ≡ cut_u64 (weight (object (members self.now))) }
     {
-        let mut deepest = 0;
-        for (_, value) in &self.members {
-            deepest = value.depth().max(deepest);
-        }
-        deepest
+        self.size().weight.saturating_add(1)
     }
 
-    // The sum of the weights, names included.
-    #[cycle(weight)]
-    pub(crate) fn weight(&self) -> u64
-        ensures { result ≡ cut_u64 (members_weight (members self.now)) }
+    /// How deep the deepest value in it nests, and how much all members weigh; the object itself isn't counted
+    /// (`Size::inside`).
+    #[cycle(size)]
+    pub fn size(&self) -> Size
+        ensures depth { result.depth ≡ cut_u32 (members_depth (members self.now)) }
+        ensures weight { result.weight ≡ cut_u64 (members_weight (members self.now)) }
     {
-        let mut total = 0;
+        let mut depth = 0;
+        let mut weight = 0;
         for (name, value) in &self.members {
+            let size = value.size();
             let named = (name.as_str().len() as u64).saturating_add(1);
-            total = value.weight().saturating_add(named).saturating_add(total);
+            depth = size.depth.max(depth);
+            weight = size.weight.saturating_add(named).saturating_add(weight);
         }
-        total
+        Size { depth, weight }
     }
 
     // Member by member; a front of the members is below them.

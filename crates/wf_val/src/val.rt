@@ -1,5 +1,5 @@
 //! A value.
-ghost use Rattle.std.specs.Prelude.{◌≡◌, ◌↔◌, IsTrue, IfOk, OnOk, OnErr, option_map};
+ghost use Rattle.std.specs.Prelude.{◌≡◌, suc, ◌↔◌, IsTrue, IfOk, OnOk, OnErr, option_map};
 ghost use Rattle.std.specs.Cmp.{IsTotalOrder};
 ghost use Rattle.wf_val.specs.Cut.{cut_u32, cut_u64};
 ghost use Rattle.wf_val.specs.Get.{get, item, put, without, is_object};
@@ -13,6 +13,7 @@ use crate::text::Text;
 use crate::vals::Vals;
 use std::alloc::{AllocError, Global};
 use std::cmp::Ordering;
+use wf_lists::TryCopy;
 
 /// What JSON can write (RFC 8259, section 3), but that a number is whole.
 #[cycle(val)]
@@ -26,31 +27,60 @@ pub enum Val {
     Obj(Fields),
 }
 
+/// The depth and the weight of a value (`Val::depth`, `Val::weight`), each cut to the greatest of its type.
+#[derive(Clone, Copy, PartialEq, Eq, Debug)]
+pub struct Size {
+    pub depth: u32,
+    pub weight: u64,
+}
+
+impl Size {
+    /// The size of a list or an object that holds what has this size.
+    pub fn inside(self) -> Size
+        ensures depth { result.depth ≡ cut_u32 (suc self.depth) }
+        ensures weight { result.weight ≡ cut_u64 (suc self.weight) }
+    {
+        Size {
+            depth: self.depth.saturating_add(1),
+            weight: self.weight.saturating_add(1),
+        }
+    }
+}
+
 impl Val {
+    /// How deep the value nests and how much it weighs, in one walk.
+    #[cycle(size)]
+    pub fn size(&self) -> Size
+        ensures depth { result.depth ≡ cut_u32 (depth (tree self.now)) }
+        ensures weight { result.weight ≡ cut_u64 (weight (tree self.now)) }
+    {
+        match self {
+            Val::Null | Val::Bool(_) | Val::Int(_) => Size {
+                depth: 0,
+                weight: 1,
+            },
+            Val::Text(text) => Size {
+                depth: 0,
+                weight: (text.as_str().len() as u64).saturating_add(1),
+            },
+            Val::List(items) => items.size().inside(),
+            Val::Obj(fields) => fields.size().inside(),
+        }
+    }
+
     /// How deep lists and objects nest: 0 for a scalar, 1 for an empty list. Cut to the greatest u32.
-    #[cycle(depth)]
     pub fn depth(&self) -> u32
         ensures { result ≡ cut_u32 (depth (tree self.now)) }
     {
-        match self {
-            Val::Null | Val::Bool(_) | Val::Int(_) | Val::Text(_) => 0,
-            Val::List(items) => items.depth().saturating_add(1),
-            Val::Obj(fields) => fields.depth().saturating_add(1),
-        }
+        self.size().depth
     }
 
     /// How large the value is: 1 for itself and for each value and member in it, and the bytes of texts and names.
     /// Cut to the greatest u64.
-    #[cycle(weight)]
     pub fn weight(&self) -> u64
         ensures { result ≡ cut_u64 (weight (tree self.now)) }
     {
-        match self {
-            Val::Null | Val::Bool(_) | Val::Int(_) => 1,
-            Val::Text(text) => (text.as_str().len() as u64).saturating_add(1),
-            Val::List(items) => items.weight().saturating_add(1),
-            Val::Obj(fields) => fields.weight().saturating_add(1),
-        }
+        self.size().weight
     }
 
     /// Whether an expression may have the value.
@@ -58,7 +88,8 @@ impl Val {
         ensures within { IsTrue result ↔ Fits (tree self.now) }
         ensures test { result ≡ fits (tree self.now) }
     {
-        self.depth() <= 64 && self.weight() <= 1 << 20
+        let size = self.size();
+        size.depth <= 64 && size.weight <= 1 << 20
     }
 
     /// The value of a member; none where this is no object.
@@ -181,6 +212,12 @@ impl Val {
             Val::List(items) => Ok(Val::List(items.copy(alloc)?)),
             Val::Obj(fields) => Ok(Val::Obj(fields.copy(alloc)?)),
         }
+    }
+}
+
+impl TryCopy for Val {
+    fn copy(&self, alloc: Global) -> Result<Self, AllocError> {
+        Val::copy(self, alloc)
     }
 }
 

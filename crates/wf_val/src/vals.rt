@@ -1,15 +1,16 @@
 //! The items of a list.
-ghost use Rattle.std.specs.Prelude.{◌≡◌, [], ◌∷◌, ◌++◌, length, map, IfOk, OnOk, OnErr, option_map, slice_get};
+ghost use Rattle.std.specs.Prelude.{◌≡◌, ◌<◌, ◌^◌, [], ◌∷◌, ◌++◌, length, map, IfOk, OnOk, OnErr, option_map, slice_get, slice_set};
 ghost use Rattle.wf_val.specs.Cut.{cut_u32, cut_u64};
 ghost use Rattle.wf_val.specs.Seen.{tree};
 ghost use Rattle.wf_val.specs.ValueOrder.{trees_order};
-ghost use Rattle.wf_val.specs.ValueTree.{trees, trees_depth, trees_weight};
+ghost use Rattle.wf_val.specs.ValueTree.{null, trees, trees_depth, trees_weight};
 ghost use Rattle.wf_val.specs.WellFormed.{AreValues};
 
-use crate::val::Val;
+use crate::val::{Size, Val};
 use std::alloc::{AllocError, Global};
 use std::cmp::Ordering;
 use std::marker::Model;
+use std::mem::replace;
 
 /// Values, as a list holds them (RFC 8259, section 5); seen as the list of their trees.
 #[cycle(val)]
@@ -57,7 +58,8 @@ impl Vals {
 
     /// How many values there are.
     pub fn len(&self) -> u64
-        ensures { result ≡ length self.now }
+        ensures count { result ≡ length self.now }
+        ensures in_range { result < 2 ^ 63 }
     {
         self.items.len() as u64
     }
@@ -86,6 +88,19 @@ impl Vals {
         Ok(())
     }
 
+    /// Moves the value at a place, counted from 0, out of the list and leaves null there; none where the list has no
+    /// such place.
+    pub fn take(&mut self, place: u64) -> Option<Val>
+        ensures value { option_map tree result ≡ slice_get self.old place }
+        ensures rest { self.new ≡ slice_set self.old place null }
+    {
+        if place < self.len() {
+            Some(replace(&mut self.items[place as usize], Val::Null))
+        } else {
+            None
+        }
+    }
+
     /// Tells a caller what holds of every list, and does nothing.
     pub fn always_well_formed(&self)
         ensures { AreValues self.now }
@@ -104,28 +119,21 @@ impl Vals {
         Ok(Vals { items: copies })
     }
 
-    // The greatest depth of a value in it.
-    #[cycle(depth)]
-    pub(crate) fn depth(&self) -> u32
-        ensures { result ≡ cut_u32 (trees_depth (trees self.now)) }
+    /// How deep the deepest value in it nests, and how much all of them weigh; the list itself isn't counted
+    /// (`Size::inside`).
+    #[cycle(size)]
+    pub fn size(&self) -> Size
+        ensures depth { result.depth ≡ cut_u32 (trees_depth (trees self.now)) }
+        ensures weight { result.weight ≡ cut_u64 (trees_weight (trees self.now)) }
     {
-        let mut deepest = 0;
+        let mut depth = 0;
+        let mut weight = 0;
         for item in &self.items {
-            deepest = item.depth().max(deepest);
+            let size = item.size();
+            depth = size.depth.max(depth);
+            weight = size.weight.saturating_add(weight);
         }
-        deepest
-    }
-
-    // The sum of the weights.
-    #[cycle(weight)]
-    pub(crate) fn weight(&self) -> u64
-        ensures { result ≡ cut_u64 (trees_weight (trees self.now)) }
-    {
-        let mut total = 0;
-        for item in &self.items {
-            total = item.weight().saturating_add(total);
-        }
-        total
+        Size { depth, weight }
     }
 
     // Value by value; a front of a list is below the list.

@@ -1,6 +1,6 @@
 use Rattle.std.proofs.Common.{◌≡◌, ◌++◌}
 use Rattle.wf_expr.specs.FrontSeen.{sections_pieces}
-use Rattle.wf_expr.specs.TemplateSeen.{pieces_seen}
+use Rattle.wf_template.specs.TemplateSeen.{pieces_seen}
 use Rattle.wf_expr.proofs.front.pieces_of.Given as goal
 
 -- the pieces so far, with those of the sections that are left, are the pieces of all

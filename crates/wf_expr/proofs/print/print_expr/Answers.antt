@@ -1,5 +1,5 @@
 use Rattle.std.proofs.Common.{◌++◌, ◌∙◌, ap}
-use Rattle.wf_expr.specs.ExprSeen.{expr_tree}
+use Rattle.wf_template.specs.ExprSeen.{expr_tree}
 use Rattle.wf_expr.specs.Printed.{printed}
 use Rattle.wf_expr.proofs.Derivation.{derived, derives, spells}
 use Rattle.wf_expr.proofs.Rederivation.{expr_printable}

@@ -1,5 +1,5 @@
 use Rattle.std.proofs.Common.{◌≡◌, ◌++◌, string_bytes}
-use Rattle.wf_expr.specs.ExprSeen.{expr_tree}
+use Rattle.wf_template.specs.ExprSeen.{expr_tree}
 use Rattle.wf_expr.specs.Printed.{printed}
 use Rattle.wf_expr.specs.Unwritten.{unwritten_seen, text_left, work_left, HasWellFormedLiterals, AreWellFormed}
 use Rattle.wf_expr.proofs.print.write.Given as goal

@@ -1,6 +1,6 @@
 use Rattle.std.proofs.Common.{◌≡◌, Equal, subst}
 use Rattle.wf_val.specs.ValueOrder.{order}
-use Rattle.wf_val.proofs.ValueOrderLaws.{order-total, order-self, same_from_order}
+use Rattle.wf_val.specs.ValueOrderLaws.{order-total, order-self, same_from_order}
 use Rattle.wf_val.proofs.val.order_is_total.Goals as goal
 
 pub returns : goal.returns

@@ -1,7 +1,7 @@
 use Rattle.std.proofs.Common.{rules, ◌≡◌, ◌++◌, string_bytes, sym, ap, ◌∙◌}
 use Rattle.wf_expr.specs.FrontSeen.{lettered, sections_pieces}
-use Rattle.wf_expr.specs.TemplateSeen.{pieces_seen}
-use Rattle.wf_expr.specs.TemplateTree.{plain, parts}
+use Rattle.wf_template.specs.TemplateSeen.{pieces_seen}
+use Rattle.wf_template.specs.TemplateTree.{plain, parts}
 use Rattle.wf_expr.proofs.PieceLemmas.{plain_seen, parts_seen}
 use Rattle.wf_expr.proofs.front.Front.into_template.Goals as goal
 

@@ -1,4 +1,4 @@
-use Rattle.wf_val.proofs.ValueOrderLaws.{same-from_test}
+use Rattle.wf_val.specs.ValueOrderLaws.{same-from_test}
 use Rattle.wf_val.proofs.val.Val.same.Goals as goal
 
 pub returns : goal.returns

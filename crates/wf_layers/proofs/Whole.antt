@@ -1,0 +1,396 @@
+-- One example that meets the premises: a counter that is set, read by an If and incremented in it, an Until that increments and tests it, a
+-- Foreach of which two iterations go side by side, a leaf that waits for a failure, one with two attempts, and one that it halts.
+use Rattle.std.proofs.Common.{◌≡◌, ℕ, zero, suc, ◌+◌, ◌<◌, Bool, true, false, ◌&&◌, ◌||◌, cond, List, [], ◌∷◌, ◌++◌, Option, Some, None, ◌⊎◌, inl, inr, ⊎_elim, refl, sym, ap, ◌∙◌, subst, arith, nat_eq, eqb-true, true≢false, nat_lt, ltb-true, ltb-false, length}
+use Rattle.wf_layers.specs.Definition.{Status, Succeeded, Failed, Skipped, TimedOut, Cancelled, Need, AtMost, Kind, Leaf, Scope, Foreach, Until, Choice, branch, no_branch, Graph, done, add, less_one, IsBefore, next, more, kind_of}
+use Rattle.wf_layers.specs.Address.{Address, address, Table, is_within, SeenIn}
+use Rattle.wf_layers.specs.Source.{Source}
+use Rattle.wf_layers.specs.Seen.{Answers}
+use Rattle.wf_layers.specs.Meaning.{meaning}
+use Rattle.wf_layers.specs.Bound.{total}
+use Rattle.wf_layers.specs.Laws.{IsInstance}
+use Rattle.wf_layers.specs.Shape.{Reading, ShapeIn, HasShape, ReadsBack}
+use Rattle.wf_layers.proofs.Shape.{meaning_has_shape}
+use Rattle.wf_layers.specs.Variables.{IsOrdered, HasOrder, OneOrder, WritersHaveOrder}
+use Rattle.std.proofs.lemmas.Bool.{eqb-false}
+use Rattle.std.proofs.lemmas.Option.{none-some}
+use Rattle.wf_layers.proofs.Basics.{two, not_true, same_self, when, unless, some_turn}
+use Rattle.wf_layers.proofs.Decide.{once_is, closed_is_by, falls_is}
+use Rattle.wf_layers.proofs.Seen.{answers_sound}
+
+pub row : Option ℕ → ℕ
+row None = 0
+row (Some r) = r
+
+-- the row of the writer before, of an iteration of the Until
+pub before : List ℕ → Table ℕ → ℕ
+before [] t = 0
+before (zero ∷ js) t = row (t (address 2 []))
+before (suc j ∷ js) t = row (t (address 5 (j ∷ [])))
+
+abbrev pub after : ℕ → List Need
+after n = record { name = n; listed = Succeeded ∷ [] } ∷ []
+
+-- 0 sets the counter, 2 and 5 increment it; 9 halts 10
+abbrev pub graph : Graph
+graph =
+    add 0 [] Leaf
+    (add 1 (after 0) (Choice (branch (add 2 [] Leaf done) (branch (add 3 [] Leaf done) no_branch)))
+    (add 4 (after 1) (Until 3 (add 5 [] Leaf done))
+    (add 6 (after 4) (Foreach (AtMost 2) (add 7 [] Leaf done))
+    (add 8 (record { name = 0; listed = Failed ∷ [] } ∷ []) Leaf
+    (add 9 (after 6) Leaf
+    (add 10 (after 9) Leaf done))))))
+
+abbrev pub depths : ℕ → ℕ
+depths n = n
+
+-- A row is the counter's value, or a container's number of iterations or branch, and one more; 0 is the row of what is skipped.
+abbrev pub answers : Source ℕ ℕ ℕ Bool
+answers = record {
+  status = λ r. cond (nat_eq r 0) Skipped Succeeded;
+  skipped = 0;
+  start = λ x t. cond (nat_eq x.name 2) (row (t (address 0 []))) (cond (nat_eq x.name 5) (before x.at t) 0);
+  tries = λ x b. cond (nat_eq x.name 9) 2 0;
+  finish = λ x b t. suc b;
+  decide = λ x t. cond (nat_eq x.name 1) (cond (nat_eq (row (t (address 0 []))) 1) 1 2) (cond (nat_eq x.name 6) 3 0);
+  taken = λ d. d;
+  items = λ d. d;
+  test = λ x j t. nat_eq (row (t (address 5 (j ∷ [])))) 4;
+  ends = λ v. v;
+  close = λ x d c v t. suc (d + c);
+  halts = λ x t. cond (nat_eq x.name 10) (nat_eq (row (t (address 9 []))) 1) false;
+  pinned = λ n. false;
+  old = λ x. None;
+  reclosed = λ n. false;
+}
+
+abbrev pub f : Table ℕ
+f = meaning answers depths graph
+
+pub until_counts : f (address 4 []) ≡ Some 3
+unfolding row before
+until_counts = refl
+
+pub last_value : f (address 5 (1 ∷ [])) ≡ Some 4
+unfolding row before
+last_value = refl
+
+pub other_branch : f (address 3 []) ≡ Some 0
+unfolding row before
+other_branch = refl
+
+pub halted : f (address 10 []) ≡ Some 0
+unfolding row before
+halted = refl
+
+pub events : total answers f graph [] ≡ 33
+unfolding row before
+events = refl
+
+b01 : IsBefore graph 0 1
+b01 = next {p = 0} {a = 1} (inl refl)
+
+b14 : IsBefore graph 1 4
+b14 = next {p = 1} {a = 4} (inl refl)
+
+b910 : IsBefore graph 9 10
+b910 = next {p = 9} {a = 10} (inl refl)
+
+both : (b : Bool) → b ≡ true → (b && true) ≡ true
+both b e = ap (λ x. x && true) e
+
+sees_previous : (j : ℕ) (js : List ℕ) → SeenIn graph (address 5 (suc j ∷ js)) (address 5 (j ∷ []))
+sees_previous j js = (
+  refl,
+  inr (inr (
+    refl,
+    inr (
+      refl,
+      inl (
+        refl,
+        refl,
+        inr (j, suc j, omega arith, both (nat_eq j j) (same_self j), both (nat_eq (suc j) (suc j)) (same_self (suc j))),
+      ),
+    ),
+  )),
+)
+
+same_before : (i : List ℕ) (t u : Table ℕ) → ((y : Address) → SeenIn graph (address 5 i) y → t y ≡ u y) → before i t ≡ before i u
+unfolding before
+same_before [] t u h = refl
+same_before (zero ∷ js) t u h = ap row (h (address 2 []) (refl, inl b14))
+same_before (suc j ∷ js) t u h = ap row (h (address 5 (j ∷ [])) (sees_previous j js))
+
+-- an Until's test looks at its own last iteration
+same_test : (i : List ℕ) (j : ℕ) (t u : Table ℕ) → length i ≡ 0
+    → ((m : ℕ) → m < suc j → (y : Address) → is_within (add 5 [] Leaf done) (i ++ m ∷ []) y ≡ true → t y ≡ u y)
+    → nat_eq (row (t (address 5 (j ∷ [])))) 4 ≡ nat_eq (row (u (address 5 (j ∷ [])))) 4
+same_test [] j t u li h = ap (λ z. nat_eq (row z) 4) (h j (omega arith) (address 5 (j ∷ [])) (both (nat_eq j j) (same_self j)))
+same_test (a ∷ i) j t u li h = absurd (omega (arith, li))
+
+local_answers : Answers graph answers graph 0
+local_answers = (
+  (λ i li t u h. refl),
+  ((λ i li t u h. refl), λ i li t u b h. refl),
+  (
+    (λ i li t u h. refl),
+    (
+      (λ i li t u d c v h k. refl),
+      (λ i li t u h. ap (λ z. cond (nat_eq (row z) 1) 1 2) (h (address 0 []) (refl, inl b01))),
+      (
+        ((λ i li t u h. refl), ((λ i li t u h. ap row (h (address 0 []) (refl, inl b01))), λ i li t u b h. refl), tt),
+        (((λ i li t u h. refl), ((λ i li t u h. refl), λ i li t u b h. refl), tt), tt),
+      ),
+    ),
+    (
+      (λ i li t u h. refl),
+      (
+        (λ i li t u d c v h k. refl),
+        (λ i li t u h. refl),
+        (λ i li t u j h k. same_test i j t u li k),
+        ((λ i li t u h. refl), ((λ i li t u h. same_before i t u h), λ i li t u b h. refl), tt),
+      ),
+      (
+        (λ i li t u h. refl),
+        (
+          (λ i li t u d c v h k. refl),
+          (λ i li t u h. refl),
+          ((λ i li t u h. refl), ((λ i li t u h. refl), λ i li t u b h. refl), tt),
+        ),
+        (
+          (λ i li t u h. refl),
+          ((λ i li t u h. refl), λ i li t u b h. refl),
+          (
+            (λ i li t u h. refl),
+            ((λ i li t u h. refl), λ i li t u b h. refl),
+            (
+              (λ i li t u h. ap (λ z. nat_eq (row z) 1) (h (address 9 []) (refl, inl b910))),
+              ((λ i li t u h. refl), λ i li t u b h. refl),
+              tt,
+            ),
+          ),
+        ),
+      ),
+    ),
+  ),
+)
+
+pub instance_there : IsInstance graph answers depths
+instance_there = record {
+  local = answers_sound graph answers (once_is graph refl) (closed_is_by graph graph refl) local_answers;
+  closed = closed_is_by graph graph refl;
+  falls = falls_is depths graph refl;
+  turns = (tt, (((tt, tt), ((tt, tt), tt)), ((omega arith, (tt, tt)), ((omega arith, (tt, tt)), (tt, (tt, (tt, tt)))))));
+  own = λ n. (refl, refl);
+}
+
+-- READING BACK
+abbrev pub reading : Reading ℕ
+reading = record { taken = less_one; items = less_one; rounds = less_one }
+
+is_skipped : Status → Bool
+is_skipped Succeeded = false
+is_skipped Failed = false
+is_skipped Skipped = true
+is_skipped TimedOut = false
+is_skipped Cancelled = false
+
+ran_not : Succeeded ≡ Skipped → ⊥
+unfolding is_skipped
+ran_not e = true≢false (sym (ap is_skipped e))
+
+row_not : (n : ℕ) → cond (nat_eq (suc n) 0) Skipped Succeeded ≡ Skipped → ⊥
+row_not n e =
+    ran_not (sym (unless (nat_eq (suc n) 0) Skipped Succeeded
+    (not_true (nat_eq (suc n) 0) (λ t. let q = eqb-true (suc n) 0 t in omega (arith, q)))) ∙ e)
+
+is_until : Option Kind → Bool
+is_until None = false
+is_until (Some Leaf) = false
+is_until (Some (Scope g)) = false
+is_until (Some (Choice bs)) = false
+is_until (Some (Foreach pace g)) = false
+is_until (Some (Until most g)) = true
+
+no_until : (n : ℕ) (most : ℕ) (g : Graph) → is_until (kind_of graph n) ≡ false → kind_of graph n ≡ Some (Until most g) → ⊥
+unfolding is_until
+no_until n most g off e = true≢false (sym (ap is_until e) ∙ off)
+
+pub reads_back : ReadsBack graph answers f reading
+unfolding is_until
+reads_back = record {
+  skipped = refl;
+  leaves = λ x e. row_not (answers.start x f) e;
+  closed = λ x c v e. row_not (answers.decide x f + c) e;
+  taken = λ x bs k. omega arith;
+  items = λ x pace g k. omega arith;
+  rounds = λ x most g k.
+      let not_if = not_true (nat_eq x.name 1)
+      (λ t. no_until 1 most g refl (subst (λ z. kind_of graph z ≡ Some (Until most g)) (eqb-true x.name 1 t) k)) in
+      let not_each = not_true (nat_eq x.name 6)
+      (λ t. no_until 6 most g refl (subst (λ z. kind_of graph z ≡ Some (Until most g)) (eqb-true x.name 6 t) k)) in
+      let none : answers.decide x f ≡ 0 = unless (nat_eq x.name 1) _ _ not_if ∙ unless (nat_eq x.name 6) 3 0 not_each in
+      omega (arith, none);
+}
+
+-- THE COUNTER
+abbrev pub counts : ℕ → Bool
+counts n = nat_eq n 0 || (nat_eq n 2 || nat_eq n 5)
+
+abbrev pub writes : Address → ℕ → Option ℕ
+writes y r = cond (nat_eq r 0) None (cond (counts y.name) (Some r) None)
+
+-- the addresses of its writers, in their order
+abbrev spot : ℕ → Address
+spot zero = address 0 []
+spot (suc zero) = address 2 []
+spot (suc (suc j)) = address 5 (j ∷ [])
+
+b04 : IsBefore graph 0 4
+b04 = more {p = 0} {q = 1} {a = 4} b01 (inl refl)
+
+in_order : (k l : ℕ) → k < l → SeenIn graph (spot l) (spot k)
+in_order zero zero lt = absurd (omega arith)
+in_order zero (suc zero) lt = (refl, inl b01)
+in_order zero (suc (suc j)) lt = (refl, inl b04)
+in_order (suc zero) zero lt = absurd (omega arith)
+in_order (suc zero) (suc zero) lt = absurd (omega arith)
+in_order (suc zero) (suc (suc j)) lt = (refl, inl b14)
+in_order (suc (suc j)) zero lt = absurd (omega arith)
+in_order (suc (suc j)) (suc zero) lt = absurd (omega arith)
+in_order (suc (suc j)) (suc (suc k)) lt = (
+  refl,
+  inr (inr (
+    refl,
+    inr (refl, inl (refl, refl, inr (j, k, omega (arith, lt), both (nat_eq j j) (same_self j), both (nat_eq k k) (same_self k)))),
+  )),
+)
+
+at_zero : (at : List ℕ) (r : ℕ) → f (address 0 at) ≡ Some r → (k : ℕ) × (spot k ≡ address 0 at)
+unfolding row before
+at_zero [] r e = (0, refl)
+at_zero (a ∷ at) r e = absurd (none-some r e)
+
+at_two : (at : List ℕ) (r : ℕ) → f (address 2 at) ≡ Some r → (k : ℕ) × (spot k ≡ address 2 at)
+unfolding row before
+at_two [] r e = (1, refl)
+at_two (a ∷ at) r e = absurd (none-some r e)
+
+-- the Until's leaf has rows at one index alone
+too_deep : (a b : ℕ) (at : List ℕ) → f (address 5 (a ∷ b ∷ at)) ≡ None
+too_deep a b at =
+    ⊎_elim
+    (λ h. (inside.0 h.0 h.1).0.4 (address 5 (a ∷ b ∷ at)) h.2 refl (off (nat_eq h.0 a)))
+    (λ h. inside.1 (address 5 (a ∷ b ∷ at)) refl h)
+    (some_turn (less_one until'.0) [] (a ∷ b ∷ at))
+  where
+    off : (p : Bool) → (p && false) ≡ false
+    off true = refl
+    off false = refl
+
+    shape : HasShape graph answers reading f
+    shape = meaning_has_shape graph answers depths instance_there.falls instance_there.local instance_there.own reading reads_back
+
+    until' : (r : ℕ) × (f (address 4 []) ≡ Some r)
+    until' = (shape.within.1.1.0.0, shape.within.1.1.0.1)
+
+    is_three : until'.0 ≡ 3
+    is_three = let e : Some until'.0 ≡ Some 3 = sym until'.1 ∙ until_counts in cc
+
+    inside : ShapeIn answers reading f (Until 3 (add 5 [] Leaf done)) [] until'.0
+    inside = shape.within.1.1.0.3 (λ e. row_not 2 (subst (λ z. cond (nat_eq z 0) Skipped Succeeded ≡ Skipped) is_three e))
+
+at_five : (at : List ℕ) (r : ℕ) → f (address 5 at) ≡ Some r → (k : ℕ) × (spot k ≡ address 5 at)
+unfolding row before
+at_five [] r e = absurd (none-some r e)
+at_five (a ∷ []) r e = (suc (suc a), refl)
+at_five (a ∷ b ∷ at) r e = absurd (none-some r (sym (too_deep a b at) ∙ e))
+
+either : (p q : Bool) → (p || q) ≡ true → (p ≡ true) ⊎ (q ≡ true)
+either true q e = inl refl
+either false q e = inr e
+
+counted : (y : Address) (r : ℕ) → (writes y r ≡ None → ⊥) → counts y.name ≡ true
+counted y r w =
+    ⊎_elim (λ t. t) (λ u. absurd
+    (w (⊎_elim (λ z. when (nat_eq r 0) None _ z) (λ z. unless (nat_eq r 0) None _ z ∙ unless (counts y.name) (Some r) None u)
+    (two (nat_eq r 0))))) (two (counts y.name))
+
+writer_at : (y : Address) (r : ℕ) → f y ≡ Some r → (writes y r ≡ None → ⊥) → (k : ℕ) × (spot k ≡ y)
+writer_at y r e w =
+    ⊎_elim
+    (λ t. let s = eqb-true y.name 0 t in at_name 0 s (at_zero y.at r (moved 0 s)))
+    (λ u. ⊎_elim
+    (λ t. let s = eqb-true y.name 2 t in at_name 2 s (at_two y.at r (moved 2 s)))
+    (λ t. let s = eqb-true y.name 5 t in at_name 5 s (at_five y.at r (moved 5 s)))
+    (either (nat_eq y.name 2) (nat_eq y.name 5) u))
+    (either (nat_eq y.name 0) (nat_eq y.name 2 || nat_eq y.name 5) (counted y r w))
+  where
+    moved : (n : ℕ) → y.name ≡ n → f (address n y.at) ≡ Some r
+    moved n s = subst (λ z. f (address z y.at) ≡ Some r) s e
+
+    at_name : (n : ℕ) → y.name ≡ n → (k : ℕ) × (spot k ≡ address n y.at) → (k : ℕ) × (spot k ≡ y)
+    at_name n s z = (z.0, z.1 ∙ ap (λ q. address q y.at) (sym s))
+
+pub one_order : OneOrder graph answers writes f
+one_order = record {
+  idle =
+      λ y r idle. when (nat_eq r 0) None _
+      (⊎_elim (λ e. ap (λ z. nat_eq z 0) e)
+      (λ e. ⊎_elim (λ t. t) (λ u. absurd (ran_not (sym (unless (nat_eq r 0) Skipped Succeeded u) ∙ e))) (two (nat_eq r 0))) idle);
+  leaves = λ y r w.
+      ⊎_elim
+      (λ t. subst (λ z. kind_of graph z ≡ Some Leaf) (sym (eqb-true y.name 0 t)) refl)
+      (λ u. ⊎_elim
+      (λ t. subst (λ z. kind_of graph z ≡ Some Leaf) (sym (eqb-true y.name 2 t)) refl)
+      (λ t. subst (λ z. kind_of graph z ≡ Some Leaf) (sym (eqb-true y.name 5 t)) refl)
+      (either (nat_eq y.name 2) (nat_eq y.name 5) u))
+      (either (nat_eq y.name 0) (nat_eq y.name 2 || nat_eq y.name 5) (counted y r w));
+  ordered = λ x y q r e h wx wy.
+      let a = writer_at x q e wx in let b = writer_at y r h wy in
+      subst (λ (z : Address). (z ≡ y) ⊎ IsOrdered graph z y) a.1
+      (subst (λ (z : Address). (spot a.0 ≡ z) ⊎ IsOrdered graph (spot a.0) z) b.1 (pair a.0 b.0));
+}
+  where
+    pair : (k l : ℕ) → (spot k ≡ spot l) ⊎ IsOrdered graph (spot k) (spot l)
+    pair k l =
+        ⊎_elim
+        (λ t. inl (ap spot (eqb-true k l t)))
+        (λ u. let ne = eqb-false k l u in
+        ⊎_elim
+        (λ t. inr (inl (inr (in_order k l (ltb-true k l t)))))
+        (λ t. let le = ltb-false k l t in inr (inl (inl (in_order l k (omega (arith, le, ne))))))
+        (two (nat_lt k l)))
+        (two (nat_eq k l))
+
+-- the If has an order with each writer, one of them inside it; so has the Increment there, with itself; and the Until's test, with those in
+-- its iterations
+abbrev pub the_if : Kind
+the_if = Choice (branch (add 2 [] Leaf done) (branch (add 3 [] Leaf done) no_branch))
+
+abbrev pub the_until : Kind
+the_until = Until 3 (add 5 [] Leaf done)
+
+pub if_has_order : WritersHaveOrder graph answers writes f 1 the_if []
+if_has_order y r e w = let a = writer_at y r e w in subst (λ (z : Address). HasOrder graph 1 the_if [] z) a.1 (go a.0)
+  where
+    go : (k : ℕ) → HasOrder graph 1 the_if [] (spot k)
+    go zero = inr (inl (inl (refl, inl b01)))
+    go (suc zero) = inl refl
+    go (suc (suc j)) = inr (inl (inr (refl, inl b14)))
+
+pub increment_has_order : WritersHaveOrder graph answers writes f 2 Leaf []
+increment_has_order y r e w = let a = writer_at y r e w in subst (λ (z : Address). HasOrder graph 2 Leaf [] z) a.1 (go a.0)
+  where
+    go : (k : ℕ) → HasOrder graph 2 Leaf [] (spot k)
+    go zero = inr (inl (inl (in_order 0 1 (omega arith))))
+    go (suc zero) = inl refl
+    go (suc (suc j)) = inr (inl (inr (in_order 1 (suc (suc j)) (omega arith))))
+
+pub until_has_order : WritersHaveOrder graph answers writes f 4 the_until []
+until_has_order y r e w = let a = writer_at y r e w in subst (λ (z : Address). HasOrder graph 4 the_until [] z) a.1 (go a.0)
+  where
+    go : (k : ℕ) → HasOrder graph 4 the_until [] (spot k)
+    go zero = inr (inl (inl (refl, inl b04)))
+    go (suc zero) = inr (inl (inl (refl, inl b14)))
+    go (suc (suc j)) = inl refl

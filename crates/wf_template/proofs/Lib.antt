@@ -1,0 +1,2 @@
+mod TreeFieldLemmas
+pub mod ChainLemmas

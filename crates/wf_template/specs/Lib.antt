@@ -1,0 +1,13 @@
+pub mod ExprTree
+pub mod ExprCounts
+pub mod ExprSeen
+pub mod ChainSeen
+pub mod TemplateTree
+pub mod TemplateSeen
+pub mod DataTree
+pub mod DataSeen
+pub mod DataCode
+pub mod DataCounts
+pub mod DataCountFalls
+pub mod CondTree
+pub mod CondSeen
