@@ -1,0 +1,3 @@
+pub mod EscapeLemmas
+pub mod DataUriLemmas
+pub mod LawLemmas
