@@ -12,14 +12,13 @@ top=$(CDPATH='' cd -P -- "$(dirname -- "$0")/.." && pwd -P)
 command -v jq >/dev/null || { apt-get update -qq && apt-get install -y -qq jq; } >&2
 folder=$(mktemp -d)
 trap 'rm -rf "$folder"' EXIT
-export top folder
-"$top/bin/wflow" run "$top/examples/hello/definition.json" "$top/examples/hello/inputs.json" >/dev/null
+program=$("$top/bin/program")
+export top folder program
 (cd "$top/crates/template_rows" && rt run -- parse <stdin) >"$folder/log" 2>&1 || { cat "$folder/log" >&2 && exit 1; }
 python3 - <<'PROGRAM'
 import json, os, subprocess, time
 
-top, folder = os.environ["top"], os.environ["folder"]
-program = os.path.join(top, "bin", ".built", "wflow")
+top, folder, program = os.environ["top"], os.environ["folder"], os.environ["program"]
 
 
 def file(name, value):

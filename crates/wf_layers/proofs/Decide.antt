@@ -27,7 +27,7 @@ module _ (P : ℕ → Bool) where
     all_any no_branch = true
     all_any (branch b rest) = all_of b && all_any rest
 
-    all_of : Graph → Bool
+    pub all_of : Graph → Bool
     all_of done = true
     all_of (add n after kind rest) = P n && (all_in kind && all_of rest)
 
@@ -45,7 +45,7 @@ module _ (P : ℕ → Bool) where
         let x = and_in (all_of b) (all_any rest) e in
         ⊎_elim (λ t. of_all b q x.0 t) (λ t. any_all rest q x.1 t) (either (has b q) (has_any rest q) h)
 
-    of_all : (g : Graph) (q : ℕ) → all_of g ≡ true → has g q ≡ true → P q ≡ true
+    pub of_all : (g : Graph) (q : ℕ) → all_of g ≡ true → has g q ≡ true → P q ≡ true
     of_all done q e h = absurd (true≢false (sym h))
     of_all (add n after kind rest) q e h =
         let x = and_in (P n) (all_in kind && all_of rest) e in let y = and_in (all_in kind) (all_of rest) x.1 in

@@ -34,7 +34,6 @@ pub mod ExampleResubmission
 pub mod Rooted
 pub mod Left
 pub mod Decide
-pub mod Whole
 pub mod Worth
 pub mod Equal
 pub mod Enabled

@@ -23,6 +23,7 @@ ghost use Rattle.wf_layers.specs.Definition.{Closed, Graph, IsDepth, Kind, Leaf,
 ghost use Rattle.wf_layers.specs.Laws.{AllRowsAtTheEnd, EventsAreCounted, EventsAreExact, EventsAtTheEnd, EventsChangeOnlyThere, EventsOfRunsAreFew, FactsOfStates, IsFresh, IsInstance, MeaningObeysTheRule, OneEventAtAnAddress, PartIsUnique, RowsAreTheMeanings, RowsAreUnique, RowsWhereCalledFor, RunsGrow, StoreHoldsTheLast, TestsInOrder, VariablesInOrder};
 ghost use Rattle.wf_layers.specs.Meaning.{meaning};
 ghost use Rattle.wf_layers.specs.Listed.{Lists};
+ghost use Rattle.wf_layers.specs.Premises.{MeetsPremises, MeetsPremisesAgain};
 ghost use Rattle.wf_layers.specs.Record.{HasRecord, RecordsAreOne};
 ghost use Rattle.wf_layers.specs.Redo.{IsRedo, OutOfLoops, closed_again, redone};
 ghost use Rattle.wf_layers.specs.Resubmission.{IsOldTable, IsResubmission, IsSetResubmission, IsSplit, MayBeResubmittedAgain, OldAnswersGiveTheOldRows, OldTablesAgree, OthersKept, ResubmissionIsFresh, ResumedAtTheEnd, ResumedChanges, ResumedEnds, ResumedExact, ResumedFacts, ResumedFew, ResumedInOrder, ResumedOneEvent, ResumedRows, ResumedStore, kept, pin};
@@ -150,12 +151,6 @@ pub fn store_holds_the_last<Row, Begun, Decision, Verdict, Value>()
         → IsInstance d m depth → StoreHoldsTheLast d m depth writes }
 {}
 
-/// The premises can be met: there is a definition whose loop goes one iteration after the other, and iteration 2 sees iteration 1.
-pub fn premises_can_be_met()
-    ensures { (d : Graph) × (m : Source ℕ ℕ ℕ Bool) × (depth : ℕ → ℕ) × IsInstance d m depth
-        × (meaning m depth d (address 2 (2 ∷ [])) ≡ Some 4) }
-{}
-
 /// From a set of chosen actions: all inside a redone action is redone, all inside a kept one is kept, and nothing kept or closed again
 /// stands after what is redone or closed again.
 pub fn order_of_a_resubmission()
@@ -174,15 +169,6 @@ pub fn a_set_is_resubmitted<Row, Begun, Decision, Verdict>()
         (recall : Address → Decision)
         → IsDepth d depth → Sound a (SeenIn d) d 0 → IsFresh a → IsSetResubmission d depth a b chosen redo again recall
         → IsResubmission d depth a b redo again recall × OthersKept d a redo again (meaning a depth d) recall }
-{}
-
-/// There is such a set: of three actions one after the other in a Scope the second is chosen. The first keeps its row, and the third is
-/// made anew from the second.
-pub fn a_set_can_be_resubmitted()
-    ensures { (d : Graph) × (depth : ℕ → ℕ) × (a : Source ℕ ℕ ℕ Bool) × (b : Source ℕ ℕ ℕ Bool) × (chosen : (ℕ → Bool))
-        × (redo : (ℕ → Bool)) × (again : (ℕ → Bool)) × (recall : (Address → ℕ))
-        × Sound a (SeenIn d) d 0 × Sound b (SeenIn d) d 0 × IsSetResubmission d depth a b chosen redo again recall
-        × (meaning (pin a b redo again (meaning a depth d) recall) depth d (address 3 []) ≡ Some 21) }
 {}
 
 /// The resubmitted record is that of a fresh run in the environment with one layer more.
@@ -330,14 +316,24 @@ pub fn resumed_store_holds_the_last<Row, Begun, Decision, Verdict, Value>()
 
 /// The premises are met by one definition with an If, an Until, a Foreach two of whose iterations go side by side, a counter that is
 /// incremented in the If that reads it and in the Until that tests it, a Skipped leaf, one with two attempts and one that is halted. Each
-/// run of it that is over has 33 events.
+/// run of it that is over has 33 events, and the counter comes to 3.
 pub fn one_example_meets_the_premises()
     ensures { (d : Graph) × (m : Source ℕ ℕ ℕ Bool) × (depth : ℕ → ℕ) × (writes : (Address → ℕ → Option ℕ)) × (read : Reading ℕ)
-        × (the_if : Kind) × (the_until : Kind)
-        × IsInstance d m depth × ReadsBack d m (meaning m depth d) read × OneOrder d m writes (meaning m depth d)
-        × WritersHaveOrder d m writes (meaning m depth d) 1 the_if [] × WritersHaveOrder d m writes (meaning m depth d) 2 Leaf []
-        × WritersHaveOrder d m writes (meaning m depth d) 4 the_until []
-        × (total m (meaning m depth d) d [] ≡ 33) }
+        × (turns : (ℕ → ℕ)) × (tries : (Address → ℕ → ℕ)) × (knows : (Address → ℕ → ℕ → Bool))
+        × MeetsPremises d m depth writes read turns tries knows × (total m (meaning m depth d) d [] ≡ 33)
+        × (meaning m depth d (address 5 (1 ∷ [])) ≡ Some 4) }
+{}
+
+/// And its resubmission from the Increment in the If, with a layer in which it adds two, meets them again: 25 events, and the Until has one
+/// iteration fewer.
+pub fn its_resubmission_meets_the_premises()
+    ensures { (d : Graph) × (m : Source ℕ ℕ ℕ Bool) × (depth : ℕ → ℕ) × (writes : (Address → ℕ → Option ℕ)) × (read : Reading ℕ)
+        × (b : Source ℕ ℕ ℕ Bool) × (c : Source ℕ ℕ ℕ Bool) × (chosen : (ℕ → Bool)) × (recall : (Address → ℕ))
+        × IsInstance d m depth × MeetsPremisesAgain d m depth writes read b c chosen recall
+        × (total (pin m b (redone d depth chosen) (closed_again d depth chosen) (meaning m depth d) recall)
+        (meaning (pin m b (redone d depth chosen) (closed_again d depth chosen) (meaning m depth d) recall) depth d) d [] ≡ 25)
+        × (meaning (pin m b (redone d depth chosen) (closed_again d depth chosen) (meaning m depth d) recall) depth d
+        (address 5 (0 ∷ [])) ≡ Some 4) }
 {}
 
 /// Tables that have rows only in the definition, and there the same ones, are equal. So what is said of a record's table holds however the
