@@ -2,24 +2,23 @@
 use Rattle.std.proofs.Common.{◌≡◌, ℕ, zero, suc, ◌<◌, ◌≤◌, Bool, true, false, ◌&&◌, ◌||◌, cond, List, [], ◌∷◌, ◌++◌, Option, Some, None, ◌⊎◌, inl, inr, ⊎_elim, refl, sym, ap, ◌∙◌, subst, arith, nat_eq, eq-eqb, eqb-true, nat_lt, true≢false, length}
 use Rattle.std.proofs.lemmas.Option.{none-some}
 use Rattle.std.proofs.lemmas.Bool.{eqb-false}
-use Rattle.wf_layers.specs.Definition.{Need, Names, Pace, Kind, Leaf, Scope, Choice, Foreach, Until, Branches, no_branch, branch, Graph, done, add, is_one, less_one, branch_at, holds, has, has_any, has_own, needs_of, kind_of, IsBefore}
+use Rattle.wf_layers.specs.Definition.{Need, Names, Kind, Leaf, Scope, Choice, Foreach, Until, Branches, no_branch, branch, Graph, done, add, is_one, less_one, branch_at, holds, has, has_any, has_own, needs_of, kind_of}
 use Rattle.wf_layers.specs.Address.{Address, address, Table, same_at, starts, is_own, is_in, SeenIn}
 use Rattle.wf_layers.specs.Source.{Source, gate, Sound}
 use Rattle.wf_layers.specs.Meaning.{meaning, skip}
 use Rattle.wf_layers.specs.Rule.{Obeys}
-use Rattle.wf_layers.specs.Enabled.{most_of, branch_ended, of_begun, of_test, of_open, begins, of_idle, of_opening, of_busy, own_event, events}
+use Rattle.wf_layers.specs.Enabled.{most_of, branch_ended, of_test, of_open, begins, of_idle, of_opening, of_busy, own_event, events}
 use Rattle.wf_layers.specs.Changes.{owns_any, owns, is_next, is_inner, is_named, places, looks_at, next_of, enters, may_change}
-use Rattle.wf_layers.specs.Machine.{Running, Opening, State, fresh, In, here, there, IsOpen, top, scope, chosen, turn, round, has_ended, is_ended, all_ended, unfinished, or_else, place, one, without, opened, Event, Start, Try, End, Skip, Open, Begin, Test, Close, place_of, passed_over, closing, MayBegin, IsThere, IsDecided, Step, Run}
-use Rattle.wf_layers.specs.Laws.{IsInstance, Exact, ChangesOnlyThere, EventsChangeOnlyThere}
-use Rattle.wf_layers.proofs.Basics.{two, and_in, and_of, not_true, same_self, same_self_at, when, unless, own_in, held_in}
-use Rattle.wf_layers.proofs.Tables.{Within, own_is, own_self, same_at_is, same_starts, shows_holds, either_or}
+use Rattle.wf_layers.specs.Machine.{Running, Opening, State, In, here, there, IsOpen, top, scope, chosen, turn, round, has_ended, is_ended, all_ended, unfinished, or_else, place, opened, Event, Start, Try, End, Skip, Open, Begin, Test, Close, place_of, passed_over, MayBegin, IsThere, IsDecided, Step}
+use Rattle.wf_layers.specs.Laws.{IsInstance, EventsChangeOnlyThere}
+use Rattle.wf_layers.proofs.Basics.{two, and_in, and_of, not_true, same_self, same_self_at, when, unless, held_in}
+use Rattle.wf_layers.proofs.Tables.{own_is, same_starts, either_or}
 use Rattle.wf_layers.proofs.Layers.{gate_same}
-use Rattle.wf_layers.proofs.Places.{or_right}
 use Rattle.wf_layers.proofs.Open.{open_sub, placed_in, kind_there}
 use Rattle.wf_layers.proofs.Keeps.{Keeps, IsClosed, SpecialOut, decided_own}
 use Rattle.wf_layers.proofs.Events.{step_keeps}
 use Rattle.wf_layers.proofs.Busy.{Busy, open_grows, close_path, step_busy}
-use Rattle.wf_layers.proofs.Rooted.{Rooted, NoneAt, none_in, none_turn, none_round, none_open, placed_grows}
+use Rattle.wf_layers.proofs.Rooted.{Rooted, none_in, none_turn, none_round, none_open, placed_grows}
 use Rattle.wf_layers.proofs.Left.{settled_ended}
 use Rattle.wf_layers.proofs.Others.{passed_in, skipped_in}
 use Rattle.wf_layers.proofs.Enabled.{at_there, exact}

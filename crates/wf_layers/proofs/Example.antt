@@ -15,7 +15,7 @@ use Rattle.wf_layers.specs.Premises.{MeetsPremises}
 use Rattle.wf_layers.specs.Variables.{IsOrdered, HasOrder, OneOrder, WritersHaveOrder}
 use Rattle.std.proofs.lemmas.Bool.{eqb-false}
 use Rattle.std.proofs.lemmas.Option.{none-some}
-use Rattle.wf_layers.proofs.Basics.{two, not_true, same_self, when, unless, some_turn}
+use Rattle.wf_layers.proofs.Basics.{two, not_true, same_self, when, unless}
 use Rattle.wf_layers.proofs.Meaning.{meaning_solves}
 use Rattle.wf_layers.proofs.Decide.{once_is, closed_is_by, falls_is}
 use Rattle.wf_layers.proofs.Seen.{answers_sound}

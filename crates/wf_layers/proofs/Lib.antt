@@ -42,3 +42,4 @@ pub mod Changes
 pub mod Redone
 pub mod Answered
 pub mod Record
+pub mod ExampleRun

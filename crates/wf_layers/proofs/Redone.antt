@@ -1,12 +1,12 @@
 -- What a set of actions redoes and closes again can be computed, for each set without actions of loops.
-use Rattle.std.proofs.Common.{◌≡◌, ℕ, zero, suc, ◌<◌, ◌≤◌, Bool, true, false, ◌&&◌, ◌||◌, not, cond, List, [], ◌∷◌, Option, Some, None, ◌⊎◌, inl, inr, ⊎_elim, refl, sym, ap, ◌∙◌, subst, arith, nat_eq, eqb-true, true≢false}
+use Rattle.std.proofs.Common.{◌≡◌, ℕ, zero, suc, ◌≤◌, Bool, true, false, ◌&&◌, ◌||◌, not, List, [], ◌∷◌, Some, ◌⊎◌, inl, inr, ⊎_elim, refl, sym, ap, ◌∙◌, subst, arith, nat_eq, eqb-true, true≢false}
 use Rattle.wf_layers.specs.Definition.{Need, Names, Kind, Leaf, Scope, Choice, Foreach, Until, Branches, no_branch, branch, Graph, done, add, holds, has, has_any, has_own, needs_in, needs_of, needs_any, kind_in, kind_of, kind_any, IsBefore, next, more, IsDepth, ClosedIn, ClosedAny, Closed}
 use Rattle.wf_layers.specs.Machine.{In, here, there}
 use Rattle.wf_layers.specs.Source.{SoundIn, SoundAny, Sound}
 use Rattle.wf_layers.specs.Seen.{Once}
 use Rattle.wf_layers.specs.Redo.{HoldsChosen, Touched, IsHit, RedoIn, RedoAny, RedoOf, IsRedo, OutOfLoopsIn, OutOfLoopsAny, OutOfLoops, any_in, any_branch, any_of, any_kind, some_need, is_touched, is_behind, is_hit, redone_in, redone_any, redone_of, redone, closed_again}
-use Rattle.wf_layers.proofs.Basics.{two, and_in, and_of, not_true, same_self, when, unless}
-use Rattle.wf_layers.proofs.Places.{stands, or_right}
+use Rattle.wf_layers.proofs.Basics.{and_in, and_of, not_true, same_self, when, unless}
+use Rattle.wf_layers.proofs.Places.{stands}
 use Rattle.wf_layers.proofs.Seen.{nobody, Any, once_graph, own_there}
 
 either : (p q : Bool) → (p || q) ≡ true → (p ≡ true) ⊎ (q ≡ true)

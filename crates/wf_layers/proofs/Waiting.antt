@@ -1,11 +1,11 @@
 -- Counts of what is waited for.
-use Rattle.std.proofs.Common.{◌≡◌, ℕ, zero, suc, ◌+◌, Bool, true, false, ◌&&◌, ◌||◌, cond, List, [], ◌∷◌, ◌⊎◌, inl, inr, ⊎_elim, refl, sym, ap, ◌∙◌, subst, arith, nat_eq, eq-eqb, eqb-true, true≢false}
-use Rattle.wf_layers.specs.Definition.{Need, Names, Kind, Graph, done, add, holds, has, has_own}
+use Rattle.std.proofs.Common.{◌≡◌, ℕ, suc, ◌+◌, Bool, true, false, ◌&&◌, ◌||◌, cond, List, [], ◌∷◌, inl, inr, ⊎_elim, refl, sym, ap, ◌∙◌, arith, nat_eq, eq-eqb, eqb-true, true≢false}
+use Rattle.wf_layers.specs.Definition.{Need, Names, Graph, done, add, holds, has, has_own}
 use Rattle.wf_layers.specs.Address.{address, Table}
 use Rattle.wf_layers.specs.Machine.{has_ended, is_ended, all_ended}
 use Rattle.wf_layers.specs.Seen.{Once}
 use Rattle.wf_layers.specs.Waiting.{waiting, lacking, times, Ends, Counts}
-use Rattle.wf_layers.proofs.Basics.{two, and_of, when, unless, same_self, not_true}
+use Rattle.wf_layers.proofs.Basics.{two, when, unless, same_self, not_true}
 
 -- by whether the first has ended
 step_none : (b : Bool) (c : ℕ) (rest : Bool) → (c ≡ 0 → rest ≡ true) → cond b c (suc c) ≡ 0 → (b && rest) ≡ true

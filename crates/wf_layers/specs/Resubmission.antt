@@ -1,5 +1,5 @@
 -- Resubmission: rows kept from an old table, what is redone and what is closed again, and an environment with one layer more.
-use Rattle.std.specs.Prelude.{◌≡◌, ℕ, Bool, true, false, ◌&&◌, ◌||◌, cond, not, List, [], Option, Some, None, ◌+◌, ◌*◌, ◌≤◌, length}
+use Rattle.std.specs.Prelude.{◌≡◌, ℕ, Bool, true, false, ◌&&◌, ◌||◌, cond, not, List, [], Option, Some, None, ◌+◌, length}
 use Rattle.wf_layers.specs.Definition.{Need, Kind, Leaf, Scope, Choice, Foreach, Until, Branches, no_branch, branch, Graph, done, add, has, holds, kind_of}
 use Rattle.wf_layers.specs.Address.{Address, address, Table, same_at, is_within, SeenIn}
 use Rattle.wf_layers.specs.Source.{Source, Sound, gate}

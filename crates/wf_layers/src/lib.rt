@@ -15,12 +15,13 @@
 //! It isn't an engine: no row has a content here, nothing is parsed, evaluated or run, and no memory is taken.
 #![tactic(auto)]
 
-ghost use Rattle.std.specs.Prelude.{[], ◌∷◌, ◌≡◌, Bool, List, None, Option, Some, false, true, ℕ};
+ghost use Rattle.std.specs.Prelude.{[], ◌∷◌, ◌≡◌, Bool, List, None, Option, Some, false, length, true, ℕ};
 ghost use Rattle.wf_layers.specs.Address.{Address, SeenIn, Table, address, is_within};
 ghost use Rattle.wf_layers.specs.Answered.{RunsSoFarAreRuns};
 ghost use Rattle.wf_layers.specs.Bound.{total};
 ghost use Rattle.wf_layers.specs.Definition.{Closed, Graph, IsDepth, Kind, Leaf, Turns};
 ghost use Rattle.wf_layers.specs.Laws.{AllRowsAtTheEnd, EventsAreCounted, EventsAreExact, EventsAtTheEnd, EventsChangeOnlyThere, EventsOfRunsAreFew, FactsOfStates, IsFresh, IsInstance, MeaningObeysTheRule, OneEventAtAnAddress, PartIsUnique, RowsAreTheMeanings, RowsAreUnique, RowsWhereCalledFor, RunsGrow, StoreHoldsTheLast, TestsInOrder, VariablesInOrder};
+ghost use Rattle.wf_layers.specs.Machine.{Event, IsOver, Run, State, fresh};
 ghost use Rattle.wf_layers.specs.Meaning.{meaning};
 ghost use Rattle.wf_layers.specs.Listed.{Lists};
 ghost use Rattle.wf_layers.specs.Premises.{MeetsPremises, MeetsPremisesAgain};
@@ -315,13 +316,14 @@ pub fn resumed_store_holds_the_last<Row, Begun, Decision, Verdict, Value>()
 {}
 
 /// The premises are met by one definition with an If, an Until, a Foreach two of whose iterations go side by side, a counter that is
-/// incremented in the If that reads it and in the Until that tests it, a Skipped leaf, one with two attempts and one that is halted. Each
-/// run of it that is over has 33 events, and the counter comes to 3.
+/// incremented in the If that reads it and in the Until that tests it, a Skipped leaf, one with two attempts and one that is halted. There
+/// is a run of it to the end, event by event, and it has 33 events, as its meaning says.
 pub fn one_example_meets_the_premises()
     ensures { (d : Graph) × (m : Source ℕ ℕ ℕ Bool) × (depth : ℕ → ℕ) × (writes : (Address → ℕ → Option ℕ)) × (read : Reading ℕ)
         × (turns : (ℕ → ℕ)) × (tries : (Address → ℕ → ℕ)) × (knows : (Address → ℕ → ℕ → Bool))
-        × MeetsPremises d m depth writes read turns tries knows × (total m (meaning m depth d) d [] ≡ 33)
-        × (meaning m depth d (address 5 (1 ∷ [])) ≡ Some 4) }
+        × MeetsPremises d m depth writes read turns tries knows × (meaning m depth d (address 5 (1 ∷ [])) ≡ Some 4)
+        × (total m (meaning m depth d) d [] ≡ 33)
+        × (es : List Event) × (s : State ℕ ℕ ℕ Bool) × Run d m fresh es s × IsOver d m s × (length es ≡ 33) }
 {}
 
 /// And its resubmission from the Increment in the If, with a layer in which it adds two, meets them again: 25 events, and the Until has one
