@@ -42,10 +42,6 @@ sum_falls (suc c) b gain h k lt same at =
     let y = same c (omega arith) (λ e. omega (arith, e, ne)) in omega (arith, x, y))
     (two (nat_eq b c))
 
-pub outer' : (g : Graph) (i : List ℕ) (j : ℕ) (y : Address) → is_within g (i ++ j ∷ []) y ≡ true → is_within g i y ≡ true
-outer' g i j y w =
-    let h = and_in (has g y.name) (starts (i ++ j ∷ []) y.at) w in and_of (has g y.name) (starts i y.at) h.0 (starts_outer i j y.at h.1)
-
 -- an Until that was to go on after all but the last of its iterations has begun no more than it has
 pub begun_most : (most next : ℕ) (p : ℕ → Bool) → next ≤ most → ((j : ℕ) → suc j < next → p j ≡ false) → next ≤ rounds most 0 p
 begun_most most zero p le h = omega arith

@@ -17,7 +17,7 @@ use Rattle.wf_layers.specs.Laws.{IsFresh}
 use Rattle.wf_layers.specs.Listed.{Among, Lists}
 use Rattle.wf_layers.specs.Resubmission.{pin}
 use Rattle.wf_layers.specs.Record.{key, Record, RecordsAreOne, HasRecord}
-use Rattle.wf_layers.proofs.Basics.{two, and_in, when, unless}
+use Rattle.wf_layers.proofs.Basics.{two, and_in, when, unless, either}
 use Rattle.wf_layers.proofs.Tables.{same_at_is, own_is, skip_in}
 use Rattle.wf_layers.proofs.Worth.{among_front, among_back, spots, among_spots}
 use Rattle.wf_layers.proofs.Layers.{out_layers}
@@ -41,10 +41,6 @@ equal_of : (o : Ordering) → is_eq o ≡ true → o ≡ Equal
 equal_of Less e = absurd (true≢false (sym e))
 equal_of Equal e = refl
 equal_of Greater e = absurd (true≢false (sym e))
-
-either : (p q : Bool) → (p || q) ≡ true → (p ≡ true) ⊎ (q ≡ true)
-either true q e = inl refl
-either false q e = inr e
 
 less_not : Less ≡ Greater → ⊥
 less_not e = cc

@@ -145,8 +145,8 @@ pub fn tests_in_order<Row, Begun, Decision, Verdict>()
     ensures { (d : Graph) (m : Source Row Begun Decision Verdict) (depth : ℕ → ℕ) → IsInstance d m depth → TestsInOrder d m depth }
 {}
 
-/// A store that each finished writer overwrites holds the last finished writer's value, and, as an action is decided or an Until tested,
-/// that of the last writer that it sees.
+/// A store that each finished writer overwrites holds the last finished writer's value; and, as an action is decided, while a leaf runs and
+/// as an Until is tested, that of the last writer that it sees.
 pub fn store_holds_the_last<Row, Begun, Decision, Verdict, Value>()
     ensures { (d : Graph) (m : Source Row Begun Decision Verdict) (depth : ℕ → ℕ) (writes : Address → Row → Option Value)
         → IsInstance d m depth → StoreHoldsTheLast d m depth writes }
