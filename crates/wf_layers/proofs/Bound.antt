@@ -1,11 +1,9 @@
 -- Sums, and the iterations of an Until so far.
-use Rattle.std.proofs.Common.{◌≡◌, ℕ, zero, suc, ◌+◌, ◌<◌, ◌≤◌, Bool, true, false, List, [], ◌∷◌, ◌++◌, ⊎_elim, refl, subst, arith, nat_eq, eqb-true}
+use Rattle.std.proofs.Common.{◌≡◌, ℕ, zero, suc, ◌+◌, ◌<◌, ◌≤◌, Bool, false, ⊎_elim, refl, subst, arith, nat_eq, eqb-true}
 use Rattle.std.proofs.lemmas.Bool.{eqb-false}
-use Rattle.wf_layers.specs.Definition.{Graph, has}
-use Rattle.wf_layers.specs.Address.{Address, starts, is_within}
 use Rattle.wf_layers.specs.Meaning.{rounds}
 use Rattle.wf_layers.specs.Bound.{sum}
-use Rattle.wf_layers.proofs.Basics.{two, and_in, and_of, starts_outer, when, unless}
+use Rattle.wf_layers.proofs.Basics.{two, when, unless}
 
 -- SUMS
 

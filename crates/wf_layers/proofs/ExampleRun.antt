@@ -15,28 +15,28 @@ use Rattle.wf_layers.proofs.Bounded.{events_are_counted}
 use Rattle.wf_layers.proofs.Example.{row, before, graph, depths, a, instance_there, events as events_there}
 
 module _ {Row Begun Decision Verdict : Type 0} (d : Graph) (m : Source Row Begun Decision Verdict) where
-  abbrev St : Type 0
+  abbrev pub St : Type 0
   St = State Row Begun Decision Verdict
 
-  abbrev last_of : ℕ → ℕ
+  abbrev pub last_of : ℕ → ℕ
   last_of zero = 0
   last_of (suc j) = j
 
-  abbrev tried : ℕ → List ℕ → Option (Running Begun) → St → St
+  abbrev pub tried : ℕ → List ℕ → Option (Running Begun) → St → St
   tried n i None s = s
   tried n i (Some w) s =
       record { rows = s.rows; running = place (one n i (record { begun = w.begun; tries = suc w.tries })) s.running; opens = s.opens }
 
-  abbrev ended : ℕ → List ℕ → Option (Running Begun) → St → St
+  abbrev pub ended : ℕ → List ℕ → Option (Running Begun) → St → St
   ended n i None s = s
   ended n i (Some w) s =
       record { rows = place (one n i (m.finish (address n i) w.begun s.rows)) s.rows; running = without n i s.running; opens = s.opens }
 
-  abbrev skipped : ℕ → List ℕ → Option Kind → St → St
+  abbrev pub skipped : ℕ → List ℕ → Option Kind → St → St
   skipped n i None s = s
   skipped n i (Some kind) s = record { rows = place (skip m n kind i) s.rows; running = s.running; opens = s.opens }
 
-  abbrev entered : ℕ → List ℕ → Option Kind → St → St
+  abbrev pub entered : ℕ → List ℕ → Option Kind → St → St
   entered n i None s = s
   entered n i (Some kind) s = record {
     rows = place (passed_over m kind (m.taken (m.decide (address n i) s.rows)) i) s.rows;
@@ -44,7 +44,7 @@ module _ {Row Begun Decision Verdict : Type 0} (d : Graph) (m : Source Row Begun
     opens = opened n i (Some (record { decision = m.decide (address n i) s.rows; next = 0; test = None })) s.opens;
   }
 
-  abbrev begun : ℕ → List ℕ → Option (Opening Decision Verdict) → St → St
+  abbrev pub begun : ℕ → List ℕ → Option (Opening Decision Verdict) → St → St
   begun n i None s = s
   begun n i (Some w) s =
       record {
@@ -54,7 +54,7 @@ module _ {Row Begun Decision Verdict : Type 0} (d : Graph) (m : Source Row Begun
             opened n i (Some (record { decision = w.decision; next = suc w.next; test = None })) s.opens;
       }
 
-  abbrev tested : ℕ → List ℕ → Option (Opening Decision Verdict) → St → St
+  abbrev pub tested : ℕ → List ℕ → Option (Opening Decision Verdict) → St → St
   tested n i None s = s
   tested n i (Some w) s = record {
     rows = s.rows;
@@ -68,14 +68,14 @@ module _ {Row Begun Decision Verdict : Type 0} (d : Graph) (m : Source Row Begun
         })) s.opens;
   }
 
-  abbrev closed : ℕ → List ℕ → Option Kind → Option (Opening Decision Verdict) → St → St
+  abbrev pub closed : ℕ → List ℕ → Option Kind → Option (Opening Decision Verdict) → St → St
   closed n i None o s = s
   closed n i (Some kind) None s = s
   closed n i (Some kind) (Some w) s =
       record { rows = place (one n i (closing m kind (address n i) w s.rows)) s.rows; running = s.running; opens = opened n i None s.opens }
 
   -- the state after an event that is enabled
-  abbrev after_event : St → Event → St
+  abbrev pub after_event : St → Event → St
   after_event s (Start n i) =
       record {
         rows = s.rows;
@@ -91,12 +91,12 @@ module _ {Row Begun Decision Verdict : Type 0} (d : Graph) (m : Source Row Begun
   after_event s (Test n i) = tested n i (s.opens (address n i)) s
   after_event s (Close n i) = closed n i (kind_of d n) (s.opens (address n i)) s
 
-  abbrev after_all : St → List Event → St
+  abbrev pub after_all : St → List Event → St
   after_all s [] = s
   after_all s (e ∷ es) = after_all (after_event s e) es
 
   -- each event of the list is the one that is enabled at its address
-  abbrev Checked : St → List Event → Type 0
+  abbrev pub Checked : St → List Event → Type 0
   Checked s [] = Unit {0}
   Checked s (e ∷ es) = (events m s d [] (place_of e) ≡ Some e) × Checked (after_event s e) es
 

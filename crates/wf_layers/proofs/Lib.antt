@@ -43,3 +43,4 @@ pub mod Redone
 pub mod Answered
 pub mod Record
 pub mod ExampleRun
+pub mod Worked
