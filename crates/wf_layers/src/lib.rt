@@ -140,7 +140,8 @@ pub fn variables_in_order<Row, Begun, Decision, Verdict>()
     ensures { (d : Graph) (m : Source Row Begun Decision Verdict) (depth : ℕ → ℕ) → IsInstance d m depth → VariablesInOrder d m depth }
 {}
 
-/// As an Until is tested, the finished accesses outside it are those that it sees, and its iterations so far are there.
+/// As an Until is tested, the finished accesses in it or with an order are those that it sees and those of its iterations so far, and all
+/// of these are there.
 pub fn tests_in_order<Row, Begun, Decision, Verdict>()
     ensures { (d : Graph) (m : Source Row Begun Decision Verdict) (depth : ℕ → ℕ) → IsInstance d m depth → TestsInOrder d m depth }
 {}
