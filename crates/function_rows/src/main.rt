@@ -8,9 +8,9 @@
 //! The rows are data: a new row is proved by nothing and proves nothing anew. This program is no part of the engine.
 #![tactic(auto)]
 
-mod faults;
 mod numbers;
 mod texts;
+mod urls;
 
 use std::alloc::{AllocError, Global};
 use std::io::{self, Write};
@@ -49,8 +49,25 @@ fn asked(alloc: Global, row: &str) -> Result<Option<Call>, AllocError> {
 fn given(alloc: Global, call: &Call) -> Option<Result<Val, EvalFault>> {
     match numbers::given(call.function, &call.args) {
         Some(answer) => Some(answer),
-        None => texts::given(alloc, call.function, &call.args),
+        None => given_of_texts(alloc, call),
     }
+}
+
+fn given_of_texts(alloc: Global, call: &Call) -> Option<Result<Val, EvalFault>> {
+    match texts::given(alloc, call.function, &call.args) {
+        Some(answer) => Some(answer),
+        None => urls::given(alloc, call.function, &call.args),
+    }
+}
+
+// `!` and the fault. Want of memory is no answer.
+fn marked(alloc: Global, fault: &EvalFault) -> Result<Vec<u8>, AllocError> {
+    if fault.is_memory() {
+        return Err(AllocError);
+    }
+    let mut line = Vec::from_slice(alloc, "!".as_bytes())?;
+    line.extend_from_slice(wf_json::fault_text(alloc, fault)?.as_str().as_bytes())?;
+    Ok(line)
 }
 
 // The line that answers a row, without its end.
@@ -64,7 +81,7 @@ fn answer(alloc: Global, row: &str) -> Result<Vec<u8>, AllocError> {
     };
     match given(alloc, &call) {
         Some(Ok(value)) => wf_json::write(alloc, &value),
-        Some(Err(fault)) => faults::marked(alloc, &fault),
+        Some(Err(fault)) => marked(alloc, &fault),
         None => Vec::from_slice(alloc, "no such call".as_bytes()),
     }
 }
