@@ -10,7 +10,7 @@
 //!
 //! A row may also be `{"value":V}`, a value whose texts are templates, or `{"condition":C}`: then its answer is the first
 //! two columns. `show` says how a tree is written, and `tree` how a condition is. A column of more than 400 bytes is told
-//! by their number and their SHA-256 digest.
+//! by their number and their SHA-256 digest. A line that begins with `#` is a heading, and is written as it is.
 //!
 //! With the word `parse` or `read` the whole input is one text instead, for `bench/bench.sh`, which times it: `parse`
 //! says what it spells, and `read` how many bytes it has.
@@ -23,12 +23,13 @@ mod tree;
 
 use crate::print::printed;
 use crate::row::{Refused, Row, row_of};
-use crate::show::{cond_shown, fault_shown, quoted, shown, tree_shown};
+use crate::show::{cond_shown, fault_shown, shown, tree_shown};
 use sha2::{Digest as _, Sha256};
 use std::alloc::{AllocError, Global};
 use std::io::ErrorKind;
 use std::{env, io};
 use wf_expr::{ParseFault, parse_template};
+use wf_json::quoted;
 use wf_template::Template;
 use wf_val::Text;
 
@@ -76,7 +77,7 @@ fn columns(alloc: Global, template: &Template) -> Result<String, AllocError> {
     push_same(alloc, &mut line, &tree, &copy)?;
     let text = printed(alloc, template)?;
     line.push('\t')?;
-    push_column(alloc, &mut line, &quoted(alloc, text.as_str())?)?;
+    push_column(alloc, &mut line, quoted(alloc, text.as_str())?.as_str())?;
     push_same(alloc, &mut line, &tree, &spelled(alloc, &text)?)?;
     Ok(line)
 }
@@ -97,8 +98,11 @@ fn both(alloc: Global, tree: &str, copy: &str) -> Result<String, AllocError> {
     Ok(line)
 }
 
-// The answer to a row.
+// The answer to a row, or a heading as it is.
 fn answer(alloc: Global, line: &str) -> Result<String, AllocError> {
+    if line.starts_with('#') {
+        return String::from_str(alloc, line);
+    }
     match row_of(alloc, line) {
         Ok(Row::Text(text)) => text_answer(alloc, &text),
         Ok(Row::Value(tree)) => {

@@ -5,8 +5,10 @@
 //! what they stand on, with `?` before a soft one.
 use std::alloc::{AllocError, Global};
 use wf_expr::ParseFault;
+use wf_json::quoted;
 use wf_template::{
-    Access, Cond, Conds, Expr, Exprs, Piece, Pieces, Start, Template, Tree, TreeFields, Trees, chain_of,
+    Access, Cond, Conds, Expr, Exprs, Piece, Pieces, Start, Template, Tree, TreeFields, Trees,
+    chain_of,
 };
 use wf_val::{Text, Val};
 
@@ -15,11 +17,6 @@ const LEVELS: u8 = 80;
 
 // Above the greatest nesting of a value that is read: 120.
 const TREE_LEVELS: u8 = 130;
-
-/// A text as JSON.
-pub(crate) fn quoted(alloc: Global, text: &str) -> Result<String, AllocError> {
-    literal(alloc, &Val::Text(Text::of(alloc, text)?))
-}
 
 // A literal as JSON.
 fn literal(alloc: Global, value: &Val) -> Result<String, AllocError> {
@@ -32,7 +29,7 @@ pub(crate) fn shown(alloc: Global, template: &Template) -> Result<String, AllocE
     match template {
         Template::Plain(text) => {
             out.push_str("plain ")?;
-            out.push_str(&quoted(alloc, text.as_str())?)?;
+            out.push_str(quoted(alloc, text.as_str())?.as_str())?;
         }
         Template::Whole(expression) => {
             out.push_str("whole ")?;
@@ -59,7 +56,7 @@ fn show_pieces(alloc: Global, out: &mut String, pieces: &Pieces) -> Result<(), A
     for piece in pieces.as_slice() {
         out.push(' ')?;
         match piece {
-            Piece::Lit(text) => out.push_str(&quoted(alloc, text.as_str())?)?,
+            Piece::Lit(text) => out.push_str(quoted(alloc, text.as_str())?.as_str())?,
             Piece::Part(expression) => {
                 out.push('{')?;
                 show(alloc, out, expression, LEVELS)?;
@@ -151,11 +148,7 @@ pub(crate) fn cond_shown(alloc: Global, condition: &Cond) -> Result<String, Allo
     Ok(out)
 }
 
-fn show_template(
-    alloc: Global,
-    out: &mut String,
-    template: &Template,
-) -> Result<(), AllocError> {
+fn show_template(alloc: Global, out: &mut String, template: &Template) -> Result<(), AllocError> {
     out.push('<')?;
     out.push_str(&shown(alloc, template)?)?;
     out.push('>')
@@ -174,7 +167,12 @@ fn show_tree(alloc: Global, out: &mut String, tree: &Tree, levels: u8) -> Result
 }
 
 #[cycle(show_tree)]
-fn show_items(alloc: Global, out: &mut String, items: &Trees, levels: u8) -> Result<(), AllocError> {
+fn show_items(
+    alloc: Global,
+    out: &mut String,
+    items: &Trees,
+    levels: u8,
+) -> Result<(), AllocError> {
     let Some(below) = levels.checked_sub(1) else {
         return out.push_str("too deep");
     };
@@ -203,7 +201,7 @@ fn show_members(
         if place > 0 {
             out.push(',')?;
         }
-        out.push_str(&quoted(alloc, member.0.as_str())?)?;
+        out.push_str(quoted(alloc, member.0.as_str())?.as_str())?;
         out.push(':')?;
         show_tree(alloc, out, &member.1, below)?;
     }

@@ -78,10 +78,7 @@ fn named_below(alloc: Global, name: &Text, given: &Val, levels: u8) -> Result<Co
     match (name.as_str(), given) {
         ("and", Val::List(items)) => Ok(Cond::And(conds_below(alloc, items, levels)?)),
         ("or", Val::List(items)) => Ok(Cond::Or(conds_below(alloc, items, levels)?)),
-        ("not", _) => {
-            let negated = cond_below(alloc, given, levels)?;
-            Ok(Cond::Not(Box::new(alloc, negated)?))
-        }
+        ("not", _) => Ok(negated(alloc, cond_below(alloc, given, levels)?)?),
         (_, Val::List(sides)) => compared(alloc, name, sides),
         _ => Err(Refused::NoRow),
     }
@@ -94,6 +91,10 @@ fn conds_below(alloc: Global, items: &Vals, levels: u8) -> Result<Conds, Refused
         conditions.push(cond_below(alloc, item, levels)?)?;
     }
     Ok(conditions)
+}
+
+fn negated(alloc: Global, condition: Cond) -> Result<Cond, AllocError> {
+    Ok(Cond::Not(Box::new(alloc, condition)?))
 }
 
 // The comparison of two values.
