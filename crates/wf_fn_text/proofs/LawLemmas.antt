@@ -13,10 +13,10 @@ abbrev pub joined : List ℕ → List (List ℕ) → List ℕ
 joined separator ps = join_by (λ p. p) separator ps
 
 -- there is a first piece
-record Some_pieces (ps : List (List ℕ)) : Type 0 where
-  first : List ℕ
-  others : List (List ℕ)
-  are : ps ≡ first ∷ others
+pub record Some_pieces (ps : List (List ℕ)) : Type 0 where
+  pub first : List ℕ
+  pub others : List (List ℕ)
+  pub are : ps ≡ first ∷ others
 
 some-onto : (b : ℕ) (ps : List (List ℕ)) → Some_pieces (onto_first b ps)
 some-onto b [] = record { first = b ∷ []; others = []; are = refl }
@@ -26,7 +26,7 @@ some-either : (t : Bool) (ps qs : List (List ℕ)) → Some_pieces ps → Some_p
 some-either true ps qs h k = h
 some-either false ps qs h k = k
 
-some-pieces : (p : List ℕ) (k : ℕ) (bs : List ℕ) → Some_pieces (pieces_past p k bs)
+pub some-pieces : (p : List ℕ) (k : ℕ) (bs : List ℕ) → Some_pieces (pieces_past p k bs)
 some-pieces p zero [] = record { first = []; others = []; are = refl }
 some-pieces p (suc k) [] = record { first = []; others = []; are = refl }
 some-pieces p (suc k) (b ∷ bs) = some-pieces p k bs
@@ -34,10 +34,11 @@ some-pieces p zero (b ∷ bs) =
     some-either (starts_with nat_eq (b ∷ bs) p) ([] ∷ pieces_past p (length p - 1) bs) (onto_first b (pieces_past p 0 bs))
     (record { first = []; others = pieces_past p (length p - 1) bs; are = refl }) (some-onto b (pieces_past p 0 bs))
 
--- an empty piece in front is the separator in front
-joined-front : (p : List ℕ) (ps : List (List ℕ)) → Some_pieces ps → joined p ([] ∷ ps) ≡ p ++ joined p ps
-joined-front p ps h =
-    ap (λ l. joined p ([] ∷ l)) h.are ∙ append_assoc p h.first (flat_map (λ y. p ++ y) h.others) ∙ ap (λ l. p ++ joined p l) (sym h.are)
+-- a first piece, the separator, and the others
+pub joined-behind : (p x : List ℕ) (ps : List (List ℕ)) → Some_pieces ps → joined p (x ∷ ps) ≡ x ++ (p ++ joined p ps)
+joined-behind p x ps h =
+    ap (λ l. joined p (x ∷ l)) h.are ∙ ap (λ l. x ++ l) (append_assoc p h.first (flat_map (λ y. p ++ y) h.others))
+    ∙ ap (λ l. x ++ (p ++ joined p l)) (sym h.are)
 
 joined-onto : (p : List ℕ) (b : ℕ) (ps : List (List ℕ)) → Some_pieces ps → joined p (onto_first b ps) ≡ b ∷ joined p ps
 joined-onto p b ps h = ap (λ l. joined p (onto_first b l)) h.are ∙ ap (λ l. b ∷ joined p l) (sym h.are)
@@ -54,7 +55,7 @@ joined-at : (p : List ℕ) (b : ℕ) (bs : List ℕ) (t : Bool) → 0 < length p
     → joined p (pieces_past p (length p - 1) bs) ≡ drop (length p - 1) bs → joined p (pieces_past p 0 bs) ≡ bs
     → joined p (cond t ([] ∷ pieces_past p (length p - 1) bs) (onto_first b (pieces_past p 0 bs))) ≡ b ∷ bs
 joined-at p b bs true some at behind next =
-    joined-front p (pieces_past p (length p - 1) bs) (some-pieces p (length p - 1) bs)
+    joined-behind p [] (pieces_past p (length p - 1) bs) (some-pieces p (length p - 1) bs)
     ∙ ap (λ l. p ++ l) (behind ∙ sym (drop-front p b bs some)) ∙ sym (goes_on p (b ∷ bs) at)
 joined-at p b bs false some at behind next = joined-onto p b (pieces_past p 0 bs) (some-pieces p 0 bs) ∙ ap (λ l. b ∷ l) next
 
