@@ -1,5 +1,6 @@
 -- The pieces of a text, with the separator between them, are the text; a place is where a list goes on as another.
-use Rattle.std.proofs.Common.{◌≡◌, ℕ, zero, suc, ◌-◌, ◌<◌, ◌≤◌, List, [], ◌∷◌, ◌++◌, length, drop, refl, sym, ◌∙◌, ap, arith, Bool, true, false, cond, nat_eq}
+use Rattle.std.proofs.Common.{◌≡◌, ℕ, zero, suc, ◌-◌, ◌<◌, ◌≤◌, List, [], ◌∷◌, ◌++◌, length, drop, refl, sym, ◌∙◌, ap, arith, Bool}
+use Rattle.std.proofs.Common.{true, false, cond, nat_eq}
 use Rattle.std.proofs.Common.{Option, Some, None, option_map, append_assoc}
 use Rattle.std.proofs.lemmas.Bool.Decides.{Decides-eqb}
 use Rattle.std.proofs.lemmas.Slice.Eq.{starts_is}
@@ -78,7 +79,8 @@ stands-not part cs f h =
     let t : starts_with nat_eq cs part ≡ true = (starts_is Decides-eqb cs part (starts_with nat_eq cs part) refl).1 h.0 h.1 in cc
 
 -- nowhere at the start, and nowhere behind it
-nowhere-on : (part : List ℕ) (c : ℕ) (cs : List ℕ) → starts_with nat_eq (c ∷ cs) part ≡ false → ((k : ℕ) → k ≤ length cs → StandsAt part cs k → ⊥)
+nowhere-on : (part : List ℕ) (c : ℕ) (cs : List ℕ) → starts_with nat_eq (c ∷ cs) part ≡ false → ((k : ℕ) → k ≤ length cs
+    → StandsAt part cs k → ⊥)
     → (k : ℕ) → k ≤ length (c ∷ cs) → StandsAt part (c ∷ cs) k → ⊥
 nowhere-on part c cs f h zero le = stands-not part (c ∷ cs) f
 nowhere-on part c cs f h (suc k) le = h k (omega (arith, le))
@@ -87,16 +89,19 @@ nowhere-nothing : (part : List ℕ) → starts_with nat_eq [] part ≡ false →
 nowhere-nothing part f zero le = stands-not part [] f
 nowhere-nothing part f (suc k) le = absurd (omega (arith, le))
 
-before-on : (part : List ℕ) (c : ℕ) (cs : List ℕ) (i : ℕ) → starts_with nat_eq (c ∷ cs) part ≡ false → ((k : ℕ) → k < i → StandsAt part cs k → ⊥)
+before-on : (part : List ℕ) (c : ℕ) (cs : List ℕ) (i : ℕ) → starts_with nat_eq (c ∷ cs) part ≡ false → ((k : ℕ) → k < i
+    → StandsAt part cs k → ⊥)
     → (k : ℕ) → k < suc i → StandsAt part (c ∷ cs) k → ⊥
 before-on part c cs i f h zero lt = stands-not part (c ∷ cs) f
 before-on part c cs i f h (suc k) lt = h k (omega (arith, lt))
 
-first-here : (part cs : List ℕ) (t : Bool) (behind : Option ℕ) → starts_with nat_eq cs part ≡ t → (t ≡ false → IsFirst part cs behind) → IsFirst part cs (cond t (Some 0) behind)
+first-here : (part cs : List ℕ) (t : Bool) (behind : Option ℕ) → starts_with nat_eq cs part ≡ t → (t ≡ false → IsFirst part cs behind)
+    → IsFirst part cs (cond t (Some 0) behind)
 first-here part cs true behind at h = (stands part cs at, omega arith, λ k lt. absurd (omega (arith, lt)))
 first-here part cs false behind at h = h refl
 
-first-on : (part : List ℕ) (c : ℕ) (cs : List ℕ) (o : Option ℕ) → starts_with nat_eq (c ∷ cs) part ≡ false → IsFirst part cs o → IsFirst part (c ∷ cs) (option_map suc o)
+first-on : (part : List ℕ) (c : ℕ) (cs : List ℕ) (o : Option ℕ) → starts_with nat_eq (c ∷ cs) part ≡ false → IsFirst part cs o
+    → IsFirst part (c ∷ cs) (option_map suc o)
 first-on part c cs None f h = nowhere-on part c cs f h
 first-on part c cs (Some i) f h = (h.0, omega (arith, h.1), before-on part c cs i f h.2)
 
@@ -116,7 +121,8 @@ behind-start : (part : List ℕ) (c : ℕ) (cs : List ℕ) → ((k : ℕ) → k 
 behind-start part c cs h zero lt le = absurd (omega (arith, lt))
 behind-start part c cs h (suc k) lt le = h k (omega (arith, le))
 
-last-here : (part : List ℕ) (c : ℕ) (cs : List ℕ) (t : Bool) → starts_with nat_eq (c ∷ cs) part ≡ t → ((k : ℕ) → k ≤ length cs → StandsAt part cs k → ⊥)
+last-here : (part : List ℕ) (c : ℕ) (cs : List ℕ) (t : Bool) → starts_with nat_eq (c ∷ cs) part ≡ t → ((k : ℕ) → k ≤ length cs
+    → StandsAt part cs k → ⊥)
     → IsLast part (c ∷ cs) (cond t (Some 0) None)
 last-here part c cs true at h = (stands part (c ∷ cs) at, omega arith, behind-start part c cs h)
 last-here part c cs false at h = nowhere-on part c cs at h

@@ -10,9 +10,12 @@ loop-before-preserved c =
     let rest = c.loop-before.rest.now in
     let k = cut old rest c.in-Some.before.now c.in-Some.after.now c.requires c.loop-before.invariant.0 c.in-Some.ensures.cases in (
       k.utf8,
-      total-moved old c.args.new.now rest c.in-Some.before.now c.in-Some.after.now c.loop-before.total c.saturating_add-total.result k.pieces
-          (c.saturating_add-total.ensures ∙ ap (λ n. cut_u64 (c.loop-before.total + n)) c.saturating_add-piece.ensures) ∙ c.loop-before.invariant.1,
+      total-moved old c.args.new.now rest c.in-Some.before.now c.in-Some.after.now c.loop-before.total
+          c.saturating_add-total.result k.pieces
+          (c.saturating_add-total.ensures ∙ ap (λ n. cut_u64 (c.loop-before.total + n)) c.saturating_add-piece.ensures)
+          ∙ c.loop-before.invariant.1,
     )
 
 pub returns : goal.returns
-returns c = c.saturating_add.ensures ∙ total-ended c.args.old.now c.args.new.now c.loop-before.rest.now c.loop-before.total c.in_default.ensures.cases ∙ c.loop-before.invariant.1
+returns c = c.saturating_add.ensures ∙ total-ended c.args.old.now c.args.new.now c.loop-before.rest.now c.loop-before.total
+    c.in_default.ensures.cases ∙ c.loop-before.invariant.1
