@@ -1,17 +1,13 @@
 -- What a definition has to be is decided by tests that compute: names stand once, an action waits only for actions of its own graph, and
 -- numbers fall along `runAfter`.
-use Rattle.std.proofs.Common.{◌≡◌, ℕ, ◌<◌, Bool, true, false, ◌&&◌, ◌||◌, not, List, [], ◌∷◌, ◌⊎◌, inl, inr, ⊎_elim, refl, sym, subst, nat_eq, eqb-true, nat_lt, ltb-true, true≢false}
+use Rattle.std.proofs.Common.{◌≡◌, ℕ, ◌<◌, Bool, true, false, ◌&&◌, ◌||◌, not, List, [], ◌∷◌, ⊎_elim, refl, sym, subst, nat_eq, eqb-true, nat_lt, ltb-true, true≢false}
 use Rattle.wf_layers.specs.Definition.{Need, Names, Kind, Leaf, Scope, Choice, Foreach, Until, Branches, no_branch, branch, Graph, done, add, holds, has, has_any, has_own, needs_in, needs_of, needs_any, IsDepth, ClosedIn, ClosedAny, Closed}
 use Rattle.wf_layers.specs.Seen.{OnceIn, OnceAny, Once}
-use Rattle.wf_layers.proofs.Basics.{two, and_in, when, unless}
+use Rattle.wf_layers.proofs.Basics.{two, and_in, when, unless, either}
 
 of_not : (b : Bool) → not b ≡ true → b ≡ false
 of_not true e = absurd (true≢false (sym e))
 of_not false e = refl
-
-either : (p q : Bool) → (p || q) ≡ true → (p ≡ true) ⊎ (q ≡ true)
-either true q e = inl refl
-either false q e = inr e
 
 -- P holds of each name
 module _ (P : ℕ → Bool) where

@@ -15,7 +15,7 @@ use Rattle.wf_layers.specs.Premises.{MeetsPremises}
 use Rattle.wf_layers.specs.Variables.{IsOrdered, HasOrder, OneOrder, WritersHaveOrder}
 use Rattle.std.proofs.lemmas.Bool.{eqb-false}
 use Rattle.std.proofs.lemmas.Option.{none-some}
-use Rattle.wf_layers.proofs.Basics.{two, not_true, same_self, when, unless, some_turn}
+use Rattle.wf_layers.proofs.Basics.{two, not_true, same_self, when, unless, either}
 use Rattle.wf_layers.proofs.Meaning.{meaning_solves}
 use Rattle.wf_layers.proofs.Decide.{once_is, closed_is_by, falls_is}
 use Rattle.wf_layers.proofs.Seen.{answers_sound}
@@ -270,10 +270,6 @@ in_order (suc (suc j)) (suc (suc k)) lt = (
     inr (refl, inl (refl, refl, inr (j, k, omega (arith, lt), both (nat_eq j j) (same_self j), both (nat_eq k k) (same_self k)))),
   )),
 )
-
-either : (p q : Bool) → (p || q) ≡ true → (p ≡ true) ⊎ (q ≡ true)
-either true q e = inl refl
-either false q e = inr e
 
 counted : (y : Address) (r : ℕ) → (writes y r ≡ None → ⊥) → counts y.name ≡ true
 counted y r w =

@@ -1,20 +1,19 @@
 -- The example resubmitted: the Increment in the If is chosen, and adds two. What comes before it, what is apart, and the branch that isn't
 -- taken are kept; the If is closed again; and all that stands after the If is redone.
-use Rattle.std.proofs.Common.{◌≡◌, ℕ, zero, suc, ◌+◌, Bool, true, false, ◌&&◌, ◌||◌, not, cond, List, [], ◌∷◌, Option, Some, None, ◌⊎◌, inl, inr, ⊎_elim, refl, sym, ap, ◌∙◌, subst, arith, nat_eq, eqb-true, true≢false}
+use Rattle.std.proofs.Common.{◌≡◌, ℕ, zero, suc, ◌+◌, Bool, true, false, ◌||◌, not, cond, [], ◌∷◌, Option, Some, None, ◌⊎◌, inl, inr, refl, sym, subst, arith, nat_eq, eqb-true, true≢false}
 use Rattle.std.proofs.lemmas.Option.{none-some}
-use Rattle.wf_layers.specs.Definition.{Skipped, Succeeded, Graph, has}
+use Rattle.wf_layers.specs.Definition.{has}
 use Rattle.wf_layers.specs.Address.{Address, Table, address, SeenIn}
 use Rattle.wf_layers.specs.Source.{Source, Sound}
 use Rattle.wf_layers.specs.Meaning.{meaning}
 use Rattle.wf_layers.specs.Rule.{Obeys}
 use Rattle.wf_layers.specs.Bound.{total}
-use Rattle.wf_layers.specs.Shape.{HasShape}
 use Rattle.wf_layers.specs.Variables.{IsIdle, IsLastWritten}
 use Rattle.wf_layers.specs.Redo.{IsRedo, OutOfLoops, redone, closed_again}
 use Rattle.wf_layers.specs.Resubmission.{kept, layered, pin, IsSetResubmission}
 use Rattle.wf_layers.specs.Premises.{MeetsPremisesAgain}
-use Rattle.wf_layers.proofs.Basics.{two, and_in, when, unless, not_true}
-use Rattle.wf_layers.proofs.Decide.{all_of, of_all, once_is, closed_is_by}
+use Rattle.wf_layers.proofs.Basics.{and_in}
+use Rattle.wf_layers.proofs.Decide.{of_all, once_is, closed_is_by}
 use Rattle.wf_layers.proofs.Meaning.{meaning_solves}
 use Rattle.wf_layers.proofs.Shape.{meaning_has_shape}
 use Rattle.wf_layers.proofs.Redone.{a_set_has_its_parts}

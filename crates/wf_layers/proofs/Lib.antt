@@ -42,3 +42,5 @@ pub mod Changes
 pub mod Redone
 pub mod Answered
 pub mod Record
+pub mod ExampleRun
+pub mod Worked

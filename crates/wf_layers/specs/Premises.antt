@@ -1,7 +1,7 @@
 -- What an example shows: one definition that meets the premises of all laws.
-use Rattle.std.specs.Prelude.{◌≡◌, ℕ, Bool, true, false, not, cond, List, [], Option, Some, None}
-use Rattle.wf_layers.specs.Definition.{Kind, Leaf, Choice, Until, Branches, Graph, kind_of}
-use Rattle.wf_layers.specs.Address.{Address, Table, address, SeenIn}
+use Rattle.std.specs.Prelude.{◌≡◌, ℕ, Bool, true, not, cond, [], Option, Some, None}
+use Rattle.wf_layers.specs.Definition.{Leaf, Choice, Until, Branches, Graph, kind_of}
+use Rattle.wf_layers.specs.Address.{Address, address, SeenIn}
 use Rattle.wf_layers.specs.Source.{Source, Sound}
 use Rattle.wf_layers.specs.Seen.{Once}
 use Rattle.wf_layers.specs.Meaning.{meaning}

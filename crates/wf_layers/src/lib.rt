@@ -15,12 +15,13 @@
 //! It isn't an engine: no row has a content here, nothing is parsed, evaluated or run, and no memory is taken.
 #![tactic(auto)]
 
-ghost use Rattle.std.specs.Prelude.{[], ◌∷◌, ◌≡◌, Bool, List, None, Option, Some, false, true, ℕ};
+ghost use Rattle.std.specs.Prelude.{[], ◌∷◌, ◌≡◌, Bool, List, None, Option, Some, false, length, true, ℕ};
 ghost use Rattle.wf_layers.specs.Address.{Address, SeenIn, Table, address, is_within};
 ghost use Rattle.wf_layers.specs.Answered.{RunsSoFarAreRuns};
 ghost use Rattle.wf_layers.specs.Bound.{total};
 ghost use Rattle.wf_layers.specs.Definition.{Closed, Graph, IsDepth, Kind, Leaf, Turns};
 ghost use Rattle.wf_layers.specs.Laws.{AllRowsAtTheEnd, EventsAreCounted, EventsAreExact, EventsAtTheEnd, EventsChangeOnlyThere, EventsOfRunsAreFew, FactsOfStates, IsFresh, IsInstance, MeaningObeysTheRule, OneEventAtAnAddress, PartIsUnique, RowsAreTheMeanings, RowsAreUnique, RowsWhereCalledFor, RunsGrow, StoreHoldsTheLast, TestsInOrder, VariablesInOrder};
+ghost use Rattle.wf_layers.specs.Machine.{Event, IsOver, Run, State, fresh};
 ghost use Rattle.wf_layers.specs.Meaning.{meaning};
 ghost use Rattle.wf_layers.specs.Listed.{Lists};
 ghost use Rattle.wf_layers.specs.Premises.{MeetsPremises, MeetsPremisesAgain};
@@ -139,13 +140,14 @@ pub fn variables_in_order<Row, Begun, Decision, Verdict>()
     ensures { (d : Graph) (m : Source Row Begun Decision Verdict) (depth : ℕ → ℕ) → IsInstance d m depth → VariablesInOrder d m depth }
 {}
 
-/// As an Until is tested, the finished accesses outside it are those that it sees, and its iterations so far are there.
+/// As an Until is tested, the finished accesses in it or with an order are those that it sees and those of its iterations so far, and all
+/// of these are there.
 pub fn tests_in_order<Row, Begun, Decision, Verdict>()
     ensures { (d : Graph) (m : Source Row Begun Decision Verdict) (depth : ℕ → ℕ) → IsInstance d m depth → TestsInOrder d m depth }
 {}
 
-/// A store that each finished writer overwrites holds the last finished writer's value, and, as an action is decided or an Until tested,
-/// that of the last writer that it sees.
+/// A store that each finished writer overwrites holds the last finished writer's value; and, as an action is decided, while a leaf runs and
+/// as an Until is tested, that of the last writer that it sees.
 pub fn store_holds_the_last<Row, Begun, Decision, Verdict, Value>()
     ensures { (d : Graph) (m : Source Row Begun Decision Verdict) (depth : ℕ → ℕ) (writes : Address → Row → Option Value)
         → IsInstance d m depth → StoreHoldsTheLast d m depth writes }
@@ -315,13 +317,14 @@ pub fn resumed_store_holds_the_last<Row, Begun, Decision, Verdict, Value>()
 {}
 
 /// The premises are met by one definition with an If, an Until, a Foreach two of whose iterations go side by side, a counter that is
-/// incremented in the If that reads it and in the Until that tests it, a Skipped leaf, one with two attempts and one that is halted. Each
-/// run of it that is over has 33 events, and the counter comes to 3.
+/// incremented in the If that reads it and in the Until that tests it, a Skipped leaf, one with two attempts and one that is halted. There
+/// is a run of it to the end, event by event, and it has 33 events, as its meaning says.
 pub fn one_example_meets_the_premises()
     ensures { (d : Graph) × (m : Source ℕ ℕ ℕ Bool) × (depth : ℕ → ℕ) × (writes : (Address → ℕ → Option ℕ)) × (read : Reading ℕ)
         × (turns : (ℕ → ℕ)) × (tries : (Address → ℕ → ℕ)) × (knows : (Address → ℕ → ℕ → Bool))
-        × MeetsPremises d m depth writes read turns tries knows × (total m (meaning m depth d) d [] ≡ 33)
-        × (meaning m depth d (address 5 (1 ∷ [])) ≡ Some 4) }
+        × MeetsPremises d m depth writes read turns tries knows × (meaning m depth d (address 5 (1 ∷ [])) ≡ Some 4)
+        × (total m (meaning m depth d) d [] ≡ 33)
+        × (es : List Event) × (s : State ℕ ℕ ℕ Bool) × Run d m fresh es s × IsOver d m s × (length es ≡ 33) }
 {}
 
 /// And its resubmission from the Increment in the If, with a layer in which it adds two, meets them again: 25 events, and the Until has one

@@ -1,0 +1,12 @@
+pub mod PartLemmas
+pub mod ChunkLemmas
+pub mod RangeLemmas
+pub mod SetLemmas
+pub mod SortLemmas
+pub mod SortLaws
+pub mod SetLaws
+pub mod MemberLaws
+pub mod TextLemmas
+pub mod EachLemmas
+pub mod MemberLemmas
+pub mod WorkedRows
