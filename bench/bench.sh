@@ -1,7 +1,7 @@
 #!/bin/sh
 # Times `wflow run` beside `jq -c .` on the same definition, and prints the ratio of the two. Then times the parsing of
 # texts as templates, which no command does yet, beside reading their bytes alone, with the ratio of these two, and beside
-# `jq -c .` on the same text as JSON.
+# `jq -c .` on the same text as JSON. Then times functions on long texts beside Python's own.
 #
 #   bench/bench.sh
 #
@@ -12,14 +12,14 @@ top=$(CDPATH='' cd -P -- "$(dirname -- "$0")/.." && pwd -P)
 command -v jq >/dev/null || { apt-get update -qq && apt-get install -y -qq jq; } >&2
 folder=$(mktemp -d)
 trap 'rm -rf "$folder"' EXIT
-export top folder
-"$top/bin/wflow" run "$top/examples/hello/definition.json" "$top/examples/hello/inputs.json" >/dev/null
+program=$("$top/bin/program")
+export top folder program
 (cd "$top/crates/template_rows" && rt run -- parse <stdin) >"$folder/log" 2>&1 || { cat "$folder/log" >&2 && exit 1; }
+(cd "$top/crates/function_rows" && rt run <stdin) >"$folder/log" 2>&1 || { cat "$folder/log" >&2 && exit 1; }
 python3 - <<'PROGRAM'
-import json, os, subprocess, time
+import json, os, subprocess, time, urllib.parse
 
-top, folder = os.environ["top"], os.environ["folder"]
-program = os.path.join(top, "bin", ".built", "wflow")
+top, folder, program = os.environ["top"], os.environ["folder"], os.environ["program"]
 
 
 def file(name, value):
@@ -97,4 +97,38 @@ for name, text in texts:
     ours, reading, theirs = least(parse, path), least([program, "read"], path), least(["jq", "-c", ".", file("text.json", text)])
     print("%-34s %9d %9.3f %9.3f %7.1f %9.3f %5d MiB  %s" % (
         name, os.path.getsize(path), ours, reading, ours / reading, theirs, memory(parse, path), parsed))
+
+# A function is timed with its arguments read from JSON and its value written as JSON, beside Python's own function with the
+# same: a row eleven times less a row once, which leaves the start of the program out.
+program = os.path.join(top, "crates", "function_rows", "out", "function_rows")
+million = 10**6
+calls = [
+    ("split of 1,000,000 commas", "split", ["," * million, ","], lambda text, part: text.split(part)),
+    ("replace of 1,000,000 commas", "replace", ["," * million, ",", ";"], lambda text, old, new: text.replace(old, new)),
+    ("replace that would be too big", "replace", ["x" * million, "x", "y" * million], None),
+    ("lastIndexOf of a..ab in a..a", "lastIndexOf", ["a" * million, "a" * (million // 2) + "b"],
+        lambda text, part: text.lower().rfind(part.lower())),
+    ("encodeUriComponent of letters", "encodeUriComponent", ["a" * million], lambda text: urllib.parse.quote(text, safe="")),
+    ("encodeUriComponent of blanks", "encodeUriComponent", [" " * 340000], lambda text: urllib.parse.quote(text, safe="")),
+]
+print()
+print("%-34s %9s %9s %9s %7s %9s  %s" % ("function", "bytes", "wflow s", "python s", "ratio", "memory", "gives"))
+for name, function, arguments, own in calls:
+    row = function + "\t" + json.dumps(arguments) + "\n"
+    once, often = os.path.join(folder, "once"), os.path.join(folder, "often")
+    for path, times in ((once, 1), (often, 11)):
+        with open(path, "w") as out:
+            out.write(row * times)
+    with open(once) as given:
+        gives = subprocess.run([program], stdin=given, capture_output=True, check=True, text=True).stdout.strip()
+    ours = (least([program], often) - least([program], once)) / 10
+    theirs = []
+    for _ in range(5):
+        began = time.perf_counter()
+        value = own and json.dumps(own(*json.loads(row[len(function) + 1:])), separators=(",", ":"))
+        theirs.append(time.perf_counter() - began)
+    assert own is None or value == gives, name
+    print("%-34s %9d %9.4f %9s %7s %5d MiB  %s" % (
+        name, len(row), ours, "%.4f" % min(theirs) if own else "-", "%.1f" % (ours / min(theirs)) if own else "-",
+        memory([program], once), gives if len(gives) < 30 else "%d bytes" % len(gives)))
 PROGRAM

@@ -355,8 +355,9 @@ def main():
     parser = argparse.ArgumentParser(description=__doc__, formatter_class=argparse.RawDescriptionHelpFormatter)
     parser.add_argument("--count", type=int, default=10000)
     parser.add_argument("--seed", type=int, default=1)
-    parser.add_argument("--program", default=os.path.join(top, "bin", "wflow"))
+    parser.add_argument("--program", help="what to run; the program of bin/program where it is left out")
     words = parser.parse_args()
+    program = words.program or subprocess.check_output([os.path.join(top, "bin", "program")], text=True).strip()
     rng = random.Random(words.seed)
     statuses = collections.Counter()
     failed = 0
@@ -367,7 +368,7 @@ def main():
             for path, data in zip(paths, files):
                 with open(path, "wb") as file:
                     file.write(data)
-            ended = subprocess.run([words.program, "run"] + paths, capture_output=True, timeout=60)
+            ended = subprocess.run([program, "run"] + paths, capture_output=True, timeout=60)
             status, text = wanted(*files)
             statuses[status] += 1
             if (ended.returncode, ended.stdout) != (status, text):

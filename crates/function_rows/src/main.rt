@@ -8,8 +8,9 @@
 //! The rows are data: a new row is proved by nothing and proves nothing anew. This program is no part of the engine.
 #![tactic(auto)]
 
-mod faults;
 mod numbers;
+mod texts;
+mod urls;
 
 use std::alloc::{AllocError, Global};
 use std::io::{self, Write};
@@ -45,8 +46,28 @@ fn asked(alloc: Global, row: &str) -> Result<Option<Call>, AllocError> {
 }
 
 // What the call gives, where a crate has such a function of so many arguments.
-fn given(call: &Call) -> Option<Result<Val, EvalFault>> {
-    numbers::given(call.function, &call.args)
+fn given(alloc: Global, call: &Call) -> Option<Result<Val, EvalFault>> {
+    match numbers::given(call.function, &call.args) {
+        Some(answer) => Some(answer),
+        None => given_of_texts(alloc, call),
+    }
+}
+
+fn given_of_texts(alloc: Global, call: &Call) -> Option<Result<Val, EvalFault>> {
+    match texts::given(alloc, call.function, &call.args) {
+        Some(answer) => Some(answer),
+        None => urls::given(alloc, call.function, &call.args),
+    }
+}
+
+// `!` and the fault. Want of memory is no answer.
+fn marked(alloc: Global, fault: &EvalFault) -> Result<Vec<u8>, AllocError> {
+    if fault.is_memory() {
+        return Err(AllocError);
+    }
+    let mut line = Vec::from_slice(alloc, "!".as_bytes())?;
+    line.extend_from_slice(wf_json::fault_text(alloc, fault)?.as_str().as_bytes())?;
+    Ok(line)
 }
 
 // The line that answers a row, without its end.
@@ -58,9 +79,9 @@ fn answer(alloc: Global, row: &str) -> Result<Vec<u8>, AllocError> {
         Some(call) => call,
         None => return Vec::from_slice(alloc, "no such call".as_bytes()),
     };
-    match given(&call) {
+    match given(alloc, &call) {
         Some(Ok(value)) => wf_json::write(alloc, &value),
-        Some(Err(fault)) => faults::marked(alloc, &fault),
+        Some(Err(fault)) => marked(alloc, &fault),
         None => Vec::from_slice(alloc, "no such call".as_bytes()),
     }
 }

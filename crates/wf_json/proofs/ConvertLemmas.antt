@@ -27,12 +27,14 @@ pub members-map : (es : List Entry) → members (map member_of_entry es) ≡ mem
 members-map [] = refl
 members-map (e ∷ es) = rw (members-map es) refl
 
-below_middle : (first : Entry) (es : List Entry) (e : Entry) (more : List Entry) → AllByRecursion (λ y. string_cmp first.0 y ≡ Less) (keys_of (es ++ e ∷ more)) → string_cmp first.0 e.0 ≡ Less
+below_middle : (first : Entry) (es : List Entry) (e : Entry) (more : List Entry)
+    → AllByRecursion (λ y. string_cmp first.0 y ≡ Less) (keys_of (es ++ e ∷ more)) → string_cmp first.0 e.0 ≡ Less
 below_middle first [] e more all = all.0
 below_middle first (x ∷ es) e more all = below_middle first es e more all.1
 
 -- in order, each name is above those before it
-pub above_done : (done : List Entry) (e : Entry) (more : List Entry) → IsStrictlySortedBy string_cmp (keys_of (done ++ e ∷ more)) → IsAboveAll name_of (string_bytes e.0) (map member_of_entry done)
+pub above_done : (done : List Entry) (e : Entry) (more : List Entry) → IsStrictlySortedBy string_cmp (keys_of (done ++ e ∷ more))
+    → IsAboveAll name_of (string_bytes e.0) (map member_of_entry done)
 unfolding IsStrictlySortedBy
 above_done [] e more order = tt
 above_done (x ∷ done) e more order = (below_middle x done e more order.0, above_done done e more order.1)

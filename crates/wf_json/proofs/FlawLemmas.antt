@@ -1,5 +1,6 @@
 -- The least pointer of a flaw, place by place.
-use Rattle.std.proofs.Common.{◌≡◌, ℕ, suc, ◌+◌, ◌<◌, List, [], ◌∷◌, ◌++◌, map, length, drop, get_or, drop-cons, add-one, true, Option, Some, option_map, refl, sym, ap, ◌∙◌}
+use Rattle.std.proofs.Common.{◌≡◌, ℕ, suc, ◌+◌, ◌<◌, List, [], ◌∷◌, ◌++◌, map, length, drop, get_or, drop-cons, add-one, true, Option, Some}
+use Rattle.std.proofs.Common.{option_map, refl, sym, ap, ◌∙◌}
 use Rattle.serde_json.specs.Data as json
 use Rattle.wf_json.specs.Pointer.{item_step, member_step, lesser, least}
 use Rattle.wf_json.specs.Read.{has_flaw, flawed_places, flawed_items, flawed_members}
@@ -24,7 +25,8 @@ part_then best step ps qs =
 
 item_then : (best : Option (List ℕ)) (flaw : Flaw) (room place : ℕ) (d : json.Data) (ds : json.Items)
     → lesser best (least (flawed_items flaw room place (json.item d ds)))
-    ≡ lesser (lesser best (option_map (λ p. item_step place ++ p) (least (flawed_places flaw room d)))) (least (flawed_items flaw room (suc place) ds))
+    ≡ lesser (lesser best (option_map (λ p. item_step place ++ p) (least (flawed_places flaw room d))))
+    (least (flawed_items flaw room (suc place) ds))
 item_then best flaw room place d ds = part_then best (item_step place) (flawed_places flaw room d) (flawed_items flaw room (suc place) ds)
 
 member_then : (best : Option (List ℕ)) (flaw : Flaw) (room : ℕ) (k : List ℕ) (d : json.Data) (ms : json.Members)

@@ -1,5 +1,6 @@
 -- A pointer is listed exactly where it leads to a value that has the flaw.
-use Rattle.std.proofs.Common.{◌≡◌, ◌↔◌, ℕ, zero, suc, ◌+◌, ◌-◌, ◌⊎◌, List, [], ◌∷◌, ◌++◌, map, length, flat_map, Bool, true, false, Some, inl, inr, refl, sym, ap, ◌∙◌, subst, arith}
+use Rattle.std.proofs.Common.{◌≡◌, ◌↔◌, ℕ, zero, suc, ◌+◌, ◌-◌, ◌⊎◌, List, [], ◌∷◌, ◌++◌, map, length, flat_map, Bool, true, false, Some}
+use Rattle.std.proofs.Common.{inl, inr, refl, sym, ap, ◌∙◌, subst, arith}
 use Rattle.std.specs.List.{Contains}
 use Rattle.std.proofs.lemmas.List.Elements.{Contains-append_left, Contains-append_right, Contains-append_cases, Contains-push_cases}
 use Rattle.serde_json.specs.Data as json
@@ -63,10 +64,12 @@ step_before flaw room step d next p q is goes rest =
     }
 
 abbrev InItems : Flaw → ℕ → ℕ → json.Items → List ℕ → Type 0
-InItems flaw room start ds p = (i : ℕ) × (d : json.Data) × (q : List ℕ) × (get_item i ds ≡ Some d) × (p ≡ item_step (start + i) ++ q) × LeadsToFlaw flaw room d q
+InItems flaw room start ds p =
+    (i : ℕ) × (d : json.Data) × (q : List ℕ) × (get_item i ds ≡ Some d) × (p ≡ item_step (start + i) ++ q) × LeadsToFlaw flaw room d q
 
 abbrev InMembers : Flaw → ℕ → json.Members → List ℕ → Type 0
-InMembers flaw room ms p = (k : List ℕ) × (d : json.Data) × (q : List ℕ) × IsMember k d ms × (p ≡ member_step k ++ q) × LeadsToFlaw flaw room d q
+InMembers flaw room ms p =
+    (k : List ℕ) × (d : json.Data) × (q : List ℕ) × IsMember k d ms × (p ≡ member_step k ++ q) × LeadsToFlaw flaw room d q
 
 mutual
   leads_there : (flaw : Flaw) (room : ℕ) (d : json.Data) (p : List ℕ) → Contains (flawed_places flaw room d) p → LeadsToFlaw flaw room d p
@@ -90,10 +93,12 @@ mutual
             step_before flaw room (to_member k) (json.object ms) d p q is found rest
       ]
 
-  leads_in_items : (flaw : Flaw) (room start : ℕ) (ds : json.Items) (p : List ℕ) → Contains (flawed_items flaw room start ds) p → InItems flaw room start ds p
+  leads_in_items : (flaw : Flaw) (room start : ℕ) (ds : json.Items) (p : List ℕ) → Contains (flawed_items flaw room start ds) p
+      → InItems flaw room start ds p
   leads_in_items flaw room start json.no_items p c = absurd (none_in_nothing p c)
   leads_in_items flaw room start (json.item d ds) p c =
-      elim (Contains-append_cases (map (λ q. item_step start ++ q) (flawed_places flaw room d)) (flawed_items flaw room (suc start) ds) p c) [
+      elim (Contains-append_cases (map (λ q. item_step start ++ q) (flawed_places flaw room d))
+      (flawed_items flaw room (suc start) ds) p c) [
         | inl first ↦
             let (q, listed, is) = from_mapped (λ q. item_step start ++ q) (flawed_places flaw room d) p first in
             let here : start ≡ start + 0 = omega arith in
@@ -104,7 +109,8 @@ mutual
             (suc i, e, q, found, subst (λ n. p ≡ item_step n ++ q) same is, rest)
       ]
 
-  leads_in_members : (flaw : Flaw) (room : ℕ) (ms : json.Members) (p : List ℕ) → Contains (flawed_members flaw room ms) p → InMembers flaw room ms p
+  leads_in_members : (flaw : Flaw) (room : ℕ) (ms : json.Members) (p : List ℕ) → Contains (flawed_members flaw room ms) p
+      → InMembers flaw room ms p
   leads_in_members flaw room json.no_members p c = absurd (none_in_nothing p c)
   leads_in_members flaw room (json.member k d ms) p c =
       elim (Contains-append_cases (map (λ q. member_step k ++ q) (flawed_places flaw room d)) (flawed_members flaw room ms) p c) [
@@ -127,20 +133,24 @@ itself_listed flaw room (json.array ds) is = rw is (first_listed [] (flawed_item
 itself_listed flaw room (json.object ms) is = rw is (first_listed [] (flawed_members flaw (room - 1) ms))
 
 item_listed : (flaw : Flaw) (room start i : ℕ) (ds : json.Items) (d : json.Data) (q : List ℕ)
-    → get_item i ds ≡ Some d → Contains (flawed_places flaw room d) q → Contains (flawed_items flaw room start ds) (item_step (start + i) ++ q)
+    → get_item i ds ≡ Some d → Contains (flawed_places flaw room d) q
+    → Contains (flawed_items flaw room start ds) (item_step (start + i) ++ q)
 item_listed flaw room start i json.no_items d q found listed = absurd (cc)
 item_listed flaw room start zero (json.item e ds) d q found listed =
     let here : start ≡ start + 0 = omega arith in
     let same : d ≡ e = cc in
-    let first = mapped (λ r. item_step start ++ r) (flawed_places flaw room e) q (subst (λ v. Contains (flawed_places flaw room v) q) same listed) in
+    let first = mapped (λ r. item_step start ++ r) (flawed_places flaw room e) q
+    (subst (λ v. Contains (flawed_places flaw room v) q) same listed) in
     let ps = map (λ r. item_step start ++ r) (flawed_places flaw room e) ++ flawed_items flaw room (suc start) ds in
-    subst (λ n. Contains ps (item_step n ++ q)) here (Contains-append_left _ (flawed_items flaw room (suc start) ds) (item_step start ++ q) first)
+    subst (λ n. Contains ps (item_step n ++ q)) here
+    (Contains-append_left _ (flawed_items flaw room (suc start) ds) (item_step start ++ q) first)
 item_listed flaw room start (suc i) (json.item e ds) d q found listed =
     let same : suc start + i ≡ start + suc i = omega arith in
     let later = item_listed flaw room (suc start) i ds d q found listed in
     let ps = map (λ r. item_step start ++ r) (flawed_places flaw room e) ++ flawed_items flaw room (suc start) ds in
     subst (λ n. Contains ps (item_step n ++ q)) same
-    (Contains-append_right (map (λ r. item_step start ++ r) (flawed_places flaw room e)) (flawed_items flaw room (suc start) ds) (item_step (suc start + i) ++ q) later)
+    (Contains-append_right (map (λ r. item_step start ++ r) (flawed_places flaw room e)) (flawed_items flaw room (suc start) ds)
+    (item_step (suc start + i) ++ q) later)
 
 member_listed : (flaw : Flaw) (room : ℕ) (k : List ℕ) (ms : json.Members) (d : json.Data) (q : List ℕ)
     → IsMember k d ms → Contains (flawed_places flaw room d) q → Contains (flawed_members flaw room ms) (member_step k ++ q)
@@ -149,10 +159,12 @@ member_listed flaw room k (json.member l e ms) d q found listed =
     let ps = map (λ r. member_step l ++ r) (flawed_places flaw room e) in
     elim found [
       | inl is ↦
-          let first = mapped (λ r. member_step l ++ r) (flawed_places flaw room e) q (subst (λ v. Contains (flawed_places flaw room v) q) is.1 listed) in
+          let first = mapped (λ r. member_step l ++ r) (flawed_places flaw room e) q
+          (subst (λ v. Contains (flawed_places flaw room v) q) is.1 listed) in
           subst (λ n. Contains (ps ++ flawed_members flaw room ms) (member_step n ++ q)) (sym is.0)
           (Contains-append_left ps (flawed_members flaw room ms) (member_step l ++ q) first)
-      | inr later ↦ Contains-append_right ps (flawed_members flaw room ms) (member_step k ++ q) (member_listed flaw room k ms d q later listed)
+      | inr later ↦ Contains-append_right ps (flawed_members flaw room ms) (member_step k ++ q)
+          (member_listed flaw room k ms d q later listed)
     ]
 
 step_listed : (flaw : Flaw) (room : ℕ) (step : Step) (d next : json.Data) (q : List ℕ)
@@ -164,7 +176,8 @@ step_listed flaw room (to_item i) (json.string s) next q goes listed = absurd (c
 step_listed flaw room (to_item i) (json.array ds) next q goes listed =
     let from_first : 0 + i ≡ i = omega arith in
     Contains-append_right (here (has_flaw flaw room (json.array ds))) (flawed_items flaw (room - 1) 0 ds) (item_step i ++ q)
-    (subst (λ n. Contains (flawed_items flaw (room - 1) 0 ds) (item_step n ++ q)) from_first (item_listed flaw (room - 1) 0 i ds next q goes listed))
+    (subst (λ n. Contains (flawed_items flaw (room - 1) 0 ds) (item_step n ++ q)) from_first
+    (item_listed flaw (room - 1) 0 i ds next q goes listed))
 step_listed flaw room (to_item i) (json.object ms) next q goes listed = absurd (cc)
 step_listed flaw room (to_member k) json.null next q goes listed = absurd goes
 step_listed flaw room (to_member k) (json.boolean b) next q goes listed = absurd goes
@@ -188,7 +201,9 @@ reached_listed flaw room (step ∷ steps) d place go flawed =
 
 leading_listed : (flaw : Flaw) (room : ℕ) (d : json.Data) (p : List ℕ) → LeadsToFlaw flaw room d p → Contains (flawed_places flaw room d) p
 leading_listed flaw room d p leads =
-    subst (Contains (flawed_places flaw room d)) (sym leads.spelled) (reached_listed flaw room leads.steps d leads.place leads.reached leads.flawed)
+    subst (Contains (flawed_places flaw room d)) (sym leads.spelled)
+    (reached_listed flaw room leads.steps d leads.place leads.reached leads.flawed)
 
-pub listed_iff_leading : (flaw : Flaw) (room : ℕ) (d : json.Data) (p : List ℕ) → Contains (flawed_places flaw room d) p ↔ LeadsToFlaw flaw room d p
+pub listed_iff_leading : (flaw : Flaw) (room : ℕ) (d : json.Data) (p : List ℕ)
+    → Contains (flawed_places flaw room d) p ↔ LeadsToFlaw flaw room d p
 listed_iff_leading flaw room d p = (leads_there flaw room d p, leading_listed flaw room d p)

@@ -1,5 +1,6 @@
 -- The lesser of pointers, and the least of a list of them.
-use Rattle.std.proofs.Common.{◌≡◌, ℕ, suc, ◌<◌, List, [], ◌∷◌, ◌++◌, length, get_or, flat_map, map, Option, Some, None, option_map, Ordering, Less, Equal, Greater, refl, sym, ap, ap₂, ◌∙◌, subst, arith, append_assoc, append-nil, ne_eqb}
+use Rattle.std.proofs.Common.{◌≡◌, ℕ, suc, ◌<◌, List, [], ◌∷◌, ◌++◌, length, get_or, flat_map, map, Option, Some, None, option_map}
+use Rattle.std.proofs.Common.{Ordering, Less, Equal, Greater, refl, sym, ap, ap₂, ◌∙◌, subst, arith, append_assoc, append-nil, ne_eqb}
 use Rattle.std.specs.Ordering.{match_ordering, ordering_reverse}
 use Rattle.std.proofs.lemmas.Str.{inside_one}
 use lib.Utf8.{encode}
@@ -57,9 +58,11 @@ bytes_cmp-front (x ∷ s) p q = rw (tied_itself nat_cmp_total x) (bytes_cmp-fron
 lower-front : (s p q : List ℕ) → lower (s ++ p) (s ++ q) ≡ s ++ lower p q
 lower-front s p q =
     ap (λ o. match_ordering o (s ++ p) (s ++ p) (s ++ q)) (bytes_cmp-front s p q)
-    ∙ elim (bytes_cmp p q) as (λ o. match_ordering o (s ++ p) (s ++ p) (s ++ q) ≡ s ++ match_ordering o p p q) [ Less ↦ refl | Equal ↦ refl | Greater ↦ refl ]
+    ∙ elim (bytes_cmp p q) as (λ o. match_ordering o (s ++ p) (s ++ p)
+    (s ++ q) ≡ s ++ match_ordering o p p q) [ Less ↦ refl | Equal ↦ refl | Greater ↦ refl ]
 
-lesser-front : (s p : List ℕ) (o : Option (List ℕ)) → lesser (Some (s ++ p)) (option_map (λ q. s ++ q) o) ≡ option_map (λ q. s ++ q) (lesser (Some p) o)
+lesser-front : (s p : List ℕ) (o : Option (List ℕ))
+    → lesser (Some (s ++ p)) (option_map (λ q. s ++ q) o) ≡ option_map (λ q. s ++ q) (lesser (Some p) o)
 lesser-front s p None = refl
 lesser-front s p (Some q) = ap Some (lower-front s p q)
 
@@ -81,14 +84,19 @@ least-none (p ∷ ps) is = absurd (some_lesser p (least ps) is)
 not_below_itself : (p : List ℕ) → bytes_cmp p p ≡ Less → ⊥
 not_below_itself p below = let tied = tied_itself nat_list_cmp_total p in cc
 
-first_or_rest : (p q : List ℕ) (ps : List (List ℕ)) (o : Ordering) → bytes_cmp p q ≡ o → IsLeast ps q → IsLeast (p ∷ ps) (match_ordering o p p q)
+first_or_rest : (p q : List ℕ) (ps : List (List ℕ)) (o : Ordering) → bytes_cmp p q ≡ o → IsLeast ps q
+    → IsLeast (p ∷ ps) (match_ordering o p p q)
 first_or_rest p q ps Less is rest = record {
   listed = (0, omega arith, refl);
-  lowest = All-cons (λ r. bytes_cmp r p ≡ Less → ⊥) p ps (not_below_itself p) (λ k d within below. rest.lowest k d within (nat_list_cmp_total.trans (slice_index_or ps k d) p q below is));
+  lowest =
+      All-cons (λ r. bytes_cmp r p ≡ Less → ⊥) p ps (not_below_itself p)
+      (λ k d within below. rest.lowest k d within (nat_list_cmp_total.trans (slice_index_or ps k d) p q below is));
 }
 first_or_rest p q ps Equal is rest = record {
   listed = (0, omega arith, refl);
-  lowest = All-cons (λ r. bytes_cmp r p ≡ Less → ⊥) p ps (not_below_itself p) (λ k d within below. rest.lowest k d within (subst (λ x. bytes_cmp (slice_index_or ps k d) x ≡ Less) (exact_bytes p q is) below));
+  lowest =
+      All-cons (λ r. bytes_cmp r p ≡ Less → ⊥) p ps (not_below_itself p)
+      (λ k d within below. rest.lowest k d within (subst (λ x. bytes_cmp (slice_index_or ps k d) x ≡ Less) (exact_bytes p q is) below));
 }
 first_or_rest p q ps Greater is rest = record {
   listed = (suc rest.listed.0, omega (arith, rest.listed.1), rest.listed.2);
@@ -102,7 +110,8 @@ alone q p ps none same =
       lowest = All-cons (λ r. bytes_cmp r q ≡ Less → ⊥) q [] (not_below_itself q) (λ k d within. absurd (omega arith));
     }))
 
-by_rest : (q p : List ℕ) (ps : List (List ℕ)) (o : Option (List ℕ)) → ((r : List ℕ) → least ps ≡ Some r → IsLeast ps r) → least ps ≡ o → lesser (Some q) o ≡ Some p → IsLeast (q ∷ ps) p
+by_rest : (q p : List ℕ) (ps : List (List ℕ)) (o : Option (List ℕ)) → ((r : List ℕ) → least ps ≡ Some r → IsLeast ps r) → least ps ≡ o
+    → lesser (Some q) o ≡ Some p → IsLeast (q ∷ ps) p
 by_rest q p ps None rest none one = alone q p ps none (cc)
 by_rest q p ps (Some r) rest some one =
     let same : match_ordering (bytes_cmp q r) q q r ≡ p = cc in
@@ -124,16 +133,20 @@ unescaped (x ∷ xs) other =
 -- no byte of another character is a tilde or a slash
 unescaped_char : (c : ℕ) → (c ≡ 126 → ⊥) → (c ≡ 47 → ⊥) → flat_map escaped (encode c) ≡ encode c
 unescaped_char c no_tilde no_slash = unescaped (encode c) (λ k within.
-    let alike : (get_or (encode c) k 0 < 128 → c ≡ get_or (encode c) k 0) = inside_one c [] (encode c) k (sym (append-nil (encode c))) within in (
+    let alike : (get_or (encode c) k 0 < 128 → c ≡ get_or (encode c) k 0) = inside_one c [] (encode c) k
+    (sym (append-nil (encode c))) within in (
       λ e. no_tilde (alike (omega arith) ∙ e),
       λ e. no_slash (alike (omega arith) ∙ e),
     ))
 
 flat_map-append : (xs ys : List ℕ) → flat_map escaped (xs ++ ys) ≡ flat_map escaped xs ++ flat_map escaped ys
 flat_map-append [] ys = refl
-flat_map-append (x ∷ xs) ys = ap (λ zs. escaped x ++ zs) (flat_map-append xs ys) ∙ sym (append_assoc (escaped x) (flat_map escaped xs) (flat_map escaped ys))
+flat_map-append (x ∷ xs) ys =
+    ap (λ zs. escaped x ++ zs) (flat_map-append xs ys) ∙ sym (append_assoc (escaped x) (flat_map escaped xs) (flat_map escaped ys))
 
-pub escaped_char_then : (done : List ℕ) (c : ℕ) (rest : List ℕ) → (c ≡ 126 → ⊥) → (c ≡ 47 → ⊥) → (done ++ encode c) ++ flat_map escaped rest ≡ done ++ flat_map escaped (encode c ++ rest)
+pub escaped_char_then : (done : List ℕ) (c : ℕ) (rest : List ℕ) → (c ≡ 126 → ⊥) → (c ≡ 47 → ⊥)
+    → (done ++ encode c) ++ flat_map escaped rest ≡ done ++ flat_map escaped (encode c ++ rest)
 escaped_char_then done c rest no_tilde no_slash =
     append_assoc done (encode c) (flat_map escaped rest)
-    ∙ ap (λ cs. done ++ cs) (sym (flat_map-append (encode c) rest ∙ ap (λ cs. cs ++ flat_map escaped rest) (unescaped_char c no_tilde no_slash)))
+    ∙ ap (λ cs. done ++ cs) (sym (flat_map-append (encode c) rest ∙ ap (λ cs. cs ++ flat_map escaped rest)
+    (unescaped_char c no_tilde no_slash)))

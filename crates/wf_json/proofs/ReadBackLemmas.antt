@@ -1,5 +1,7 @@
 -- The JSON text of a well formed value reads as that value.
-use Rattle.std.proofs.Common.{◌≡◌, ◌≤◌, ◌<◌, ◌-◌, ◌^◌, ℕ, suc, pos, negsuc, List, [], ◌∷◌, ◌++◌, Option, Some, None, option_map, option_and_then, Ok, true, false, cond, decimal, IsUtf8, Less, Greater, refl, ap, ap₂, sym, ◌∙◌, subst, arith, append_assoc, append-nil, ne_eqb}
+use Rattle.std.proofs.Common.{◌≡◌, ◌≤◌, ◌<◌, ◌-◌, ◌^◌, ℕ, suc, pos, negsuc, List, [], ◌∷◌, ◌++◌, Option, Some, None, option_map}
+use Rattle.std.proofs.Common.{option_and_then, Ok, true, false, cond, decimal, IsUtf8, Less, Greater, refl, ap, ap₂, sym, ◌∙◌, subst, arith}
+use Rattle.std.proofs.Common.{append_assoc, append-nil, ne_eqb}
 use Rattle.std.specs.Str.{IsAscii, is_utf8}
 use Rattle.std.specs.Ordering.{ordering_reverse}
 use Rattle.std.specs.List.{AllByRecursion}
@@ -27,7 +29,8 @@ use Rattle.wf_val.specs.ValueTree as value
 use Rattle.wf_val.specs.WellFormed.{IsWellFormed, AllWellFormed, AllMembersWellFormed}
 use Rattle.wf_json.specs.Json as text
 use Rattle.wf_json.specs.Pointer.{least}
-use Rattle.wf_json.specs.Read.{after_mark, json_of, greatest_nesting, flawed_places, flawed_items, flawed_members, value_unless, value_of, values_of, members_of, read_json, read_value}
+use Rattle.wf_json.specs.Read.{after_mark, json_of, greatest_nesting, flawed_places, flawed_items, flawed_members, value_unless, value_of}
+use Rattle.wf_json.specs.Read.{values_of, members_of, read_json, read_value}
 use Rattle.wf_json.proofs.Sent as sent
 use Rattle.wf_json.specs.declared.fault.Flaw.{Flaw}
 use Rattle.wf_json.proofs.SentLemmas.{compact-json, quoted-string}
@@ -75,18 +78,21 @@ mutual
   of_json-outline (value.object ms) well =
       ap (option_map json.object) (of_members-outline [] ms well.0 well.1 ∙ ap (λ x. Some (sent.members_of x)) (members-pairs ms))
 
-  of_items-outline : (ts : value.ValueTrees) → AllWellFormed ts → reader.of_items (items_outline (sent.items_of ts)) ≡ Some (sent.items_of ts)
+  of_items-outline : (ts : value.ValueTrees) → AllWellFormed ts
+      → reader.of_items (items_outline (sent.items_of ts)) ≡ Some (sent.items_of ts)
   of_items-outline value.no_values well = refl
   of_items-outline (value.value_then t ts) well = rw (of_json-outline t well.0, of_items-outline ts well.1) refl
 
-  of_members-outline : (done : List value.Member) (ms : value.MemberTrees) → IsInNameOrder name_of (done ++ value.pairs ms) → AllMembersWellFormed ms
+  of_members-outline : (done : List value.Member) (ms : value.MemberTrees) → IsInNameOrder name_of (done ++ value.pairs ms)
+      → AllMembersWellFormed ms
       → reader.of_members (members_outline (sent.members_of ms)) (entries done) ≡ Some (entries (done ++ value.pairs ms))
   of_members-outline done value.no_members order well = ap (λ ps. Some (entries ps)) (sym (append-nil done))
   of_members-outline done (value.member_then k t ms) order well =
       let m : value.Member = (k, t) in
       let assoc : (done ++ m ∷ []) ++ value.pairs ms ≡ done ++ m ∷ value.pairs ms = append_assoc done (m ∷ []) (value.pairs ms) in
       let later = subst (λ ps. IsInNameOrder name_of ps) (sym assoc) order in
-      rw (of_json-outline t well.0.1, put-last done m (value.pairs ms) order) (of_members-outline (done ++ m ∷ []) ms later well.1 ∙ ap (λ ps. Some (entries ps)) assoc)
+      rw (of_json-outline t well.0.1, put-last done m (value.pairs ms) order)
+      (of_members-outline (done ++ m ∷ []) ms later well.1 ∙ ap (λ ps. Some (entries ps)) assoc)
 
 -- ---- how deep it is, and that it can be printed
 
@@ -126,9 +132,11 @@ mutual
 
   printable_items : (ts : value.ValueTrees) → AllWellFormed ts → ArePrintable (spelled.items_tokens (items_outline (sent.items_of ts)))
   printable_items value.no_values well = (tt, tt)
-  printable_items (value.value_then t ts) well = ArePrintable-append (spelled.json_tokens (outline (sent.data_of t))) _ (printable t well.0) (printable_items ts well.1)
+  printable_items (value.value_then t ts) well =
+      ArePrintable-append (spelled.json_tokens (outline (sent.data_of t))) _ (printable t well.0) (printable_items ts well.1)
 
-  printable_members : (ms : value.MemberTrees) → AllMembersWellFormed ms → ArePrintable (spelled.members_tokens (members_outline (sent.members_of ms)))
+  printable_members : (ms : value.MemberTrees) → AllMembersWellFormed ms
+      → ArePrintable (spelled.members_tokens (members_outline (sent.members_of ms)))
   printable_members value.no_members well = (tt, tt)
   printable_members (value.member_then k t ms) well =
       (tt, ArePrintable-append (spelled.json_tokens (outline (sent.data_of t))) _ (printable t well.0.1) (printable_members ms well.1))
@@ -141,8 +149,10 @@ whole_text o = option_and_then reader.of_json (option_and_then (λ p. grammar.if
 read-json : (t : value.ValueTree) → IsWellFormed t → value.depth t ≤ 127 → reader.read (text.json t) ≡ Some (sent.data_of t)
 read-json t well shallow =
     let ts = spelled.json_tokens (outline (sent.data_of t)) in
-    let same : tokens (text.json t) ≡ ts = ap tokens (sym (compact-json t) ∙ sym (print-outline (sent.data_of t))) ∙ tokens-print ts (printable t well) in
-    ap whole_text (ap (grammar.value 127) (same ∙ sym (append-nil ts)) ∙ value-json_tokens (outline (sent.data_of t)) 127 [] (omega (arith, depth-outline t)))
+    let same : tokens (text.json t) ≡ ts = ap tokens (sym (compact-json t) ∙ sym (print-outline (sent.data_of t)))
+    ∙ tokens-print ts (printable t well) in
+    ap whole_text (ap (grammar.value 127) (same ∙ sym (append-nil ts)) ∙ value-json_tokens (outline (sent.data_of t)) 127 []
+    (omega (arith, depth-outline t)))
     ∙ of_json-outline t well
 
 -- ---- the text is UTF-8, and begins with no mark
@@ -163,8 +173,10 @@ mutual
   IsUtf8-json (value.number (negsuc n)) well =
       one_byte 45 _ (IsUtf8-are_ascii _ refl) (IsUtf8-from_ascii _ (IsAscii-decimal (suc n) (omega (arith, down_to_2^63 n well))))
   IsUtf8-json (value.text s) well = IsUtf8-string s well
-  IsUtf8-json (value.list ts) well = one_byte 91 _ (IsUtf8-are_ascii _ refl) (IsUtf8-append _ _ (IsUtf8-values ts well) (IsUtf8-are_ascii (93 ∷ []) refl))
-  IsUtf8-json (value.object ms) well = one_byte 123 _ (IsUtf8-are_ascii _ refl) (IsUtf8-append _ _ (IsUtf8-members ms well.1) (IsUtf8-are_ascii (125 ∷ []) refl))
+  IsUtf8-json (value.list ts) well =
+      one_byte 91 _ (IsUtf8-are_ascii _ refl) (IsUtf8-append _ _ (IsUtf8-values ts well) (IsUtf8-are_ascii (93 ∷ []) refl))
+  IsUtf8-json (value.object ms) well =
+      one_byte 123 _ (IsUtf8-are_ascii _ refl) (IsUtf8-append _ _ (IsUtf8-members ms well.1) (IsUtf8-are_ascii (125 ∷ []) refl))
 
   IsUtf8-values : (ts : value.ValueTrees) → AllWellFormed ts → IsUtf8 (text.values ts)
   IsUtf8-values value.no_values well = IsUtf8-nil
@@ -178,13 +190,15 @@ mutual
   IsUtf8-members : (ms : value.MemberTrees) → AllMembersWellFormed ms → IsUtf8 (text.members ms)
   IsUtf8-members value.no_members well = IsUtf8-nil
   IsUtf8-members (value.member_then k t ms) well =
-      IsUtf8-append _ _ (IsUtf8-string k well.0.0) (one_byte 58 _ (IsUtf8-are_ascii _ refl) (IsUtf8-append _ _ (IsUtf8-json t well.0.1) (IsUtf8-more_members ms well.1)))
+      IsUtf8-append _ _ (IsUtf8-string k well.0.0)
+      (one_byte 58 _ (IsUtf8-are_ascii _ refl) (IsUtf8-append _ _ (IsUtf8-json t well.0.1) (IsUtf8-more_members ms well.1)))
 
   IsUtf8-more_members : (ms : value.MemberTrees) → AllMembersWellFormed ms → IsUtf8 (text.more_members ms)
   IsUtf8-more_members value.no_members well = IsUtf8-nil
   IsUtf8-more_members (value.member_then k t ms) well =
       one_byte 44 _ (IsUtf8-are_ascii _ refl)
-      (IsUtf8-append _ _ (IsUtf8-string k well.0.0) (one_byte 58 _ (IsUtf8-are_ascii _ refl) (IsUtf8-append _ _ (IsUtf8-json t well.0.1) (IsUtf8-more_members ms well.1))))
+      (IsUtf8-append _ _ (IsUtf8-string k well.0.0)
+      (one_byte 58 _ (IsUtf8-are_ascii _ refl) (IsUtf8-append _ _ (IsUtf8-json t well.0.1) (IsUtf8-more_members ms well.1))))
 
 unmarked : (bytes : List ℕ) → IsAscii bytes → after_mark bytes ≡ bytes
 unmarked [] ascii = refl
@@ -222,7 +236,8 @@ mutual
   no_fractions room place value.no_values well = refl
   no_fractions room place (value.value_then t ts) well = rw (no_fraction room t well.0) (no_fractions room (suc place) ts well.1)
 
-  no_member_fractions : (room : ℕ) (ms : value.MemberTrees) → AllMembersWellFormed ms → flawed_members Flaw.NotWhole room (sent.members_of ms) ≡ []
+  no_member_fractions : (room : ℕ) (ms : value.MemberTrees) → AllMembersWellFormed ms
+      → flawed_members Flaw.NotWhole room (sent.members_of ms) ≡ []
   no_member_fractions room value.no_members well = refl
   no_member_fractions room (value.member_then k t ms) well = rw (no_fraction room t well.0.1) (no_member_fractions room ms well.1)
 
@@ -235,11 +250,14 @@ mutual
   shallow_enough room (value.list ts) within = rw (ne_eqb room 0 (λ e. omega arith)) (shallow_items (room - 1) 0 ts (omega arith))
   shallow_enough room (value.object ms) within = rw (ne_eqb room 0 (λ e. omega arith)) (shallow_members (room - 1) ms (omega arith))
 
-  shallow_items : (room place : ℕ) (ts : value.ValueTrees) → value.trees_depth ts ≤ room → flawed_items Flaw.TooDeep room place (sent.items_of ts) ≡ []
+  shallow_items : (room place : ℕ) (ts : value.ValueTrees) → value.trees_depth ts ≤ room
+      → flawed_items Flaw.TooDeep room place (sent.items_of ts) ≡ []
   shallow_items room place value.no_values within = refl
-  shallow_items room place (value.value_then t ts) within = rw (shallow_enough room t (omega arith)) (shallow_items room (suc place) ts (omega arith))
+  shallow_items room place (value.value_then t ts) within =
+      rw (shallow_enough room t (omega arith)) (shallow_items room (suc place) ts (omega arith))
 
-  shallow_members : (room : ℕ) (ms : value.MemberTrees) → value.members_depth ms ≤ room → flawed_members Flaw.TooDeep room (sent.members_of ms) ≡ []
+  shallow_members : (room : ℕ) (ms : value.MemberTrees) → value.members_depth ms ≤ room
+      → flawed_members Flaw.TooDeep room (sent.members_of ms) ≡ []
   shallow_members room value.no_members within = refl
   shallow_members room (value.member_then k t ms) within = rw (shallow_enough room t (omega arith)) (shallow_members room ms (omega arith))
 
@@ -261,7 +279,8 @@ mutual
 
   members_of-members_of : (ms : value.MemberTrees) → AllMembersWellFormed ms → members_of (sent.members_of ms) ≡ ms
   members_of-members_of value.no_members well = refl
-  members_of-members_of (value.member_then k t ms) well = ap₂ (value.member_then k) (value_of-data_of t well.0.1) (members_of-members_of ms well.1)
+  members_of-members_of (value.member_then k t ms) well =
+      ap₂ (value.member_then k) (value_of-data_of t well.0.1) (members_of-members_of ms well.1)
 
 -- ---- the law
 

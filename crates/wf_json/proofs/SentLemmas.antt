@@ -1,5 +1,6 @@
 -- The text of a value that is sent, and its parts.
-use Rattle.std.proofs.Common.{◌≡◌, ℕ, suc, pos, negsuc, List, [], ◌∷◌, ◌++◌, length, true, false, flat_map, inl, inr, refl, ap, ap₂, sym, ◌∙◌, subst, append_assoc, ne_eqb}
+use Rattle.std.proofs.Common.{◌≡◌, ℕ, suc, pos, negsuc, List, [], ◌∷◌, ◌++◌, length, true, false, flat_map, inl, inr, refl, ap, ap₂, sym}
+use Rattle.std.proofs.Common.{◌∙◌, subst, append_assoc, ne_eqb}
 use Rattle.std.proofs.lemmas.Bool.{cases_eq}
 use Rattle.json.specs.Print.{escape_byte, quoted}
 use Rattle.serde_json.specs.Written.{has_float, items_have_float, members_have_float, compact_text, items_text, members_text}
@@ -51,7 +52,15 @@ escaped-is x = elim (cases_eq x 34) [
             | inl e ↦ subst (λ y. escape_byte y ≡ escaped y) (sym e) refl
             | inr carriage_return ↦ elim (cases_eq x 9) [
               | inl e ↦ subst (λ y. escape_byte y ≡ escaped y) (sym e) refl
-              | inr tab ↦ rw (ne_eqb x 34 quote, ne_eqb x 92 backslash, ne_eqb x 8 backspace, ne_eqb x 12 form_feed, ne_eqb x 10 line_feed, ne_eqb x 13 carriage_return, ne_eqb x 9 tab) refl
+              | inr tab ↦ rw (
+                ne_eqb x 34 quote,
+                ne_eqb x 92 backslash,
+                ne_eqb x 8 backspace,
+                ne_eqb x 12 form_feed,
+                ne_eqb x 10 line_feed,
+                ne_eqb x 13 carriage_return,
+                ne_eqb x 9 tab,
+              ) refl
             ]
           ]
         ]
@@ -69,7 +78,8 @@ quoted-string s = ap (λ t. 34 ∷ (t ++ 34 ∷ [])) (escaped-all s)
 
 -- a name, a colon, a value and what follows, before the end
 member-assoc : (name this more end : List ℕ) → name ++ (58 ∷ (this ++ (more ++ end))) ≡ (name ++ (58 ∷ (this ++ more))) ++ end
-member-assoc name this more end = sym (append_assoc name (58 ∷ (this ++ more)) end ∙ ap (λ t. name ++ (58 ∷ t)) (append_assoc this more end))
+member-assoc name this more end =
+    sym (append_assoc name (58 ∷ (this ++ more)) end ∙ ap (λ t. name ++ (58 ∷ t)) (append_assoc this more end))
 
 mutual
   pub compact-json : (t : value.ValueTree) → compact_text (data_of t) ≡ json t
@@ -90,7 +100,8 @@ mutual
   items-more : (ts : value.ValueTrees) → items_text true (items_of ts) ≡ more_values ts ++ 93 ∷ []
   items-more value.no_values = refl
   items-more (value.value_then t ts) =
-      ap (λ s. 44 ∷ s) (ap₂ (λ (a b : List ℕ). a ++ b) (compact-json t) (items-more ts) ∙ sym (append_assoc (json t) (more_values ts) (93 ∷ [])))
+      ap (λ s. 44 ∷ s) (ap₂ (λ (a b : List ℕ). a ++ b) (compact-json t) (items-more ts) ∙ sym
+      (append_assoc (json t) (more_values ts) (93 ∷ [])))
 
   members-first : (ms : value.MemberTrees) → members_text false (members_of ms) ≡ members ms ++ 125 ∷ []
   members-first value.no_members = refl
@@ -101,5 +112,6 @@ mutual
   members-more : (ms : value.MemberTrees) → members_text true (members_of ms) ≡ more_members ms ++ 125 ∷ []
   members-more value.no_members = refl
   members-more (value.member_then k t ms) =
-      ap (λ s. 44 ∷ s) (ap₂ (λ (a b : List ℕ). a ++ (58 ∷ b)) (quoted-string k) (ap₂ (λ (a b : List ℕ). a ++ b) (compact-json t) (members-more ms))
+      ap (λ s. 44 ∷ s) (ap₂ (λ (a b : List ℕ). a ++ (58 ∷ b)) (quoted-string k)
+      (ap₂ (λ (a b : List ℕ). a ++ b) (compact-json t) (members-more ms))
       ∙ member-assoc (string k) (json t) (more_members ms) (125 ∷ []))

@@ -3,7 +3,8 @@ use Rattle.std.proofs.Common.{◌≡◌, ℕ, zero, suc, ◌-◌, ◌≤◌, Lis
 use Rattle.serde_json.specs.Data as json
 use Rattle.wf_val.specs.ValueTree as value
 use Rattle.wf_json.specs.Pointer.{least}
-use Rattle.wf_json.specs.Read.{flawed_places, flawed_items, flawed_members, value_of, values_of, members_of, value_unless, read_json, read_value, json_of}
+use Rattle.wf_json.specs.Read.{flawed_places, flawed_items, flawed_members, value_of, values_of, members_of, value_unless, read_json}
+use Rattle.wf_json.specs.Read.{read_value, json_of}
 use Rattle.wf_json.specs.declared.fault.Flaw.{Flaw}
 use Rattle.wf_json.proofs.PointerLemmas.{least-none}
 
@@ -26,7 +27,8 @@ mutual
   shallow zero (json.object ms) h = cc
   shallow (suc r) (json.object ms) h = let inner = shallow_members (suc r - 1) ms ((none_in_parts _ _ h).1) in omega (arith, inner)
 
-  shallow_items : (room place : ℕ) (ds : json.Items) → flawed_items Flaw.TooDeep room place ds ≡ [] → value.trees_depth (values_of ds) ≤ room
+  shallow_items : (room place : ℕ) (ds : json.Items) → flawed_items Flaw.TooDeep room place ds ≡ []
+      → value.trees_depth (values_of ds) ≤ room
   shallow_items room place json.no_items h = omega arith
   shallow_items room place (json.item d ds) h =
       let parts = none_in_parts _ _ h in

@@ -107,7 +107,8 @@ string-short_escapes = refl
 string-controls : string (0 ∷ 11 ∷ 27 ∷ 31 ∷ []) ≡ codes "\"\\u0000\\u000b\\u001b\\u001f\""
 string-controls = refl
 
-string-themselves : string (32 ∷ 33 ∷ 35 ∷ 47 ∷ 91 ∷ 93 ∷ 127 ∷ 195 ∷ 169 ∷ []) ≡ 34 ∷ 32 ∷ 33 ∷ 35 ∷ 47 ∷ 91 ∷ 93 ∷ 127 ∷ 195 ∷ 169 ∷ 34 ∷ []
+string-themselves : string (32 ∷ 33 ∷ 35 ∷ 47 ∷ 91 ∷ 93 ∷ 127 ∷ 195 ∷ 169 ∷ [])
+    ≡ 34 ∷ 32 ∷ 33 ∷ 35 ∷ 47 ∷ 91 ∷ 93 ∷ 127 ∷ 195 ∷ 169 ∷ 34 ∷ []
 string-themselves = refl
 
 string-empty : string [] ≡ codes "\"\""
@@ -131,7 +132,8 @@ json-empty = refl
 json-members : text.json (members (codes "B") (value.text (codes "x")) (codes "a\"") value.null) ≡ codes "{\"B\":\"x\",\"a\\\"\":null}"
 json-members = refl
 
-json-numbers : text.json (two (value.number (pos 0)) (two (value.number (pos (2 ^ 63 - 1))) (value.number (negsuc (2 ^ 63 - 1))))) ≡ codes "[0,[9223372036854775807,-9223372036854775808]]"
+json-numbers : text.json (two (value.number (pos 0)) (two (value.number (pos (2 ^ 63 - 1))) (value.number (negsuc (2 ^ 63 - 1)))))
+    ≡ codes "[0,[9223372036854775807,-9223372036854775808]]"
 unfolding on_literals
 json-numbers = refl
 
@@ -228,7 +230,8 @@ read-tab_in_string : read_value (34 ∷ 9 ∷ 34 ∷ []) ≡ Err JsonFault.NotJs
 unfolding on_literals
 read-tab_in_string = refl
 
-read-last_of_equal_names : read_value (codes "{\"b\":true,\"a\":null,\"b\":false}") ≡ Ok (members (codes "a") value.null (codes "b") (value.boolean false))
+read-last_of_equal_names : read_value (codes "{\"b\":true,\"a\":null,\"b\":false}")
+    ≡ Ok (members (codes "a") value.null (codes "b") (value.boolean false))
 unfolding on_literals
 read-last_of_equal_names = refl
 

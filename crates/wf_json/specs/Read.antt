@@ -1,5 +1,6 @@
 -- What the bytes of a file mean: a value, or why they are none.
-use Rattle.std.specs.Prelude.{ℕ, ◌-◌, ◌^◌, suc, ℤ, pos, List, [], ◌∷◌, ◌++◌, drop, map, Bool, false, ◌==◌, nat_eq, nat_lt, if◌then◌else◌, Option, Some, None, is_none, unwrap_or, Result, Ok, Err}
+use Rattle.std.specs.Prelude.{ℕ, ◌-◌, ◌^◌, suc, ℤ, pos, List, [], ◌∷◌, ◌++◌, drop, map, Bool, false, ◌==◌, nat_eq, nat_lt, if◌then◌else◌}
+use Rattle.std.specs.Prelude.{Option, Some, None, is_none, unwrap_or, Result, Ok, Err}
 use Rattle.std.specs.Str.{is_utf8}
 use Rattle.std.specs.List.{starts_with}
 use Rattle.serde_json.specs.Data as json
@@ -49,7 +50,8 @@ abbrev mutual
 
   pub flawed_items : Flaw → ℕ → ℕ → json.Items → List (List ℕ)
   flawed_items flaw room place json.no_items = []
-  flawed_items flaw room place (json.item d ds) = map (λ p. item_step place ++ p) (flawed_places flaw room d) ++ flawed_items flaw room (suc place) ds
+  flawed_items flaw room place (json.item d ds) =
+      map (λ p. item_step place ++ p) (flawed_places flaw room d) ++ flawed_items flaw room (suc place) ds
 
   pub flawed_members : Flaw → ℕ → json.Members → List (List ℕ)
   flawed_members flaw room json.no_members = []

@@ -1,12 +1,12 @@
 -- A run whose answers come one by one is a run with all answers; and old tables that agree on the definition give the same rows.
-use Rattle.std.proofs.Common.{◌≡◌, ℕ, zero, suc, ◌<◌, Bool, true, false, ◌&&◌, ◌||◌, not, cond, List, [], ◌∷◌, ◌++◌, Option, Some, None, refl, sym, ap, ◌∙◌, subst, arith, nat_eq, eqb-true, eq-eqb, nat_lt, ltb-true}
+use Rattle.std.proofs.Common.{◌≡◌, ℕ, zero, suc, Bool, ◌&&◌, ◌||◌, not, cond, List, [], ◌∷◌, ◌++◌, Option, Some, None, refl, sym, ap, ◌∙◌, eqb-true, eq-eqb, ltb-true}
 use Rattle.std.proofs.lemmas.Bool.{lt-ltb}
 use Rattle.wf_layers.specs.Definition.{Need, InTurn, AtMost, Kind, Leaf, Scope, Choice, Foreach, Until, Branches, no_branch, branch, Graph, done, add, is_one, less_one, IsDepth}
 use Rattle.wf_layers.specs.Address.{Address, Table, address, starts, is_own, is_in, is_within, is_among, SeenIn}
 use Rattle.wf_layers.specs.Source.{Source, Sound, all_met, is_met, gate}
-use Rattle.wf_layers.specs.Meaning.{only, sides, rounds, last, skip, skip_all, meaning}
-use Rattle.wf_layers.specs.Rule.{look_in, look_any, look, Obeys}
-use Rattle.wf_layers.specs.Machine.{Running, Opening, State, Event, Start, Try, End, Skip, Open, Begin, Test, Close, IsContainer, place, one, without, opened, skip_others, passed_over, MayBegin, MayTest, MayClose, closing, IsThere, IsDecided, Step, Run}
+use Rattle.wf_layers.specs.Meaning.{sides, rounds, skip, meaning}
+use Rattle.wf_layers.specs.Rule.{look_in, look_any, look}
+use Rattle.wf_layers.specs.Machine.{Opening, State, Event, Start, Try, End, Skip, Open, Begin, Test, Close, place, one, without, opened, skip_others, passed_over, MayBegin, MayTest, MayClose, closing, IsThere, IsDecided, Step, Run}
 use Rattle.wf_layers.specs.Answered.{with_leaves, AgreeSoFar, IsKnown, RunSoFar, RunsSoFarAreRuns}
 use Rattle.wf_layers.specs.Resubmission.{pin, OldTablesAgree}
 use Rattle.wf_layers.proofs.Basics.{cond_same, only_same}

@@ -34,6 +34,17 @@ pub apart : (p q r : Bool) → (p ≡ true → q ≡ false) → (q && r) ≡ tru
 apart true q r h e = absurd (true≢false (sym (and_in q r e).0 ∙ h refl))
 apart false q r h e = refl
 
+pub either : (p q : Bool) → (p || q) ≡ true → (p ≡ true) ⊎ (q ≡ true)
+either true q e = inl refl
+either false q e = inr e
+
+pub or_first : (p q : Bool) → p ≡ true → (p || q) ≡ true
+or_first p q e = ap (λ z. z || q) e
+
+pub or_second : (p q : Bool) → q ≡ true → (p || q) ≡ true
+or_second true q e = refl
+or_second false q e = e
+
 pub not_true : (b : Bool) → (b ≡ true → ⊥) → b ≡ false
 not_true true h = absurd (h refl)
 not_true false h = refl
@@ -177,6 +188,10 @@ module _ (low : ℕ → ℕ → Type 0) where
 
 pub longer : (i : List ℕ) (j l : ℕ) → length i ≡ l → length (i ++ j ∷ []) ≡ suc l
 longer i j l e = omega (arith, length-append i (j ∷ []), e)
+
+pub outer_of : (g : Graph) (i : List ℕ) (j : ℕ) (y : Address) → is_within g (i ++ j ∷ []) y ≡ true → is_within g i y ≡ true
+outer_of g i j y w =
+    let h = and_in (has g y.name) (starts (i ++ j ∷ []) y.at) w in and_of (has g y.name) (starts i y.at) h.0 (starts_outer i j y.at h.1)
 
 -- ITERATIONS
 

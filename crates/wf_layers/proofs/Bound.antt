@@ -1,11 +1,9 @@
 -- Sums, and the iterations of an Until so far.
-use Rattle.std.proofs.Common.{◌≡◌, ℕ, zero, suc, ◌+◌, ◌<◌, ◌≤◌, Bool, true, false, List, [], ◌∷◌, ◌++◌, ⊎_elim, refl, subst, arith, nat_eq, eqb-true}
+use Rattle.std.proofs.Common.{◌≡◌, ℕ, zero, suc, ◌+◌, ◌<◌, ◌≤◌, Bool, false, ⊎_elim, refl, subst, arith, nat_eq, eqb-true}
 use Rattle.std.proofs.lemmas.Bool.{eqb-false}
-use Rattle.wf_layers.specs.Definition.{Graph, has}
-use Rattle.wf_layers.specs.Address.{Address, starts, is_within}
 use Rattle.wf_layers.specs.Meaning.{rounds}
 use Rattle.wf_layers.specs.Bound.{sum}
-use Rattle.wf_layers.proofs.Basics.{two, and_in, and_of, starts_outer, when, unless}
+use Rattle.wf_layers.proofs.Basics.{two, when, unless}
 
 -- SUMS
 
@@ -41,10 +39,6 @@ sum_falls (suc c) b gain h k lt same at =
     let x = sum_falls c b gain h k (omega (arith, ne, lt)) (λ j l. same j (omega (arith, l))) at in
     let y = same c (omega arith) (λ e. omega (arith, e, ne)) in omega (arith, x, y))
     (two (nat_eq b c))
-
-pub outer' : (g : Graph) (i : List ℕ) (j : ℕ) (y : Address) → is_within g (i ++ j ∷ []) y ≡ true → is_within g i y ≡ true
-outer' g i j y w =
-    let h = and_in (has g y.name) (starts (i ++ j ∷ []) y.at) w in and_of (has g y.name) (starts i y.at) h.0 (starts_outer i j y.at h.1)
 
 -- an Until that was to go on after all but the last of its iterations has begun no more than it has
 pub begun_most : (most next : ℕ) (p : ℕ → Bool) → next ≤ most → ((j : ℕ) → suc j < next → p j ≡ false) → next ≤ rounds most 0 p

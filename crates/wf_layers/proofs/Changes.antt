@@ -2,24 +2,24 @@
 use Rattle.std.proofs.Common.{◌≡◌, ℕ, zero, suc, ◌<◌, ◌≤◌, Bool, true, false, ◌&&◌, ◌||◌, cond, List, [], ◌∷◌, ◌++◌, Option, Some, None, ◌⊎◌, inl, inr, ⊎_elim, refl, sym, ap, ◌∙◌, subst, arith, nat_eq, eq-eqb, eqb-true, nat_lt, true≢false, length}
 use Rattle.std.proofs.lemmas.Option.{none-some}
 use Rattle.std.proofs.lemmas.Bool.{eqb-false}
-use Rattle.wf_layers.specs.Definition.{Need, Names, Pace, Kind, Leaf, Scope, Choice, Foreach, Until, Branches, no_branch, branch, Graph, done, add, is_one, less_one, branch_at, holds, has, has_any, has_own, needs_of, kind_of, IsBefore}
+use Rattle.wf_layers.specs.Definition.{Need, Names, Kind, Leaf, Scope, Choice, Foreach, Until, Branches, no_branch, branch, Graph, done, add, is_one, less_one, branch_at, holds, has, has_any, has_own, needs_of, kind_of}
 use Rattle.wf_layers.specs.Address.{Address, address, Table, same_at, starts, is_own, is_in, SeenIn}
 use Rattle.wf_layers.specs.Source.{Source, gate, Sound}
 use Rattle.wf_layers.specs.Meaning.{meaning, skip}
 use Rattle.wf_layers.specs.Rule.{Obeys}
-use Rattle.wf_layers.specs.Enabled.{most_of, branch_ended, of_begun, of_test, of_open, begins, of_idle, of_opening, of_busy, own_event, events}
+use Rattle.wf_layers.specs.Enabled.{most_of, branch_ended, of_test, of_open, begins, of_idle, of_opening, of_busy, own_event, events}
 use Rattle.wf_layers.specs.Changes.{owns_any, owns, is_next, is_inner, is_named, places, looks_at, next_of, enters, may_change}
-use Rattle.wf_layers.specs.Machine.{Running, Opening, State, fresh, In, here, there, IsOpen, top, scope, chosen, turn, round, has_ended, is_ended, all_ended, unfinished, or_else, place, one, without, opened, Event, Start, Try, End, Skip, Open, Begin, Test, Close, place_of, passed_over, closing, MayBegin, IsThere, IsDecided, Step, Run}
-use Rattle.wf_layers.specs.Laws.{IsInstance, Exact, ChangesOnlyThere, EventsChangeOnlyThere}
-use Rattle.wf_layers.proofs.Basics.{two, and_in, and_of, not_true, same_self, same_self_at, when, unless, own_in, held_in}
-use Rattle.wf_layers.proofs.Tables.{Within, own_is, own_self, same_at_is, same_starts, shows_holds, either_or}
+use Rattle.wf_layers.specs.Machine.{Running, Opening, State, In, here, there, IsOpen, top, scope, chosen, turn, round, has_ended, is_ended, all_ended, unfinished, or_else, place, opened, Event, Start, Try, End, Skip, Open, Begin, Test, Close, place_of, passed_over, MayBegin, IsThere, IsDecided, Step}
+use Rattle.wf_layers.specs.Laws.{IsInstance, EventsChangeOnlyThere}
+use Rattle.wf_layers.proofs.Basics.{two, and_in, and_of, not_true, same_self, same_self_at, when, unless, held_in, or_first, or_second}
+use Rattle.wf_layers.proofs.Tables.{own_is, same_starts, either_or}
 use Rattle.wf_layers.proofs.Layers.{gate_same}
-use Rattle.wf_layers.proofs.Places.{or_right}
 use Rattle.wf_layers.proofs.Open.{open_sub, placed_in, kind_there}
 use Rattle.wf_layers.proofs.Keeps.{Keeps, IsClosed, SpecialOut, decided_own}
 use Rattle.wf_layers.proofs.Events.{step_keeps}
 use Rattle.wf_layers.proofs.Busy.{Busy, open_grows, close_path, step_busy}
-use Rattle.wf_layers.proofs.Rooted.{Rooted, NoneAt, none_in, none_turn, none_round, none_open, placed_grows}
+use Rattle.wf_layers.proofs.Rooted.{Rooted, none_in, none_turn, none_round, none_open, placed_grows}
+use Rattle.wf_layers.proofs.Waiting.{own_has}
 use Rattle.wf_layers.proofs.Left.{settled_ended}
 use Rattle.wf_layers.proofs.Others.{passed_in, skipped_in}
 use Rattle.wf_layers.proofs.Enabled.{at_there, exact}
@@ -32,43 +32,27 @@ or_false : (a b : Bool) → (a || b) ≡ false → (a ≡ false) × (b ≡ false
 or_false true b e = absurd (true≢false e)
 or_false false b e = (refl, e)
 
-or_left : (a b : Bool) → a ≡ true → (a || b) ≡ true
-or_left a b e = ap (λ z. z || b) e
-
-or_back : (a b : Bool) → b ≡ true → (a || b) ≡ true
-or_back true b e = refl
-or_back false b e = e
-
 named : (ns : List Need) (p : ℕ) → Names ns p → is_named ns p ≡ true
 named [] p e = absurd e
-named (n ∷ ns) p (inl is) = or_left (nat_eq n.name p) (is_named ns p) (eq-eqb n.name p is)
-named (n ∷ ns) p (inr e) = or_back (nat_eq n.name p) (is_named ns p) (named ns p e)
+named (n ∷ ns) p (inl is) = or_first (nat_eq n.name p) (is_named ns p) (eq-eqb n.name p is)
+named (n ∷ ns) p (inr e) = or_second (nat_eq n.name p) (is_named ns p) (named ns p e)
 
 in_own : (g : Graph) (n : ℕ) (after : List Need) (kind : Kind) → In g n after kind → has_own g n ≡ true
-in_own _ n after kind (here {rest = rest}) = or_left (nat_eq n n) (has_own rest n) (same_self n)
-in_own _ n after kind (there {m = q} {rest = rest} st) = or_back (nat_eq q n) (has_own rest n) (in_own rest n after kind st)
+in_own _ n after kind (here {rest = rest}) = or_first (nat_eq n n) (has_own rest n) (same_self n)
+in_own _ n after kind (there {m = q} {rest = rest} st) = or_second (nat_eq q n) (has_own rest n) (in_own rest n after kind st)
 
 in_taken : (bs : Branches) (c : ℕ) (b : Graph) → branch_at bs c ≡ Some b → (q : ℕ) → has_own b q ≡ true → owns_any bs q ≡ true
 in_taken no_branch c b e q h = absurd (none-some b e)
 in_taken (branch a rest) c b e q h =
     ⊎_elim
     (λ t. let same : Some a ≡ Some b = sym (when (is_one c) (Some a) _ t) ∙ e in let is : a ≡ b = cc in
-    or_left (has_own a q) (owns_any rest q) (subst (λ g. has_own g q ≡ true) (sym is) h))
-    (λ u. or_back (has_own a q) (owns_any rest q) (in_taken rest (less_one c) b (sym (unless (is_one c) (Some a) _ u) ∙ e) q h))
+    or_first (has_own a q) (owns_any rest q) (subst (λ g. has_own g q ≡ true) (sym is) h))
+    (λ u. or_second (has_own a q) (owns_any rest q) (in_taken rest (less_one c) b (sym (unless (is_one c) (Some a) _ u) ∙ e) q h))
     (two (is_one c))
 
 next_is : (i : List ℕ) (j : ℕ) → is_next i (i ++ j ∷ []) ≡ true
 next_is [] j = refl
 next_is (a ∷ i) j = and_of (nat_eq a a) (is_next i (i ++ j ∷ [])) (same_self a) (next_is i j)
-
-own_has : (g : Graph) (q : ℕ) → has_own g q ≡ true → has g q ≡ true
-own_has done q e = e
-own_has (add n after kind rest) q e = go (nat_eq n q) (holds kind q) (has_own rest q) (has rest q) (own_has rest q) e
-  where
-    go : (a k o h : Bool) → (o ≡ true → h ≡ true) → (a || o) ≡ true → (a || k || h) ≡ true
-    go true k o h up e = refl
-    go false true o h up e = refl
-    go false false o h up e = up e
 
 owns_has : (bs : Branches) (q : ℕ) → owns_any bs q ≡ true → has_any bs q ≡ true
 owns_has no_branch q e = e
@@ -239,7 +223,7 @@ module _ {Row Begun Decision Verdict : Type 0} (m : Source Row Begun Decision Ve
           (record { graph = th.graph; is_open = th.is_open; is_in = there'.2 })
           (no_place (address x.name i) (λ t.
           let is = own_is p.name p.at (address x.name i) t in
-          or_left (is_named (needs_of d n) p.name && same_at p.at i) _
+          or_first (is_named (needs_of d n) p.name && same_at p.at i) _
           (and_of (is_named (needs_of d n) p.name) (same_at p.at i)
           (ap (λ a. is_named a p.name) facts.1 ∙ named after p.name (subst (λ (z : Address). Names after z.name) (sym is) in_after))
           (subst (λ (z : Address). same_at z.at i ≡ true) (sym is) (same_self_at i))))) in
@@ -266,7 +250,7 @@ module _ {Row Begun Decision Verdict : Type 0} (m : Source Row Begun Decision Ve
               let one' = rows_else s e s' b r st q j a c (record { graph = h; is_open = og; is_in = inn })
               (no_place (address q j) (λ t.
               let is = own_is p.name p.at (address q j) t in
-              or_back (is_named (needs_of d n) p.name && same_at p.at i) _
+              or_second (is_named (needs_of d n) p.name && same_at p.at i) _
               (and_of (owns (kind_of d n) p.name) (is_inner (kind_of d n) i p.at)
               (ap (λ z. owns z p.name) facts.0 ∙ subst (λ (z : Address). owns (Some kind) z.name ≡ true) (sym is)
               (own q (in_own h q a c inn)))

@@ -1,17 +1,13 @@
 -- What a definition has to be is decided by tests that compute: names stand once, an action waits only for actions of its own graph, and
 -- numbers fall along `runAfter`.
-use Rattle.std.proofs.Common.{◌≡◌, ℕ, ◌<◌, Bool, true, false, ◌&&◌, ◌||◌, not, List, [], ◌∷◌, ◌⊎◌, inl, inr, ⊎_elim, refl, sym, subst, nat_eq, eqb-true, nat_lt, ltb-true, true≢false}
+use Rattle.std.proofs.Common.{◌≡◌, ℕ, ◌<◌, Bool, true, false, ◌&&◌, ◌||◌, not, List, [], ◌∷◌, ⊎_elim, refl, sym, subst, nat_eq, eqb-true, nat_lt, ltb-true, true≢false}
 use Rattle.wf_layers.specs.Definition.{Need, Names, Kind, Leaf, Scope, Choice, Foreach, Until, Branches, no_branch, branch, Graph, done, add, holds, has, has_any, has_own, needs_in, needs_of, needs_any, IsDepth, ClosedIn, ClosedAny, Closed}
 use Rattle.wf_layers.specs.Seen.{OnceIn, OnceAny, Once}
-use Rattle.wf_layers.proofs.Basics.{two, and_in, when, unless}
+use Rattle.wf_layers.proofs.Basics.{two, and_in, when, unless, either}
 
 of_not : (b : Bool) → not b ≡ true → b ≡ false
 of_not true e = absurd (true≢false (sym e))
 of_not false e = refl
-
-either : (p q : Bool) → (p || q) ≡ true → (p ≡ true) ⊎ (q ≡ true)
-either true q e = inl refl
-either false q e = inr e
 
 -- P holds of each name
 module _ (P : ℕ → Bool) where
@@ -27,7 +23,7 @@ module _ (P : ℕ → Bool) where
     all_any no_branch = true
     all_any (branch b rest) = all_of b && all_any rest
 
-    all_of : Graph → Bool
+    pub all_of : Graph → Bool
     all_of done = true
     all_of (add n after kind rest) = P n && (all_in kind && all_of rest)
 
@@ -45,7 +41,7 @@ module _ (P : ℕ → Bool) where
         let x = and_in (all_of b) (all_any rest) e in
         ⊎_elim (λ t. of_all b q x.0 t) (λ t. any_all rest q x.1 t) (either (has b q) (has_any rest q) h)
 
-    of_all : (g : Graph) (q : ℕ) → all_of g ≡ true → has g q ≡ true → P q ≡ true
+    pub of_all : (g : Graph) (q : ℕ) → all_of g ≡ true → has g q ≡ true → P q ≡ true
     of_all done q e h = absurd (true≢false (sym h))
     of_all (add n after kind rest) q e h =
         let x = and_in (P n) (all_in kind && all_of rest) e in let y = and_in (all_in kind) (all_of rest) x.1 in

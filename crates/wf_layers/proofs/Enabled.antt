@@ -1,16 +1,15 @@
 -- The table of events has the enabled events, and no others.
 use Rattle.std.proofs.Common.{◌≡◌, ℕ, zero, suc, ◌<◌, ◌≤◌, Bool, true, false, ◌&&◌, ◌||◌, cond, List, [], ◌∷◌, ◌++◌, length, Option, Some, None, ◌⊎◌, inl, inr, ⊎_elim, refl, sym, ap, ap₂, ◌∙◌, subst, arith, true≢false, nat_eq, nat_lt, eqb-true}
 use Rattle.std.proofs.lemmas.Option.{none-some}
-use Rattle.wf_layers.specs.Definition.{Need, Pace, InTurn, AtMost, Kind, Leaf, Scope, Choice, Foreach, Until, Branches, no_branch, branch, Graph, done, add, holds, has, has_any, kind_of, needs_of, is_one, less_one, branch_at, IsBefore}
-use Rattle.wf_layers.specs.Address.{Address, address, Table, is_own, is_in, is_within, is_among, starts, same_at, SeenIn}
+use Rattle.wf_layers.specs.Definition.{Need, Pace, InTurn, AtMost, Kind, Leaf, Scope, Choice, Foreach, Until, Branches, no_branch, branch, Graph, done, add, holds, has, has_any, kind_of, is_one, less_one, branch_at, IsBefore}
+use Rattle.wf_layers.specs.Address.{Address, address, Table, is_own, is_in, is_within, starts, same_at, SeenIn}
 use Rattle.wf_layers.specs.Source.{Source, gate, Sound, SoundAny}
 use Rattle.wf_layers.specs.Meaning.{meaning, only, sides}
 use Rattle.wf_layers.specs.Rule.{Obeys}
-use Rattle.wf_layers.specs.Facts.{IsBusy}
-use Rattle.wf_layers.specs.Machine.{Running, Opening, State, fresh, In, here, there, IsOpen, top, scope, chosen, turn, round, has_ended, is_ended, all_ended, unfinished, Event, Start, Try, End, Skip, Open, Begin, Test, Close, place_of, IsContainer, MayBegin, MayTest, MayClose, IsThere, IsDecided, Step, Run}
+use Rattle.wf_layers.specs.Machine.{Running, Opening, State, In, here, there, IsOpen, top, scope, chosen, turn, round, has_ended, is_ended, all_ended, unfinished, Event, Start, Try, End, Skip, Open, Begin, Test, Close, place_of, IsContainer, MayBegin, MayTest, MayClose, IsThere, IsDecided, Step}
 use Rattle.wf_layers.specs.Laws.{IsInstance}
-use Rattle.wf_layers.proofs.Basics.{inner_not_own, sides_at, two, and_in, and_of, apart, when, unless, not_true, same_self, same_self_at, starts_self, held_in, own_in}
-use Rattle.wf_layers.proofs.Places.{Stands, stands, within_of}
+use Rattle.wf_layers.proofs.Basics.{inner_not_own, sides_at, two, and_in, and_of, apart, when, unless, same_self, same_self_at, starts_self, held_in}
+use Rattle.wf_layers.proofs.Places.{stands, within_of}
 use Rattle.wf_layers.proofs.Open.{open_sub, placed_in, kind_there, outer}
 use Rattle.wf_layers.proofs.Tables.{taken_within}
 use Rattle.wf_layers.proofs.Keeps.{Keeps}

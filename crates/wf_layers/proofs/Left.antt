@@ -7,12 +7,12 @@ use Rattle.wf_layers.specs.Address.{Address, address, Table, same_at, starts, is
 use Rattle.wf_layers.specs.Source.{Source, gate, SoundAny, Sound}
 use Rattle.wf_layers.specs.Meaning.{rounds, skip}
 use Rattle.wf_layers.specs.Rule.{Obeys}
-use Rattle.wf_layers.proofs.Basics.{two, and_in, and_of, not_true, same_self, same_self_at, index_once, when, unless, in_within, rest_within, own_in, held_in, inner_not_own}
+use Rattle.wf_layers.proofs.Basics.{two, and_in, and_of, not_true, same_self, same_self_at, index_once, when, unless, in_within, rest_within, own_in, held_in, inner_not_own, outer_of}
 use Rattle.wf_layers.specs.Machine.{Running, Opening, State, In, here, there, IsOpen, top, scope, chosen, turn, round, has_ended, is_ended, or_else, place, one, without, opened, Event, Start, Try, End, Skip, Open, Begin, Test, Close, IsContainer, passed_over, skip_others, MayBegin, MayTest, MayClose, closing, IsThere, IsDecided, Step, Run}
 use Rattle.wf_layers.proofs.Tables.{own_is, own_self, same_starts, skip_in, shows_holds, either_or, taken_within}
 use Rattle.wf_layers.proofs.Places.{Stands, stands, within_of, or_none}
 use Rattle.wf_layers.specs.Bound.{sum, untested, by_state, total_of, total_in, total_any, total, left_in, left_any, left}
-use Rattle.wf_layers.proofs.Bound.{sum_same, sum_zero, sum_falls, outer', begun_most}
+use Rattle.wf_layers.proofs.Bound.{sum_same, sum_zero, sum_falls, begun_most}
 use Rattle.wf_layers.specs.Facts.{Settled, OpenFact}
 use Rattle.wf_layers.proofs.Others.{others_among, some_others}
 use Rattle.wf_layers.proofs.Open.{open_sub, placed_in, kind_there, fact_of}
@@ -53,12 +53,12 @@ module _ {Row Begun Decision Verdict : Type 0} (m : Source Row Begun Decision Ve
       same_in (Foreach pace g) n i w h =
           ap suc (sum_same (m.items w.decision) _ _
           (λ j lt. ap (λ z. cond (nat_lt j w.next) z (suc (total m f g (i ++ j ∷ []))))
-          (same_left g (i ++ j ∷ []) (λ y q. h y (outer' g i j y q)))))
+          (same_left g (i ++ j ∷ []) (λ y q. h y (outer_of g i j y q)))))
       same_in (Until most g) n i w h =
           ap (λ z. suc (z + untested w.next w.test))
           (sum_same (rounds most 0 (λ j. m.ends (m.test (address n i) j f))) _ _
           (λ j lt. ap (λ z. cond (nat_lt j w.next) z (suc (suc (total m f g (i ++ j ∷ [])))))
-          (same_left g (i ++ j ∷ []) (λ y q. h y (outer' g i j y q)))))
+          (same_left g (i ++ j ∷ []) (λ y q. h y (outer_of g i j y q)))))
 
       same_any : (bs : Branches) (c : ℕ) (i : List ℕ) → ((y : Address) → is_among bs i y ≡ true → SameAt y)
           → left_any m f s bs c i ≡ left_any m f u bs c i
@@ -267,7 +267,7 @@ module _ {Row Begun Decision Verdict : Type 0} (m : Source Row Begun Decision Ve
         (ap suc (any_falls bs (m.taken w.decision) x i is at))))
     open_falls _ _ (turn {g = g} {h = h} {i = i} {n = n} {after = after} {pace = pace} {w = w} j og st e lt) = λ inside at.
         let sub = open_sub m d so f sol s.opens g i og in let pl = placed_in m d so f sol (length i) g n after (Foreach pace h) sub st in
-        let into : (y : Address) → R y ≡ true → is_within h i y ≡ true = λ y t. outer' h i j y (inside y t) in
+        let into : (y : Address) → R y ≡ true → is_within h i y ≡ true = λ y t. outer_of h i j y (inside y t) in
         let fact = fact_of m d so f sol s.rows s.opens k.facts g i n after (Foreach pace h) w og st e in let le = fact.1.1 in
         let x = turn_falls (m.items w.decision) w.next h i j (λ j. suc (total m f h (i ++ j ∷ []))) lt (omega (arith, lt, le)) inside at in
         open_falls g i og (λ y t. within_of m (IsBefore d) (SeenIn d) (length i) g n after (Foreach pace h) pl i y
@@ -277,7 +277,7 @@ module _ {Row Begun Decision Verdict : Type 0} (m : Source Row Begun Decision Ve
         (opened_falls n after (Foreach pace h) i w e (off_of h n i i pl.apart_own into) (omega (arith, x))))
     open_falls _ _ (round {g = g} {h = h} {i = i} {n = n} {most = most} {after = after} {w = w} j og st e lt) = λ inside at.
         let sub = open_sub m d so f sol s.opens g i og in let pl = placed_in m d so f sol (length i) g n after (Until most h) sub st in
-        let into : (y : Address) → R y ≡ true → is_within h i y ≡ true = λ y t. outer' h i j y (inside y t) in
+        let into : (y : Address) → R y ≡ true → is_within h i y ≡ true = λ y t. outer_of h i j y (inside y t) in
         let fact = fact_of m d so f sol s.rows s.opens k.facts g i n after (Until most h) w og st e in
         let le = begun_most most w.next (λ j. m.ends (m.test (address n i) j f)) fact.1.0 (λ j lt. (fact.1.1 j lt).0) in
         let x = turn_falls (rounds most 0 (λ j. m.ends (m.test (address n i) j f))) w.next h i j

@@ -34,7 +34,6 @@ pub mod ExampleResubmission
 pub mod Rooted
 pub mod Left
 pub mod Decide
-pub mod Whole
 pub mod Worth
 pub mod Equal
 pub mod Enabled
@@ -43,3 +42,5 @@ pub mod Changes
 pub mod Redone
 pub mod Answered
 pub mod Record
+pub mod ExampleRun
+pub mod Worked

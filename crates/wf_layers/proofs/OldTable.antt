@@ -18,7 +18,7 @@ use Rattle.wf_layers.proofs.Limit.{Limited, run_limited}
 use Rattle.wf_layers.proofs.Facts.{facts_are}
 use Rattle.wf_layers.proofs.OneEvent.{one_event}
 use Rattle.wf_layers.proofs.Tests.{test_sees}
-use Rattle.wf_layers.proofs.Store.{stores_run, run_last, decided_last, tested_last}
+use Rattle.wf_layers.proofs.Store.{stores_run, run_last, decided_last, tested_last, running_last}
 use Rattle.wf_layers.proofs.Variables.{Lull, sees_finished}
 use Rattle.wf_layers.proofs.Keeps.{decided_own}
 use Rattle.wf_layers.proofs.Enabled.{exact}
@@ -761,4 +761,5 @@ module _ {Row Begun Decision Verdict : Type 0} (a b : Source Row Begun Decision 
           l,
           decided_last m d so f sol cl out lull writes one_order s v k bu rt l,
           tested_last m d so f sol cl out lull writes one_order s v k bu rt l,
+          running_last m d so f sol cl out lull writes one_order s v k bu rt l,
         )

@@ -7,17 +7,17 @@ use Rattle.std.specs.Cmp.Lexicographic.{slice_cmp}
 use Rattle.std.specs.Ordering.{nat_cmp, is_eq, eq_by_cmp, ordering_reverse}
 use Rattle.std.specs.declared.cmp.Ordering.{Ordering}
 use Rattle.std.specs.declared.cmp.Ordering.TheVariants.{Less, Equal, Greater}
-use Rattle.std.specs.FinMap.{FinMap, get, insert, empty, get-empty, get-insert, same_map, slice_cmp-IsAntisymmetric, nat_cmp-IsAntisymmetric}
-use Rattle.wf_layers.specs.Definition.{Need, Kind, Leaf, Scope, Choice, Foreach, Until, Branches, no_branch, branch, Graph, done, add, is_one, less_one, shows, plain, plain_any, IsDepth}
+use Rattle.std.specs.FinMap.{get, insert, empty, get-empty, get-insert, same_map, slice_cmp-IsAntisymmetric, nat_cmp-IsAntisymmetric}
+use Rattle.wf_layers.specs.Definition.{Kind, Leaf, Scope, Choice, Foreach, Until, Branches, no_branch, branch, Graph, done, add, is_one, less_one, shows, plain, plain_any, IsDepth}
 use Rattle.wf_layers.specs.Address.{Address, Table, address, same_at, starts, is_own, is_in, is_within, is_among, SeenIn}
 use Rattle.wf_layers.specs.Source.{Source, Sound, gate}
-use Rattle.wf_layers.specs.Meaning.{only, sides, rounds, last, skip, skip_all, deepest, meaning}
+use Rattle.wf_layers.specs.Meaning.{only, sides, rounds, skip, skip_all, deepest, meaning}
 use Rattle.wf_layers.specs.Rule.{look_in, look_any, look, Obeys}
 use Rattle.wf_layers.specs.Laws.{IsFresh}
 use Rattle.wf_layers.specs.Listed.{Among, Lists}
 use Rattle.wf_layers.specs.Resubmission.{pin}
-use Rattle.wf_layers.specs.Record.{key, Record, IsRecord, RecordsAreOne, HasRecord}
-use Rattle.wf_layers.proofs.Basics.{two, and_in, when, unless}
+use Rattle.wf_layers.specs.Record.{key, Record, RecordsAreOne, HasRecord}
+use Rattle.wf_layers.proofs.Basics.{two, and_in, when, unless, either}
 use Rattle.wf_layers.proofs.Tables.{same_at_is, own_is, skip_in}
 use Rattle.wf_layers.proofs.Worth.{among_front, among_back, spots, among_spots}
 use Rattle.wf_layers.proofs.Layers.{out_layers}
@@ -41,10 +41,6 @@ equal_of : (o : Ordering) → is_eq o ≡ true → o ≡ Equal
 equal_of Less e = absurd (true≢false (sym e))
 equal_of Equal e = refl
 equal_of Greater e = absurd (true≢false (sym e))
-
-either : (p q : Bool) → (p || q) ≡ true → (p ≡ true) ⊎ (q ≡ true)
-either true q e = inl refl
-either false q e = inr e
 
 less_not : Less ≡ Greater → ⊥
 less_not e = cc

@@ -1,24 +1,13 @@
 -- What a set of actions redoes and closes again can be computed, for each set without actions of loops.
-use Rattle.std.proofs.Common.{◌≡◌, ℕ, zero, suc, ◌<◌, ◌≤◌, Bool, true, false, ◌&&◌, ◌||◌, not, cond, List, [], ◌∷◌, Option, Some, None, ◌⊎◌, inl, inr, ⊎_elim, refl, sym, ap, ◌∙◌, subst, arith, nat_eq, eqb-true, true≢false}
+use Rattle.std.proofs.Common.{◌≡◌, ℕ, zero, suc, ◌≤◌, Bool, true, false, ◌&&◌, ◌||◌, not, List, [], ◌∷◌, Some, inl, inr, ⊎_elim, refl, sym, ap, ◌∙◌, subst, arith, nat_eq, eqb-true, true≢false}
 use Rattle.wf_layers.specs.Definition.{Need, Names, Kind, Leaf, Scope, Choice, Foreach, Until, Branches, no_branch, branch, Graph, done, add, holds, has, has_any, has_own, needs_in, needs_of, needs_any, kind_in, kind_of, kind_any, IsBefore, next, more, IsDepth, ClosedIn, ClosedAny, Closed}
 use Rattle.wf_layers.specs.Machine.{In, here, there}
 use Rattle.wf_layers.specs.Source.{SoundIn, SoundAny, Sound}
 use Rattle.wf_layers.specs.Seen.{Once}
 use Rattle.wf_layers.specs.Redo.{HoldsChosen, Touched, IsHit, RedoIn, RedoAny, RedoOf, IsRedo, OutOfLoopsIn, OutOfLoopsAny, OutOfLoops, any_in, any_branch, any_of, any_kind, some_need, is_touched, is_behind, is_hit, redone_in, redone_any, redone_of, redone, closed_again}
-use Rattle.wf_layers.proofs.Basics.{two, and_in, and_of, not_true, same_self, when, unless}
-use Rattle.wf_layers.proofs.Places.{stands, or_right}
+use Rattle.wf_layers.proofs.Basics.{and_in, and_of, not_true, same_self, when, unless, either, or_first, or_second}
+use Rattle.wf_layers.proofs.Places.{stands}
 use Rattle.wf_layers.proofs.Seen.{nobody, Any, once_graph, own_there}
-
-either : (p q : Bool) → (p || q) ≡ true → (p ≡ true) ⊎ (q ≡ true)
-either true q e = inl refl
-either false q e = inr e
-
-left : (p q : Bool) → p ≡ true → (p || q) ≡ true
-left p q e = ap (λ z. z || q) e
-
-right : (p q : Bool) → q ≡ true → (p || q) ≡ true
-right true q e = refl
-right false q e = e
 
 is_not : (b : Bool) → not b ≡ true → b ≡ false
 is_not true e = absurd (true≢false (sym e))
@@ -45,8 +34,8 @@ module _ (d : Graph) (depth : ℕ → ℕ) (chosen : ℕ → Bool) where
     held_any no_branch e = absurd (true≢false (sym e))
     held_any (branch b rest) e =
         ⊎_elim
-        (λ t. let r = held_of b t in (r.0, left (has b r.0) (has_any rest r.0) r.1, r.2))
-        (λ t. let r = held_any rest t in (r.0, right (has b r.0) (has_any rest r.0) r.1, r.2))
+        (λ t. let r = held_of b t in (r.0, or_first (has b r.0) (has_any rest r.0) r.1, r.2))
+        (λ t. let r = held_any rest t in (r.0, or_second (has b r.0) (has_any rest r.0) r.1, r.2))
         (either (any_of chosen b) (any_branch chosen rest) e)
 
     held_of : (g : Graph) → any_of chosen g ≡ true → (a : ℕ) × (has g a ≡ true) × (chosen a ≡ true)
@@ -54,11 +43,11 @@ module _ (d : Graph) (depth : ℕ → ℕ) (chosen : ℕ → Bool) where
     held_of (add n after kind rest) e =
         ⊎_elim
         (λ t. ⊎_elim
-        (λ c. (n, left (nat_eq n n || holds kind n) (has rest n) (left (nat_eq n n) (holds kind n) (same_self n)), c))
+        (λ c. (n, or_first (nat_eq n n || holds kind n) (has rest n) (or_first (nat_eq n n) (holds kind n) (same_self n)), c))
         (λ c. let r = held_in kind c in
-        (r.0, left (nat_eq n r.0 || holds kind r.0) (has rest r.0) (right (nat_eq n r.0) (holds kind r.0) r.1), r.2))
+        (r.0, or_first (nat_eq n r.0 || holds kind r.0) (has rest r.0) (or_second (nat_eq n r.0) (holds kind r.0) r.1), r.2))
         (either (chosen n) (any_in chosen kind) t))
-        (λ t. let r = held_of rest t in (r.0, right (nat_eq n r.0 || holds kind r.0) (has rest r.0) r.1, r.2))
+        (λ t. let r = held_of rest t in (r.0, or_second (nat_eq n r.0 || holds kind r.0) (has rest r.0) r.1, r.2))
         (either (chosen n || any_in chosen kind) (any_of chosen rest) e)
 
   mutual
@@ -73,8 +62,8 @@ module _ (d : Graph) (depth : ℕ → ℕ) (chosen : ℕ → Bool) where
     any_held no_branch a h c = h
     any_held (branch b rest) a h c =
         ⊎_elim
-        (λ t. left (any_of chosen b) (any_branch chosen rest) (of_held b a t c))
-        (λ t. right (any_of chosen b) (any_branch chosen rest) (any_held rest a t c))
+        (λ t. or_first (any_of chosen b) (any_branch chosen rest) (of_held b a t c))
+        (λ t. or_second (any_of chosen b) (any_branch chosen rest) (any_held rest a t c))
         (either (has b a) (has_any rest a) h)
 
     of_held : (g : Graph) (a : ℕ) → has g a ≡ true → chosen a ≡ true → any_of chosen g ≡ true
@@ -82,11 +71,12 @@ module _ (d : Graph) (depth : ℕ → ℕ) (chosen : ℕ → Bool) where
     of_held (add n after kind rest) a h c =
         ⊎_elim
         (λ t. ⊎_elim
-        (λ s. left (chosen n || any_in chosen kind) (any_of chosen rest)
-        (left (chosen n) (any_in chosen kind) (subst (λ z. chosen z ≡ true) (sym (eqb-true n a s)) c)))
-        (λ s. left (chosen n || any_in chosen kind) (any_of chosen rest) (right (chosen n) (any_in chosen kind) (in_held kind a s c)))
+        (λ s. or_first (chosen n || any_in chosen kind) (any_of chosen rest)
+        (or_first (chosen n) (any_in chosen kind) (subst (λ z. chosen z ≡ true) (sym (eqb-true n a s)) c)))
+        (λ s. or_first (chosen n || any_in chosen kind) (any_of chosen rest)
+        (or_second (chosen n) (any_in chosen kind) (in_held kind a s c)))
         (either (nat_eq n a) (holds kind a) t))
-        (λ t. right (chosen n || any_in chosen kind) (any_of chosen rest) (of_held rest a t c))
+        (λ t. or_second (chosen n || any_in chosen kind) (any_of chosen rest) (of_held rest a t c))
         (either (nat_eq n a || holds kind a) (has rest a) h)
 
   -- A TOUCHED ACTION BEFORE
@@ -96,8 +86,8 @@ module _ (d : Graph) (depth : ℕ → ℕ) (chosen : ℕ → Bool) where
       ⊎_elim (λ t. inl t) (λ t. inr (held_in kind (sym (ap (any_kind chosen) k) ∙ t))) (either (chosen c) (any_kind chosen (kind_of d c)) e)
 
   is_one_touched : (c : ℕ) (kind : Kind) → kind_of d c ≡ Some kind → Touched d chosen c kind → is_touched d depth chosen c ≡ true
-  is_one_touched c kind k (inl t) = left (chosen c) (any_kind chosen (kind_of d c)) t
-  is_one_touched c kind k (inr h) = right (chosen c) (any_kind chosen (kind_of d c)) (ap (any_kind chosen) k ∙ in_held kind h.0 h.1 h.2)
+  is_one_touched c kind k (inl t) = or_first (chosen c) (any_kind chosen (kind_of d c)) t
+  is_one_touched c kind k (inr h) = or_second (chosen c) (any_kind chosen (kind_of d c)) (ap (any_kind chosen) k ∙ in_held kind h.0 h.1 h.2)
 
   needed : (p : ℕ → Bool) (ns : List Need) → some_need p ns ≡ true → (a : ℕ) × Names ns a × (p a ≡ true)
   needed p [] e = absurd (true≢false (sym e))
@@ -106,19 +96,19 @@ module _ (d : Graph) (depth : ℕ → ℕ) (chosen : ℕ → Bool) where
 
   need_there : (p : ℕ → Bool) (ns : List Need) (a : ℕ) → Names ns a → p a ≡ true → some_need p ns ≡ true
   need_there p [] a nm e = absurd nm
-  need_there p (n ∷ ns) a (inl is) e = left (p n.name) (some_need p ns) (subst (λ z. p z ≡ true) (sym is) e)
-  need_there p (n ∷ ns) a (inr nm) e = right (p n.name) (some_need p ns) (need_there p ns a nm e)
+  need_there p (n ∷ ns) a (inl is) e = or_first (p n.name) (some_need p ns) (subst (λ z. p z ≡ true) (sym is) e)
+  need_there p (n ∷ ns) a (inr nm) e = or_second (p n.name) (some_need p ns) (need_there p ns a nm e)
 
   behind_all : IsDepth d depth → (c : ℕ) → is_touched d depth chosen c ≡ true → (n : ℕ) → IsBefore d c n → (k : ℕ) → depth n ≤ k
       → is_behind d depth chosen k n ≡ true
   behind_all falls c t n (next nm) zero le = absurd (let l = falls c n nm in omega (arith, l, le))
   behind_all falls c t n (next nm) (suc k) le =
       need_there (λ p. is_touched d depth chosen p || is_behind d depth chosen k p) (needs_of d n) c nm
-      (left (is_touched d depth chosen c) (is_behind d depth chosen k c) t)
+      (or_first (is_touched d depth chosen c) (is_behind d depth chosen k c) t)
   behind_all falls c t n (more {q = q} b nm) zero le = absurd (let l = falls q n nm in omega (arith, l, le))
   behind_all falls c t n (more {q = q} b nm) (suc k) le =
       need_there (λ p. is_touched d depth chosen p || is_behind d depth chosen k p) (needs_of d n) q nm
-      (right (is_touched d depth chosen q) (is_behind d depth chosen k q)
+      (or_second (is_touched d depth chosen q) (is_behind d depth chosen k q)
       (behind_all falls c t q b k (let l = falls q n nm in omega (arith, l, le))))
 
   -- what is known of a graph of the definition
@@ -157,12 +147,12 @@ module _ (d : Graph) (depth : ℕ → ℕ) (chosen : ℕ → Bool) where
 
   is_one_hit : IsDepth d depth → (l : ℕ) (w : Graph) → Part l w → (up : Bool) (n : ℕ) → IsHit d chosen up w n
       → is_hit d depth chosen up n ≡ true
-  is_one_hit falls l w part up n (inl t) = left up (chosen n || is_behind d depth chosen (depth n) n) t
+  is_one_hit falls l w part up n (inl t) = or_first up (chosen n || is_behind d depth chosen (depth n) n) t
   is_one_hit falls l w part up n (inr (inl c)) =
-      right up (chosen n || is_behind d depth chosen (depth n) n) (left (chosen n) (is_behind d depth chosen (depth n) n) c)
+      or_second up (chosen n || is_behind d depth chosen (depth n) n) (or_first (chosen n) (is_behind d depth chosen (depth n) n) c)
   is_one_hit falls l w part up n (inr (inr (c, before, kind, st, b, t))) =
-      right up (chosen n || is_behind d depth chosen (depth n) n)
-      (right (chosen n) (is_behind d depth chosen (depth n) n)
+      or_second up (chosen n || is_behind d depth chosen (depth n) n)
+      (or_second (chosen n) (is_behind d depth chosen (depth n) n)
       (behind_all falls c (is_one_touched c kind (own_facts l w part c before kind st).1 t) n b (depth n) (omega arith)))
 
   -- WHAT IS REDONE, LOOKED UP
@@ -186,9 +176,9 @@ module _ (d : Graph) (depth : ℕ → ℕ) (chosen : ℕ → Bool) where
       off q h =
           let none = not_true (nat_eq c q || holds other q) (λ t. true≢false (sym h ∙ so.2 q t)) in
           unless (nat_eq c q) (is_hit d depth chosen up c) _
-          (not_true (nat_eq c q) (λ t. true≢false (sym (left (nat_eq c q) (holds other q) t) ∙ none)))
+          (not_true (nat_eq c q) (λ t. true≢false (sym (or_first (nat_eq c q) (holds other q) t) ∙ none)))
           ∙ unless (holds other q) (redone_in d depth chosen (is_hit d depth chosen up c) other q) _
-          (not_true (holds other q) (λ t. true≢false (sym (right (nat_eq c q) (holds other q) t) ∙ none)))
+          (not_true (holds other q) (λ t. true≢false (sym (or_second (nat_eq c q) (holds other q) t) ∙ none)))
 
   module _ (falls : IsDepth d depth) where
     abbrev redo : ℕ → Bool
@@ -232,26 +222,26 @@ module _ (d : Graph) (depth : ℕ → ℕ) (chosen : ℕ → Bool) where
       any_redo no_branch l up so c o same look = tt
       any_redo (branch b rest) l up so c o same look = (
         walk_redo b b l up (part_of l b so.1 c.0 first) (λ n a k st. st) so.1 c.0 o.0 first
-            (λ q h. look q (left (has b q) (has_any rest q) h) ∙ when (has b q) _ _ h),
+            (λ q h. look q (or_first (has b q) (has_any rest q) h) ∙ when (has b q) _ _ h),
         any_redo rest l up so.2 c.1 o.1
-            (λ q h. let x = same q (right (has b q) (has_any rest q) h) in (
+            (λ q h. let x = same q (or_second (has b q) (has_any rest q) h) in (
               x.0,
               x.1 ∙ unless (has b q) (needs_of b q) (needs_any rest q) (off q h),
               x.2
                   ∙ unless (has b q) (kind_of b q) (kind_any rest q) (off q h),
             ))
-            (λ q h. look q (right (has b q) (has_any rest q) h) ∙ unless (has b q) _ _ (off q h)),
+            (λ q h. look q (or_second (has b q) (has_any rest q) h) ∙ unless (has b q) _ _ (off q h)),
       )
         where
           first : Same b
           first q h =
-              let x = same q (left (has b q) (has_any rest q) h) in
+              let x = same q (or_first (has b q) (has_any rest q) h) in
               (x.0, x.1 ∙ when (has b q) (needs_of b q) (needs_any rest q) h, x.2 ∙ when (has b q) (kind_of b q) (kind_any rest q) h)
 
           off : (q : ℕ) → has_any rest q ≡ true → has b q ≡ false
           off q h = not_true (has b q) (λ t. true≢false (sym h ∙ so.0 q t))
 
-      -- g is what is left of the graph w
+      -- g is what is or_first of the graph w
       walk_redo : (g w : Graph) (l : ℕ) (up : Bool) → Part l w → ((n : ℕ) (a : List Need) (k : Kind) → In g n a k → In w n a k)
           → Sound nobody Any g l → Closed g w → OutOfLoops chosen g
           → Same w

@@ -8,7 +8,7 @@ use Rattle.wf_layers.specs.Rule.{look_in, look_any, look, Obeys}
 use Rattle.wf_layers.proofs.Basics.{two, and_in, and_of, not_true, same_self, starts_outer, when, unless, only_same, cond_same, in_within, rest_within, other_within, held_in, among_here, among_there, longer, some_turn, sides_out, sides_at}
 use Rattle.wf_layers.proofs.Layers.{out_layers, gate_same}
 use Rattle.wf_layers.proofs.Tables.{held, later'}
-use Rattle.wf_layers.specs.Part.{RegionIn, RegionAny, Region}
+use Rattle.wf_layers.specs.Part.{RegionIn, RegionAny, Region, IsPart}
 use Rattle.wf_layers.specs.Laws.{IsFresh}
 use Rattle.wf_layers.specs.Resubmission.{kept, SplitIn, SplitAny, Split, IsSplit, layered, pin, PassedIn, PassedAny, Passed, IsResubmission, ResubmissionIsFresh, SameAnswers, OldAnswersGiveTheOldRows, MayBeResubmittedAgain}
 use Rattle.wf_layers.proofs.Meaning.{meaning_solves}
@@ -251,11 +251,15 @@ module _ {Row Begun Decision Verdict : Type 0} (a b : Source Row Begun Decision 
       region rest s.3,
     )
 
+  -- what is kept is a part of the definition
+  pub kept_part : IsPart d (kept redo again) (λ n. not (redo n))
+  kept_part = record { within = keeps_not; sees = λ z y e see. sp.after z y (not_of (redo z.name) e) see; tree = region d sp.tree }
+
   -- kept rows are the same in the old environment and in that with one layer more
   pub kept_same : (x : Address) → is_within d [] x ≡ true → keeps x.name ≡ true → r x ≡ f x
   kept_same x w kx =
       part_unique a depth d falls sa keeps not_redone
-      (record { within = keeps_not; sees = λ z y e see. sp.after z y (not_of (redo z.name) e) see; tree = region d sp.tree }) f
+      kept_part f
       (λ y v ky. sol y v ∙ look_same d sp.tree [] f y v ky) x w kx
 
   -- THE PINNED RULE

@@ -7,7 +7,7 @@ use Rattle.wf_layers.specs.Source.{Source, SoundAny, Sound}
 use Rattle.wf_layers.specs.Meaning.{skip}
 use Rattle.wf_layers.specs.Rule.{Obeys}
 use Rattle.wf_layers.specs.Facts.{IsBusy, IsRooted, finished, passed, in_scope, in_branch, in_turn, in_round}
-use Rattle.wf_layers.proofs.Basics.{two, and_in, and_of, apart, not_true, same_self, same_self_at, when, unless, in_within, rest_within, own_in, held_in}
+use Rattle.wf_layers.proofs.Basics.{two, and_in, and_of, apart, not_true, same_self, same_self_at, when, unless, in_within, rest_within, own_in, held_in, outer_of}
 use Rattle.wf_layers.specs.Machine.{Running, Opening, State, In, here, there, IsOpen, top, scope, chosen, turn, round, or_else, place, one, opened, Event, Start, Try, End, Skip, Open, Begin, Test, Close, in_others, passed_over, closing, IsThere, IsDecided, Step, Run}
 use Rattle.wf_layers.proofs.Tables.{own_is, own_self, one_is, place_split, same_starts, skip_in, shows_holds, either_or, taken_within}
 use Rattle.wf_layers.proofs.Others.{others_among, some_others}
@@ -21,16 +21,6 @@ pub in_graph : (g : Graph) (n : ℕ) (after : List Need) (kind : Kind) → In g 
 in_graph _ n after kind (here {rest = rest}) i y e = in_within n after kind rest i y e
 in_graph _ n after kind (there {m = q} {before = before} {other = other} {rest = rest} st) i y e =
     rest_within q before other rest i y (in_graph rest n after kind st i y e)
-
-outer_of : (h : Graph) (i : List ℕ) (j : ℕ) (y : Address) → is_within h (i ++ j ∷ []) y ≡ true → is_within h i y ≡ true
-outer_of h i j y w =
-    let e = and_in (has h y.name) (starts (i ++ j ∷ []) y.at) w in and_of (has h y.name) (starts i y.at) e.0 (outer_starts i j y.at e.1)
-  where
-    outer_starts : (i : List ℕ) (j : ℕ) (at : List ℕ) → starts (i ++ j ∷ []) at ≡ true → starts i at ≡ true
-    outer_starts [] j at e = refl
-    outer_starts (a ∷ i) j [] e = e
-    outer_starts (a ∷ i) j (b ∷ at) e =
-        let h = and_in (nat_eq a b) (starts (i ++ j ∷ []) at) e in and_of (nat_eq a b) (starts i at) h.0 (outer_starts i j at h.1)
 
 pub placed_grows : {A : Type 0} (new t : Table A) (x : Address) (r : A) → t x ≡ Some r → (q : A) × (place new t x ≡ Some q)
 placed_grows {A} new t x r e = go (new x) refl
@@ -315,6 +305,13 @@ module _ {Row Begun Decision Verdict : Type 0} (m : Source Row Begun Decision Ve
           unless (is_own y.name y.at (address n i)) (Some true) None
           (not_true (is_own y.name y.at (address n i))
           (λ t. true≢false (sym (ap (λ (z : Address). is_own n i z) (own_is y.name y.at (address n i) t) ∙ own_self n i) ∙ u)))
+
+  -- nor is a row in a leaf that runs
+  pub none_in_leaf : (s : State Row Begun Decision Verdict) → Busy m d so f sol s → Rooted s
+      → (n : ℕ) (i : List ℕ) (after : List Need) (kind : Kind) → IsThere d m s n i after kind → s.rows (address n i) ≡ None
+      → s.opens (address n i) ≡ None → (y : Address) (r : Row) → s.rows y ≡ Some r → is_in n kind i y ≡ true → ⊥
+  none_in_leaf s b k n i after kind th no_row not_open y r e iny =
+      not_rooted s.rows s.opens y (free_rows s b y) th.graph i n after kind th.is_open th.is_in no_row not_open iny (k y r e)
 
   -- no open graph is in it
   pub none_open : (s : State Row Begun Decision Verdict) → (n : ℕ) (i : List ℕ) (after : List Need) (kind : Kind)

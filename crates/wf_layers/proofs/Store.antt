@@ -1,15 +1,15 @@
 -- The store of a variable holds the value of the last writer that a decided action sees.
 use Rattle.std.proofs.Common.{◌≡◌, ℕ, Bool, true, false, ◌&&◌, ◌||◌, cond, List, [], ◌∷◌, Option, Some, None, ◌⊎◌, inl, inr, ⊎_elim, refl, sym, ap, ◌∙◌, subst, nat_eq, true≢false}
 use Rattle.std.proofs.lemmas.Option.{none-some}
-use Rattle.wf_layers.specs.Definition.{Kind, Leaf, Scope, Choice, Foreach, Until, Graph, has_any, shows, kind_of}
-use Rattle.wf_layers.specs.Address.{Address, address, Table, same_at, starts, is_own, SeenIn}
+use Rattle.wf_layers.specs.Definition.{Need, Kind, Leaf, Scope, Choice, Foreach, Until, Graph, has_any, shows, kind_of}
+use Rattle.wf_layers.specs.Address.{Address, address, Table, same_at, starts, is_own, is_in, SeenIn}
 use Rattle.wf_layers.specs.Source.{Source, Sound}
 use Rattle.wf_layers.specs.Rule.{Obeys}
 use Rattle.wf_layers.specs.Meaning.{skip, meaning}
 use Rattle.wf_layers.proofs.Basics.{and_in, not_true, when}
-use Rattle.wf_layers.specs.Machine.{Running, Opening, State, In, fresh, or_else, place, one, without, opened, Event, Start, Try, End, Skip, Open, Begin, Test, Close, passed_over, MayClose, closing, Step, Run}
+use Rattle.wf_layers.specs.Machine.{Running, Opening, State, IsThere, In, fresh, or_else, place, one, without, opened, Event, Start, Try, End, Skip, Open, Begin, Test, Close, passed_over, MayClose, closing, Step, Run}
 use Rattle.wf_layers.proofs.Tables.{own_self, one_is, place_split}
-use Rattle.wf_layers.specs.Variables.{IsIdle, write_at, written, Stores, OneOrder, IsLastWritten, IsLastSeen, SeenByTest, StoreHolds, StoreHoldsAtTests}
+use Rattle.wf_layers.specs.Variables.{IsIdle, write_at, written, Stores, OneOrder, IsLastWritten, IsLastSeen, HasOrder, SeenByTest, StoreHolds, StoreHoldsAtTests, StoreHoldsAtEnds}
 use Rattle.wf_layers.specs.Laws.{IsInstance, StoreHoldsTheLast}
 use Rattle.wf_layers.proofs.Open.{kind_there}
 use Rattle.wf_layers.proofs.Keeps.{Keeps, IsClosed, SpecialOut, decided_own}
@@ -17,7 +17,7 @@ use Rattle.wf_layers.proofs.Events.{step_keeps}
 use Rattle.wf_layers.proofs.Progress.{sol, closed_is, nothing_special, kept_state}
 use Rattle.wf_layers.proofs.Busy.{Busy, step_busy}
 use Rattle.wf_layers.proofs.Facts.{busy_state, rooted_state}
-use Rattle.wf_layers.proofs.Rooted.{Rooted}
+use Rattle.wf_layers.proofs.Rooted.{Rooted, none_in_leaf}
 use Rattle.wf_layers.proofs.Tests.{test_sees}
 use Rattle.wf_layers.proofs.Others.{others_among, some_others, others_skipped}
 use Rattle.wf_layers.proofs.Variables.{Lull, point_sees, sees_finished, no_lull}
@@ -278,6 +278,45 @@ module _ {Row Begun Decision Verdict Value : Type 0} (m : Source Row Begun Decis
       let q = test_sees m d so f sol lull out s k b rt n i after most g w j th e may in
       last_seen s v (SeenByTest d n i g j) k (λ y r e' fy wr. q.0 y r e' (not_idle y r wr) (ord y r fy wr)) q.1 l
 
+  -- and while a leaf runs
+  pub running_last : (s : State Row Begun Decision Verdict) (v : Option Value) → Kept s → Stand s → Rooted m d so f sol s → Last s v
+      → StoreHoldsAtEnds d m writes f s v
+  running_last s v k b rt l n i w e ord =
+      last_seen s v (SeenIn d (address n i)) k (λ y r e' fy wr. at_order y r e' (not_idle y r wr) (ord y r fy wr))
+      (λ y see. k.run_behind (address n i) w e y see) l
+    where
+      is_leaf : kind_of d n ≡ Some Leaf
+      is_leaf = (k.held (address n i) w e).is_leaf
+
+      not_open : s.opens (address n i) ≡ None
+      not_open = go (s.opens (address n i)) refl
+        where
+          go : (o : Option (Opening Decision Verdict)) → s.opens (address n i) ≡ o → s.opens (address n i) ≡ None
+          go None h = h
+          go (Some u) h = absurd (k.facts n i u Leaf h is_leaf).1
+
+      no_row : s.rows (address n i) ≡ None
+      no_row = b.no_row (address n i) (inl (w, e))
+
+      th : (after : List Need) × (kind : Kind) × IsThere d m s n i after kind
+      th = b.there' (address n i) (inl (w, e))
+
+      same_kind : th.1 ≡ Leaf
+      same_kind =
+          let q : Some th.1 ≡ Some Leaf = sym (kind_there m d so f sol s.opens th.2.graph i n th.0 th.1 th.2.is_open th.2.is_in).0
+          ∙ is_leaf in
+          cc
+
+      at_order : (y : Address) (r : Row) → s.rows y ≡ Some r → (IsIdle m r → ⊥) → HasOrder d n Leaf i y → SeenIn d (address n i) y
+      at_order y r e' ne (inl inn) =
+          absurd (none_in_leaf m d so f sol s b rt n i th.0 th.1 th.2 no_row not_open y r e'
+          (subst (λ z. is_in n z i y ≡ true) (sym same_kind) inn))
+      at_order y r e' ne (inr h) =
+          point_sees m d so f sol lull out s k th.2.graph i n th.0 th.1 th.2.is_open th.2.is_in
+          (not_true (m.pinned n)
+          (λ t. k.special th.2.graph i n th.0 th.1 th.2.is_open th.2.is_in (ap (λ z. z || m.reclosed n) t) no_row not_open))
+          no_row y r e' ne h
+
 -- the list of events of a store is a run
 pub stores_run : {Row Begun Decision Verdict Value : Type 0} (d : Graph) (m : Source Row Begun Decision Verdict)
     (writes : Address → Row → Option Value) (s : State Row Begun Decision Verdict) (es : List Event) (s' : State Row Begun Decision Verdict)
@@ -298,4 +337,5 @@ module _ {Row Begun Decision Verdict Value : Type 0} (d : Graph) (m : Source Row
         l,
         decided_last m d is.local f so closed out lull writes one_order s v k b rt l,
         tested_last m d is.local f so closed out lull writes one_order s v k b rt l,
+        running_last m d is.local f so closed out lull writes one_order s v k b rt l,
       )

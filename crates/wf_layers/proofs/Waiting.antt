@@ -1,11 +1,11 @@
 -- Counts of what is waited for.
-use Rattle.std.proofs.Common.{◌≡◌, ℕ, zero, suc, ◌+◌, Bool, true, false, ◌&&◌, ◌||◌, cond, List, [], ◌∷◌, ◌⊎◌, inl, inr, ⊎_elim, refl, sym, ap, ◌∙◌, subst, arith, nat_eq, eq-eqb, eqb-true, true≢false}
-use Rattle.wf_layers.specs.Definition.{Need, Names, Kind, Graph, done, add, holds, has, has_own}
+use Rattle.std.proofs.Common.{◌≡◌, ℕ, suc, ◌+◌, Bool, true, false, ◌&&◌, ◌||◌, cond, List, [], ◌∷◌, inl, inr, ⊎_elim, refl, sym, ap, ◌∙◌, arith, nat_eq, eq-eqb, eqb-true, true≢false}
+use Rattle.wf_layers.specs.Definition.{Need, Names, Graph, done, add, holds, has, has_own}
 use Rattle.wf_layers.specs.Address.{address, Table}
 use Rattle.wf_layers.specs.Machine.{has_ended, is_ended, all_ended}
 use Rattle.wf_layers.specs.Seen.{Once}
 use Rattle.wf_layers.specs.Waiting.{waiting, lacking, times, Ends, Counts}
-use Rattle.wf_layers.proofs.Basics.{two, and_of, when, unless, same_self, not_true}
+use Rattle.wf_layers.proofs.Basics.{two, when, unless, same_self, not_true, or_second}
 
 -- by whether the first has ended
 step_none : (b : Bool) (c : ℕ) (rest : Bool) → (c ≡ 0 → rest ≡ true) → cond b c (suc c) ≡ 0 → (b && rest) ≡ true
@@ -16,7 +16,7 @@ step_all : (b : Bool) (c : ℕ) (rest : Bool) → (rest ≡ true → c ≡ 0) �
 step_all true c rest h e = h e
 step_all false c rest h e = absurd (true≢false (sym e))
 
-own_has : (g : Graph) (q : ℕ) → has_own g q ≡ true → has g q ≡ true
+pub own_has : (g : Graph) (q : ℕ) → has_own g q ≡ true → has g q ≡ true
 own_has done q e = e
 own_has (add n after kind rest) q e = go (nat_eq n q) (holds kind q) (has_own rest q) (has rest q) (own_has rest q) e
   where
@@ -75,12 +75,8 @@ module _ {A : Type 0} where
   lacks_same done i t u h = refl
   lacks_same (add n after kind rest) i t u h =
       same (has_ended (t (address n i))) (has_ended (u (address n i))) (h n (ap (λ b. b || has_own rest n) (same_self n)))
-      (lacks_same rest i t u (λ q o. h q (or_later (nat_eq n q) (has_own rest q) o)))
+      (lacks_same rest i t u (λ q o. h q (or_second (nat_eq n q) (has_own rest q) o)))
     where
-      or_later : (a b : Bool) → b ≡ true → (a || b) ≡ true
-      or_later true b e = refl
-      or_later false b e = e
-
       same : (a b : Bool) → a ≡ b → lacking rest i t ≡ lacking rest i u → cond a (lacking rest i t) (suc (lacking rest i t)) ≡ cond b
           (lacking rest i u) (suc (lacking rest i u))
       same true true e r = r
@@ -98,18 +94,14 @@ module _ {A : Type 0} where
       (ap (λ q. has_ended (t (address q i))) is ∙ h.before) in
       let y = when (has_ended (u (address n i))) (lacking rest i u) (suc (lacking rest i u))
       (ap (λ q. has_ended (u (address q i))) is ∙ h.after) in
-      let z = lacks_same rest i t u (λ q o. h.others q (or_later (nat_eq n q) (has_own rest q) o) (apart q is o)) in
+      let z = lacks_same rest i t u (λ q o. h.others q (or_second (nat_eq n q) (has_own rest q) o) (apart q is o)) in
       omega (arith, x, y, z))
       (λ other. let own' = sym (ap (λ b. b || has_own rest p) other) ∙ own in
       let r = lacks_less rest i p t u once.3 own'
-      (record { before = h.before; after = h.after; others = λ q o ne. h.others q (or_later (nat_eq n q) (has_own rest q) o) ne }) in
+      (record { before = h.before; after = h.after; others = λ q o ne. h.others q (or_second (nat_eq n q) (has_own rest q) o) ne }) in
       more (has_ended (t (address n i))) (has_ended (u (address n i))) (h.others n (ap (λ b. b || has_own rest n) (same_self n)) other) r)
       (two (nat_eq n p))
     where
-      or_later : (a b : Bool) → b ≡ true → (a || b) ≡ true
-      or_later true b e = refl
-      or_later false b e = e
-
       -- the rest has no other action of this name
       apart : (q : ℕ) → n ≡ p → has_own rest q ≡ true → nat_eq q p ≡ false
       apart q is o =

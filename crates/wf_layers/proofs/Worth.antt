@@ -1,19 +1,16 @@
 -- Each event makes what is placed, begun and tried worth more; so there are few events.
-use Rattle.std.proofs.Common.{◌≡◌, ℕ, zero, suc, ◌+◌, ◌*◌, ◌<◌, ◌≤◌, true, false, ◌&&◌, ◌||◌, cond, List, [], ◌∷◌, ◌++◌, length, Option, Some, None, ◌⊎◌, inl, inr, ⊎_elim, refl, sym, ap, ◌∙◌, subst, arith, nat_eq}
-use Rattle.std.proofs.lemmas.Option.{none-some}
-use Rattle.wf_layers.specs.Definition.{Need, Kind, Leaf, Scope, Choice, Foreach, Until, Graph, holds, shows, kind_of, IsBefore}
-use Rattle.wf_layers.specs.Address.{Address, address, Table, same_at, starts, is_own, is_in, SeenIn}
+use Rattle.std.proofs.Common.{◌≡◌, ℕ, zero, suc, ◌+◌, ◌*◌, ◌≤◌, true, false, ◌&&◌, ◌||◌, List, [], ◌∷◌, ◌++◌, length, Option, Some, None, inl, inr, ⊎_elim, refl, sym, ap, ◌∙◌, subst, arith, nat_eq}
+use Rattle.wf_layers.specs.Definition.{Need, Kind, Leaf, Scope, Choice, Foreach, Until, Graph, shows, kind_of}
+use Rattle.wf_layers.specs.Address.{Address, address, Table, same_at, is_own, is_in, SeenIn}
 use Rattle.wf_layers.specs.Source.{Source, Sound, leaf}
-use Rattle.wf_layers.specs.Meaning.{last, rounds, meaning, skip}
+use Rattle.wf_layers.specs.Meaning.{meaning, skip}
 use Rattle.wf_layers.specs.Rule.{look_in, Obeys}
-use Rattle.wf_layers.specs.Called.{iterations}
 use Rattle.wf_layers.specs.Bound.{TellsTurns, Costs}
 use Rattle.wf_layers.specs.Listed.{Among, Lists, sum_of}
-use Rattle.wf_layers.specs.Facts.{IsBusy}
-use Rattle.wf_layers.specs.Machine.{Running, Opening, State, Event, Start, Try, End, Skip, Open, Begin, Test, Close, In, IsOpen, place_of, fresh, or_else, place, one, without, opened, passed_over, closing, MayBegin, MayTest, MayClose, IsThere, IsDecided, Step, Run}
-use Rattle.wf_layers.specs.Laws.{IsInstance, EventsAreFew, EventsOfRunsAreFew}
+use Rattle.wf_layers.specs.Machine.{Running, Opening, State, Event, Start, Try, End, Skip, Open, Begin, Test, Close, In, IsOpen, place_of, fresh, or_else, place, one, without, opened, passed_over, closing, MayBegin, MayTest, MayClose, IsThere, Step, Run}
+use Rattle.wf_layers.specs.Laws.{IsInstance, EventsOfRunsAreFew}
 use Rattle.wf_layers.proofs.Basics.{two, and_of, same_self, same_self_at, when, unless, held_in, own_in}
-use Rattle.wf_layers.proofs.Tables.{own_is, own_self, skip_in, shows_holds, same_starts, either_or}
+use Rattle.wf_layers.proofs.Tables.{own_is, own_self}
 use Rattle.wf_layers.proofs.Others.{passed_in, skipped_in}
 use Rattle.wf_layers.proofs.Open.{open_sub, placed_in, kind_there, fact_of, obey_in, follows}
 use Rattle.wf_layers.proofs.Bound.{begun_most}

@@ -1,7 +1,7 @@
 -- Where an event may change what is enabled: an engine that keeps the list of enabled events looks at these addresses alone.
 use Rattle.std.specs.Prelude.{ℕ, Bool, true, false, ◌&&◌, ◌||◌, List, [], ◌∷◌, ◌++◌, Option, Some, None, nat_eq}
 use Rattle.wf_layers.specs.Definition.{Need, Kind, Leaf, Scope, Choice, Foreach, Until, Branches, no_branch, branch, Graph, has_own, needs_of, kind_of}
-use Rattle.wf_layers.specs.Address.{Address, address, Table, same_at, is_own}
+use Rattle.wf_layers.specs.Address.{Address, address, same_at, is_own}
 use Rattle.wf_layers.specs.Machine.{Opening, State, Event, Start, Try, End, Skip, Open, Begin, Test, Close, place_of}
 
 -- The action stands in one of the container's own graphs.

@@ -1,7 +1,7 @@
 -- Which event is enabled at an address, if any.
-use Rattle.std.specs.Prelude.{ℕ, zero, suc, Bool, true, false, ◌||◌, cond, List, [], ◌∷◌, ◌++◌, Option, Some, None, nat_eq, nat_lt}
+use Rattle.std.specs.Prelude.{ℕ, zero, suc, Bool, true, ◌||◌, cond, List, [], ◌∷◌, ◌++◌, Option, Some, None, nat_eq, nat_lt}
 use Rattle.wf_layers.specs.Definition.{Need, Pace, InTurn, AtMost, Kind, Leaf, Scope, Choice, Foreach, Until, Branches, no_branch, branch, Graph, done, add, is_one, less_one, branch_at}
-use Rattle.wf_layers.specs.Address.{Address, address, Table, is_own, is_in, is_within, is_among, starts}
+use Rattle.wf_layers.specs.Address.{address, Table, is_own, is_in, is_within}
 use Rattle.wf_layers.specs.Source.{Source, gate}
 use Rattle.wf_layers.specs.Meaning.{only, sides}
 use Rattle.wf_layers.specs.Machine.{Running, Opening, State, Event, Start, Try, End, Skip, Open, Begin, Test, Close, has_ended, is_ended, all_ended, unfinished}

@@ -8,7 +8,7 @@ use Rattle.wf_layers.specs.Address.{Table}
 use Rattle.wf_layers.specs.Rule.{look, Obeys}
 use Rattle.wf_layers.specs.Part.{IsPart}
 use Rattle.wf_layers.specs.Called.{IsCalled}
-use Rattle.wf_layers.specs.Variables.{SeesFinished, SeenAreThere, TestSees, Stores, OneOrder, IsLastWritten, StoreHolds, StoreHoldsAtTests}
+use Rattle.wf_layers.specs.Variables.{SeesFinished, SeenAreThere, TestSees, Stores, OneOrder, IsLastWritten, StoreHolds, StoreHoldsAtTests, StoreHoldsAtEnds}
 use Rattle.wf_layers.specs.Bound.{total, left, TellsTurns, Costs}
 use Rattle.wf_layers.specs.Facts.{Facts}
 use Rattle.wf_layers.specs.Listed.{Lists, sum_of}
@@ -95,6 +95,7 @@ module _ {Row Begun Decision Verdict : Type 0} where
       → Stores d m writes fresh es s None v
       → IsLastWritten d m writes s.rows v × StoreHolds d m writes (meaning m depth d) s v × StoreHoldsAtTests d m writes
       (meaning m depth d) s v
+      × StoreHoldsAtEnds d m writes (meaning m depth d) s v
 
   -- At each moment the events so far and those that are left are all that the meaning's rows give the definition.
   abbrev pub EventsAreCounted : Graph → Source Row Begun Decision Verdict → (ℕ → ℕ) → Type 0

@@ -20,3 +20,4 @@ pub mod Shape
 pub mod Seen
 pub mod Answered
 pub mod Record
+pub mod Premises

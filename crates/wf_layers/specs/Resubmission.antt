@@ -1,5 +1,5 @@
 -- Resubmission: rows kept from an old table, what is redone and what is closed again, and an environment with one layer more.
-use Rattle.std.specs.Prelude.{◌≡◌, ℕ, Bool, true, false, ◌&&◌, ◌||◌, cond, not, List, [], Option, Some, None, ◌+◌, ◌*◌, ◌≤◌, length}
+use Rattle.std.specs.Prelude.{◌≡◌, ℕ, Bool, true, false, ◌&&◌, ◌||◌, cond, not, List, [], Option, Some, None, ◌+◌, length}
 use Rattle.wf_layers.specs.Definition.{Need, Kind, Leaf, Scope, Choice, Foreach, Until, Branches, no_branch, branch, Graph, done, add, has, holds, kind_of}
 use Rattle.wf_layers.specs.Address.{Address, address, Table, same_at, is_within, SeenIn}
 use Rattle.wf_layers.specs.Source.{Source, Sound, gate}
@@ -9,7 +9,7 @@ use Rattle.wf_layers.specs.Redo.{IsRedo}
 use Rattle.wf_layers.specs.Machine.{Opening, State, In, IsOpen, Event, place_of, Step, Run, IsOver, in_others, skip_others}
 use Rattle.wf_layers.specs.Facts.{Facts}
 use Rattle.wf_layers.specs.Laws.{ChangesOnlyThere, EventsAreFew, Exact}
-use Rattle.wf_layers.specs.Variables.{IsIdle, SeesFinished, SeenAreThere, TestSees, Stores, OneOrder, IsLastWritten, StoreHolds, StoreHoldsAtTests}
+use Rattle.wf_layers.specs.Variables.{IsIdle, SeesFinished, SeenAreThere, TestSees, Stores, OneOrder, IsLastWritten, StoreHolds, StoreHoldsAtTests, StoreHoldsAtEnds}
 
 -- What is neither redone nor closed again is kept.
 abbrev pub kept : (ℕ → Bool) → (ℕ → Bool) → ℕ → Bool
@@ -260,6 +260,7 @@ module _ {Row Begun Decision Verdict : Type 0} where
       → IsLastWritten d (pin a b redo again r recall) writes s.rows v
       × StoreHolds d (pin a b redo again r recall) writes (meaning (pin a b redo again r recall) depth d) s v
       × StoreHoldsAtTests d (pin a b redo again r recall) writes (meaning (pin a b redo again r recall) depth d) s v
+      × StoreHoldsAtEnds d (pin a b redo again r recall) writes (meaning (pin a b redo again r recall) depth d) s v
 
   -- What is redone has the same answers in both environments.
   pub record SameAnswers (a b : Source Row Begun Decision Verdict) (redo : ℕ → Bool) : Type 0 where

@@ -3,7 +3,7 @@ use Rattle.std.specs.Prelude.{suc, ◌<◌, ◌≡◌, ℕ, ◌++◌, ◌∷◌,
 use Rattle.wf_layers.specs.Definition.{Skipped, Need, Kind, Leaf, Scope, Choice, Foreach, Until, Branches, no_branch, branch, Graph, done, add, kind_of}
 use Rattle.wf_layers.specs.Address.{Address, address, Table, is_in, is_within, is_among, SeenIn}
 use Rattle.wf_layers.specs.Source.{Source}
-use Rattle.wf_layers.specs.Machine.{Opening, IsThere, MayTest, State, IsDecided, Event, Start, Try, End, Skip, Open, Begin, Test, Close, Step, or_else}
+use Rattle.wf_layers.specs.Machine.{Running, Opening, IsThere, MayTest, State, IsDecided, Event, Start, Try, End, Skip, Open, Begin, Test, Close, Step, or_else}
 
 -- The instances x and y stand in different branches of one If or Switch, in one iteration of each loop round both.
 abbrev mutual
@@ -130,3 +130,9 @@ module _ {Row Begun Decision Verdict Value : Type 0} (d : Graph) (m : Source Row
       (n : ℕ) (i : List ℕ) (after : List Need) (most : ℕ) (g : Graph) (w : Opening Decision Verdict) (j : ℕ)
       → IsThere d m s n i after (Until most g) → s.opens (address n i) ≡ Some w → MayTest m (Until most g) i w s.rows j
       → WritersHaveOrder f n (Until most g) i → IsLastSeen f (SeenByTest d n i g j) v
+
+  -- And what a leaf's Start found is still there while it runs, to its End.
+  abbrev pub StoreHoldsAtEnds : Table Row → State Row Begun Decision Verdict → Option Value → Type 0
+  StoreHoldsAtEnds f s v =
+      (n : ℕ) (i : List ℕ) (w : Running Begun) → s.running (address n i) ≡ Some w → WritersHaveOrder f n Leaf i
+      → IsLastSeen f (SeenIn d (address n i)) v

@@ -1,7 +1,7 @@
 -- How much is waited for: how many entries of an action's `runAfter` have no row yet, and how many actions of a graph.
 use Rattle.std.specs.Prelude.{◌≡◌, ℕ, suc, ◌+◌, true, false, cond, List, [], ◌∷◌, nat_eq}
 use Rattle.wf_layers.specs.Definition.{Need, Names, Graph, done, add, has_own}
-use Rattle.wf_layers.specs.Address.{Address, address, Table}
+use Rattle.wf_layers.specs.Address.{address, Table}
 use Rattle.wf_layers.specs.Seen.{Once}
 use Rattle.wf_layers.specs.Machine.{has_ended, is_ended, all_ended}
 

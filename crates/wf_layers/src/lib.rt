@@ -15,14 +15,16 @@
 //! It isn't an engine: no row has a content here, nothing is parsed, evaluated or run, and no memory is taken.
 #![tactic(auto)]
 
-ghost use Rattle.std.specs.Prelude.{[], ◌∷◌, ◌≡◌, Bool, List, None, Option, Some, false, true, ℕ};
+ghost use Rattle.std.specs.Prelude.{[], ◌∷◌, ◌≡◌, Bool, List, None, Option, Some, false, length, true, ℕ};
 ghost use Rattle.wf_layers.specs.Address.{Address, SeenIn, Table, address, is_within};
 ghost use Rattle.wf_layers.specs.Answered.{RunsSoFarAreRuns};
 ghost use Rattle.wf_layers.specs.Bound.{total};
 ghost use Rattle.wf_layers.specs.Definition.{Closed, Graph, IsDepth, Kind, Leaf, Turns};
 ghost use Rattle.wf_layers.specs.Laws.{AllRowsAtTheEnd, EventsAreCounted, EventsAreExact, EventsAtTheEnd, EventsChangeOnlyThere, EventsOfRunsAreFew, FactsOfStates, IsFresh, IsInstance, MeaningObeysTheRule, OneEventAtAnAddress, PartIsUnique, RowsAreTheMeanings, RowsAreUnique, RowsWhereCalledFor, RunsGrow, StoreHoldsTheLast, TestsInOrder, VariablesInOrder};
+ghost use Rattle.wf_layers.specs.Machine.{Event, IsOver, Run, State, fresh};
 ghost use Rattle.wf_layers.specs.Meaning.{meaning};
 ghost use Rattle.wf_layers.specs.Listed.{Lists};
+ghost use Rattle.wf_layers.specs.Premises.{MeetsPremises, MeetsPremisesAgain};
 ghost use Rattle.wf_layers.specs.Record.{HasRecord, RecordsAreOne};
 ghost use Rattle.wf_layers.specs.Redo.{IsRedo, OutOfLoops, closed_again, redone};
 ghost use Rattle.wf_layers.specs.Resubmission.{IsOldTable, IsResubmission, IsSetResubmission, IsSplit, MayBeResubmittedAgain, OldAnswersGiveTheOldRows, OldTablesAgree, OthersKept, ResubmissionIsFresh, ResumedAtTheEnd, ResumedChanges, ResumedEnds, ResumedExact, ResumedFacts, ResumedFew, ResumedInOrder, ResumedOneEvent, ResumedRows, ResumedStore, kept, pin};
@@ -138,22 +140,17 @@ pub fn variables_in_order<Row, Begun, Decision, Verdict>()
     ensures { (d : Graph) (m : Source Row Begun Decision Verdict) (depth : ℕ → ℕ) → IsInstance d m depth → VariablesInOrder d m depth }
 {}
 
-/// As an Until is tested, the finished accesses outside it are those that it sees, and its iterations so far are there.
+/// As an Until is tested, the finished accesses in it or with an order are those that it sees and those of its iterations so far, and all
+/// of these are there.
 pub fn tests_in_order<Row, Begun, Decision, Verdict>()
     ensures { (d : Graph) (m : Source Row Begun Decision Verdict) (depth : ℕ → ℕ) → IsInstance d m depth → TestsInOrder d m depth }
 {}
 
-/// A store that each finished writer overwrites holds the last finished writer's value, and, as an action is decided or an Until tested,
-/// that of the last writer that it sees.
+/// A store that each finished writer overwrites holds the last finished writer's value; and, as an action is decided, while a leaf runs and
+/// as an Until is tested, that of the last writer that it sees.
 pub fn store_holds_the_last<Row, Begun, Decision, Verdict, Value>()
     ensures { (d : Graph) (m : Source Row Begun Decision Verdict) (depth : ℕ → ℕ) (writes : Address → Row → Option Value)
         → IsInstance d m depth → StoreHoldsTheLast d m depth writes }
-{}
-
-/// The premises can be met: there is a definition whose loop goes one iteration after the other, and iteration 2 sees iteration 1.
-pub fn premises_can_be_met()
-    ensures { (d : Graph) × (m : Source ℕ ℕ ℕ Bool) × (depth : ℕ → ℕ) × IsInstance d m depth
-        × (meaning m depth d (address 2 (2 ∷ [])) ≡ Some 4) }
 {}
 
 /// From a set of chosen actions: all inside a redone action is redone, all inside a kept one is kept, and nothing kept or closed again
@@ -174,15 +171,6 @@ pub fn a_set_is_resubmitted<Row, Begun, Decision, Verdict>()
         (recall : Address → Decision)
         → IsDepth d depth → Sound a (SeenIn d) d 0 → IsFresh a → IsSetResubmission d depth a b chosen redo again recall
         → IsResubmission d depth a b redo again recall × OthersKept d a redo again (meaning a depth d) recall }
-{}
-
-/// There is such a set: of three actions one after the other in a Scope the second is chosen. The first keeps its row, and the third is
-/// made anew from the second.
-pub fn a_set_can_be_resubmitted()
-    ensures { (d : Graph) × (depth : ℕ → ℕ) × (a : Source ℕ ℕ ℕ Bool) × (b : Source ℕ ℕ ℕ Bool) × (chosen : (ℕ → Bool))
-        × (redo : (ℕ → Bool)) × (again : (ℕ → Bool)) × (recall : (Address → ℕ))
-        × Sound a (SeenIn d) d 0 × Sound b (SeenIn d) d 0 × IsSetResubmission d depth a b chosen redo again recall
-        × (meaning (pin a b redo again (meaning a depth d) recall) depth d (address 3 []) ≡ Some 21) }
 {}
 
 /// The resubmitted record is that of a fresh run in the environment with one layer more.
@@ -329,15 +317,26 @@ pub fn resumed_store_holds_the_last<Row, Begun, Decision, Verdict, Value>()
 {}
 
 /// The premises are met by one definition with an If, an Until, a Foreach two of whose iterations go side by side, a counter that is
-/// incremented in the If that reads it and in the Until that tests it, a Skipped leaf, one with two attempts and one that is halted. Each
-/// run of it that is over has 33 events.
+/// incremented in the If that reads it and in the Until that tests it, a Skipped leaf, one with two attempts and one that is halted. There
+/// is a run of it to the end, event by event, and it has 33 events, as its meaning says.
 pub fn one_example_meets_the_premises()
     ensures { (d : Graph) × (m : Source ℕ ℕ ℕ Bool) × (depth : ℕ → ℕ) × (writes : (Address → ℕ → Option ℕ)) × (read : Reading ℕ)
-        × (the_if : Kind) × (the_until : Kind)
-        × IsInstance d m depth × ReadsBack d m (meaning m depth d) read × OneOrder d m writes (meaning m depth d)
-        × WritersHaveOrder d m writes (meaning m depth d) 1 the_if [] × WritersHaveOrder d m writes (meaning m depth d) 2 Leaf []
-        × WritersHaveOrder d m writes (meaning m depth d) 4 the_until []
-        × (total m (meaning m depth d) d [] ≡ 33) }
+        × (turns : (ℕ → ℕ)) × (tries : (Address → ℕ → ℕ)) × (knows : (Address → ℕ → ℕ → Bool))
+        × MeetsPremises d m depth writes read turns tries knows × (meaning m depth d (address 5 (1 ∷ [])) ≡ Some 4)
+        × (total m (meaning m depth d) d [] ≡ 33)
+        × (es : List Event) × (s : State ℕ ℕ ℕ Bool) × Run d m fresh es s × IsOver d m s × (length es ≡ 33) }
+{}
+
+/// And its resubmission from the Increment in the If, with a layer in which it adds two, meets them again: 25 events, and the Until has one
+/// iteration fewer.
+pub fn its_resubmission_meets_the_premises()
+    ensures { (d : Graph) × (m : Source ℕ ℕ ℕ Bool) × (depth : ℕ → ℕ) × (writes : (Address → ℕ → Option ℕ)) × (read : Reading ℕ)
+        × (b : Source ℕ ℕ ℕ Bool) × (c : Source ℕ ℕ ℕ Bool) × (chosen : (ℕ → Bool)) × (recall : (Address → ℕ))
+        × IsInstance d m depth × MeetsPremisesAgain d m depth writes read b c chosen recall
+        × (total (pin m b (redone d depth chosen) (closed_again d depth chosen) (meaning m depth d) recall)
+        (meaning (pin m b (redone d depth chosen) (closed_again d depth chosen) (meaning m depth d) recall) depth d) d [] ≡ 25)
+        × (meaning (pin m b (redone d depth chosen) (closed_again d depth chosen) (meaning m depth d) recall) depth d
+        (address 5 (0 ∷ [])) ≡ Some 4) }
 {}
 
 /// Tables that have rows only in the definition, and there the same ones, are equal. So what is said of a record's table holds however the

@@ -31,7 +31,8 @@ numbered_below n (a ∷ more) m lt = rw (ne_eqb n m (omega (arith, lt))) (number
 pub needs_are : (n : ℕ) (actions : List ActionTree) (m : ℕ) → needs_of (graph_from n actions) m ≡ after_in (numbered n actions m)
 needs_are n [] m = refl
 needs_are n (a ∷ more) m =
-    elim (nat_eq n m) as (λ b. cond b a.after (needs_of (graph_from (suc n) more) m) ≡ after_in (cond b (Some a) (numbered (suc n) more m))) [
+    elim (nat_eq n m) as (λ b. cond b a.after (needs_of (graph_from (suc n) more) m) ≡ after_in
+    (cond b (Some a) (numbered (suc n) more m))) [
       | true ↦ refl
       | false ↦ needs_are (suc n) more m
     ]
@@ -52,18 +53,23 @@ has_own_is n (a ∷ more) m =
       | false ↦ has_own_is (suc n) more m
     ]
 
-pub owner_is : (n : ℕ) (actions : List ActionTree) (m : ℕ) → is_some (numbered n actions m) ≡ true → owner (graph_from n actions) [] (address m []) ≡ Some m
+pub owner_is : (n : ℕ) (actions : List ActionTree) (m : ℕ) → is_some (numbered n actions m) ≡ true →
+    owner (graph_from n actions) [] (address m []) ≡ Some m
 owner_is n [] m there = absurd (true≢false (sym there))
-owner_is n (a ∷ more) m there = ⊎_elim here (λ other. later other (owner_is (suc n) more m (subst (λ b. is_some (cond b (Some a) (numbered (suc n) more m)) ≡ true) other there))) (two (nat_eq n m))
+owner_is n (a ∷ more) m there = ⊎_elim here
+    (λ other. later other (owner_is (suc n) more m
+    (subst (λ b. is_some (cond b (Some a) (numbered (suc n) more m)) ≡ true) other there))) (two (nat_eq n m))
   where
     here : nat_eq n m ≡ true → owner (graph_from n (a ∷ more)) [] (address m []) ≡ Some m
     here same = rw same (ap (λ x. Some x) (eqb-true n m same))
 
-    later : nat_eq n m ≡ false → owner (graph_from (suc n) more) [] (address m []) ≡ Some m → owner (graph_from n (a ∷ more)) [] (address m []) ≡ Some m
+    later : nat_eq n m ≡ false → owner (graph_from (suc n) more) [] (address m []) ≡ Some m →
+        owner (graph_from n (a ∷ more)) [] (address m []) ≡ Some m
     later other rest = rw other rest
 
 -- one that is later in the list has a greater number
-pub numbered_later : (n : ℕ) (a : ActionTree) (more : List ActionTree) (m : ℕ) (b : ActionTree) → numbered (suc n) more m ≡ Some b → numbered n (a ∷ more) m ≡ Some b
+pub numbered_later : (n : ℕ) (a : ActionTree) (more : List ActionTree) (m : ℕ) (b : ActionTree) → numbered (suc n) more m ≡ Some b →
+    numbered n (a ∷ more) m ≡ Some b
 numbered_later n a more m b is = ⊎_elim same other (two (nat_eq n m))
   where
     same : nat_eq n m ≡ true → numbered n (a ∷ more) m ≡ Some b

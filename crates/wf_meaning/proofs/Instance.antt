@@ -20,7 +20,8 @@ module _ (actions : List ActionTree) (all : all_end actions ≡ true) where
       go zero ended = absurd (true≢false ended)
       go (suc rounds) ended = ended_there actions rounds p (before_ended actions rounds n p a is ended names)
 
-  named_by : (found : Option ActionTree) (n p : ℕ) → slice_get actions n ≡ found → Names (after_in found) p → depth_of actions p < depth_of actions n
+  named_by : (found : Option ActionTree) (n p : ℕ) → slice_get actions n ≡ found → Names (after_in found) p →
+      depth_of actions p < depth_of actions n
   named_by None n p is names = absurd names
   named_by (Some a) n p is names = deeper actions (length actions) n p a is (ends actions n all (ap is_some is)) names
 
@@ -36,7 +37,8 @@ module _ (actions : List ActionTree) (all : all_end actions ≡ true) where
   pub within : (n : ℕ) → is_some (slice_get actions n) ≡ true → (has (graph_of actions) n && true) ≡ true
   within n is = and_of _ _ (has_is 0 actions n ∙ there n is) refl
 
-  seen : (n p : ℕ) (a : ActionTree) → slice_get actions n ≡ Some a → Names a.after p → SeenIn (graph_of actions) (address n []) (address p [])
+  seen : (n p : ℕ) (a : ActionTree) → slice_get actions n ≡ Some a → Names a.after p →
+      SeenIn (graph_of actions) (address n []) (address p [])
   seen n p a is names = (within p (waited_there n p a is names), inl lower)
     where
       before : IsBefore (graph_of actions) p n
@@ -52,11 +54,14 @@ module _ (actions : List ActionTree) (all : all_end actions ≡ true) where
       go (inl t) = has_is (suc n) more m ∙ ap is_some (numbered_below (suc n) more m (omega (arith, eqb-true n m t)))
       go (inr f) = absurd (true≢false (sym is ∙ ap (λ b. b || false) f))
 
-  at_no_index : (n p : ℕ) (i : List ℕ) → length i ≡ 0 → SeenIn (graph_of actions) (address n []) (address p []) → SeenIn (graph_of actions) (address n i) (address p i)
+  at_no_index : (n p : ℕ) (i : List ℕ) → length i ≡ 0 → SeenIn (graph_of actions) (address n []) (address p []) →
+      SeenIn (graph_of actions) (address n i) (address p i)
   at_no_index n p [] none sees = sees
   at_no_index n p (j ∷ js) none sees = absurd (omega (arith, none))
 
-  sound_from : (n : ℕ) (rest : List ActionTree) → ((m : ℕ) (a : ActionTree) → numbered n rest m ≡ Some a → slice_get actions m ≡ Some a) → Sound (source actions) (SeenIn (graph_of actions)) (graph_from n rest) 0
+  sound_from : (n : ℕ) (rest : List ActionTree) →
+      ((m : ℕ) (a : ActionTree) → numbered n rest m ≡ Some a → slice_get actions m ≡ Some a) →
+      Sound (source actions) (SeenIn (graph_of actions)) (graph_from n rest) 0
   sound_from n [] stands = tt
   sound_from n (a ∷ more) stands =
       let is : slice_get actions n ≡ Some a = stands n a (rw (same_self n)) in (
@@ -70,7 +75,9 @@ module _ (actions : List ActionTree) (all : all_end actions ≡ true) where
   pub local : Sound (source actions) (SeenIn (graph_of actions)) (graph_of actions) 0
   local = sound_from 0 actions (λ m a e. sym (numbered_is actions m) ∙ e)
 
-  closed_from : (n : ℕ) (rest : List ActionTree) → ((m : ℕ) (a : ActionTree) → numbered n rest m ≡ Some a → slice_get actions m ≡ Some a) → Closed (graph_from n rest) (graph_of actions)
+  closed_from : (n : ℕ) (rest : List ActionTree) →
+      ((m : ℕ) (a : ActionTree) → numbered n rest m ≡ Some a → slice_get actions m ≡ Some a) →
+      Closed (graph_from n rest) (graph_of actions)
   closed_from n [] stands = tt
   closed_from n (a ∷ more) stands =
       let is : slice_get actions n ≡ Some a = stands n a (rw (same_self n)) in (

@@ -27,13 +27,15 @@ not_true true on = absurd (true≢false (sym on))
 not_true false on = refl
 
 -- a need of which this holds
-named_one : (holds : ℕ → Bool) (needs : List Need) → list_any (λ need. holds need.name) needs ≡ true → (p : ℕ) × Names needs p × (holds p ≡ true)
+named_one : (holds : ℕ → Bool) (needs : List Need) → list_any (λ need. holds need.name) needs ≡ true →
+    (p : ℕ) × Names needs p × (holds p ≡ true)
 named_one holds [] on = absurd (true≢false (sym on))
 named_one holds (need ∷ needs) on =
     ⊎_elim (λ here. (need.name, inl refl, here))
     (λ later. let found = named_one holds needs later in (found.0, inr found.1, found.2)) (or_in (holds need.name) _ on)
 
-named_any : (holds : ℕ → Bool) (needs : List Need) (p : ℕ) → Names needs p → holds p ≡ true → list_any (λ need. holds need.name) needs ≡ true
+named_any : (holds : ℕ → Bool) (needs : List Need) (p : ℕ) → Names needs p → holds p ≡ true →
+    list_any (λ need. holds need.name) needs ≡ true
 named_any holds [] p names on = absurd names
 named_any holds (need ∷ needs) p names on = elim names [
   | inl is ↦ ap (λ b. b || list_any (λ need. holds need.name) needs) (ap holds is ∙ on)
@@ -71,7 +73,8 @@ module _ (actions : List ActionTree) (known : Table Row) where
   Below far = (p : ℕ) → IsJudged actions known p → fails actions known far p ≡ true → AnyFailed actions known
 
   at_status : (far n : ℕ) → IsJudged actions known n → Below far → (row : Row) (status : Status) → row.status ≡ status →
-      known (address n []) ≡ Some row → judge status (any_named (fails actions known far) (slice_get actions n)) ≡ true → AnyFailed actions known
+      known (address n []) ≡ Some row → judge status (any_named (fails actions known far) (slice_get actions n)) ≡ true →
+      AnyFailed actions known
   at_status far n judged low row Succeeded is there judging = absurd (true≢false (sym judging))
   at_status far n judged low row Failed is there judging = (n, judged, subst HasFailed (sym there) (inl is))
   at_status far n judged low row Skipped is there judging =
@@ -129,21 +132,24 @@ module _ (actions : List ActionTree) (known : Table Row) where
       let one = named_one (fails actions known far) action.after e in
       named_any (fails actions known (suc far)) action.after one.0 one.1 (longer one.0 one.2)
 
-  judge_longer : (before after : Bool) → (before ≡ true → after ≡ true) → (status : Status) → judge status before ≡ true → judge status after ≡ true
+  judge_longer : (before after : Bool) → (before ≡ true → after ≡ true) → (status : Status) → judge status before ≡ true →
+      judge status after ≡ true
   judge_longer before after on Succeeded e = e
   judge_longer before after on Failed e = refl
   judge_longer before after on Skipped e = on e
   judge_longer before after on TimedOut e = refl
   judge_longer before after on Cancelled e = refl
 
-  row_longer : (before after : Bool) → (before ≡ true → after ≡ true) → (found : Option Row) → judge_row found before ≡ true → judge_row found after ≡ true
+  row_longer : (before after : Bool) → (before ≡ true → after ≡ true) → (found : Option Row) → judge_row found before ≡ true →
+      judge_row found after ≡ true
   row_longer before after on None e = e
   row_longer before after on (Some row) e = judge_longer before after on row.status e
 
   fails_longer : (far : ℕ) → Longer far
   fails_longer zero = λ n on. absurd (true≢false (sym on))
   fails_longer (suc far) = λ n on.
-      row_longer (any_named (fails actions known far) (slice_get actions n)) (any_named (fails actions known (suc far)) (slice_get actions n))
+      row_longer (any_named (fails actions known far) (slice_get actions n))
+      (any_named (fails actions known (suc far)) (slice_get actions n))
       (named_longer far (fails_longer far) (slice_get actions n)) (known (address n [])) on
 
   fails_within : (more far most n : ℕ) → more + far ≡ most → fails actions known far n ≡ true → fails actions known most n ≡ true
@@ -154,7 +160,8 @@ module _ (actions : List ActionTree) (known : Table Row) where
   fails_up_to far most n le on = fails_within (most - far) far most n (omega (arith, le)) on
 
   module _ (all : all_end actions ≡ true) where
-    needs_below : (rounds : ℕ) (needs : List Need) → ((p : ℕ) → is_waiting actions rounds p ≡ false → depth_within actions rounds p < rounds) →
+    needs_below : (rounds : ℕ) (needs : List Need) →
+        ((p : ℕ) → is_waiting actions rounds p ≡ false → depth_within actions rounds p < rounds) →
         list_any (λ need. is_waiting actions rounds need.name) needs ≡ false → greatest (depth_within actions rounds) needs ≤ rounds
     needs_below rounds [] less none = omega arith
     needs_below rounds (need ∷ needs) less none =
@@ -163,7 +170,8 @@ module _ (actions : List ActionTree) (known : Table Row) where
 
     -- an action is less deep than the rounds after which it has ended
     shallow_at : (rounds : ℕ) → ((p : ℕ) → is_waiting actions rounds p ≡ false → depth_within actions rounds p < rounds) →
-        (found : Option ActionTree) → waits_for (is_waiting actions rounds) found ≡ false → greatest_of (depth_within actions rounds) found < suc rounds
+        (found : Option ActionTree) → waits_for (is_waiting actions rounds) found ≡ false →
+        greatest_of (depth_within actions rounds) found < suc rounds
     shallow_at rounds less None ended = omega arith
     shallow_at rounds less (Some action) ended = omega (arith, needs_below rounds action.after less ended)
 
@@ -175,7 +183,8 @@ module _ (actions : List ActionTree) (known : Table Row) where
     there n (last m lt unnamed) = is_there actions n lt
     there n (handed m p action judged skipped is names) = waited_there actions all m p action is names
 
-    climb : (n : ℕ) → IsJudged actions known n → fails actions known (suc (depth_of actions n)) n ≡ true → list_any Last (places 0 actions) ≡ true
+    climb : (n : ℕ) → IsJudged actions known n → fails actions known (suc (depth_of actions n)) n ≡ true →
+        list_any Last (places 0 actions) ≡ true
     climb n (last m lt unnamed) on =
         let low = shallow (length actions) n (ends actions n all (is_there actions n lt)) in
         let whole = fails_up_to (suc (depth_of actions n)) (length actions) n (omega (arith, low)) on in

@@ -80,21 +80,25 @@ module _ (actions : List ActionTree) where
   abbrev pub IsStuck : List Bool → Type 0
   IsStuck bs = (n : ℕ) → n < length bs → is_marked bs n ≡ false → is_ready bs (slice_get actions n) ≡ false
 
-  ready_ends : (bs : List Bool) (needs : List Need) → HaveEnded bs → list_all (λ need. is_marked bs need.name) needs ≡ true → list_any (λ need. is_waiting actions (marked bs) need.name) needs ≡ false
+  ready_ends : (bs : List Bool) (needs : List Need) → HaveEnded bs → list_all (λ need. is_marked bs need.name) needs ≡ true →
+      list_any (λ need. is_waiting actions (marked bs) need.name) needs ≡ false
   ready_ends bs [] ended ready = refl
   ready_ends bs (need ∷ needs) ended ready =
       let parts = and_in (is_marked bs need.name) (list_all (λ need. is_marked bs need.name) needs) ready in
       rw (ended need.name parts.0) (ready_ends bs needs ended parts.1)
 
-  ready_waits : (bs : List Bool) (found : Option ActionTree) → HaveEnded bs → is_ready bs found ≡ true → waits_for (is_waiting actions (marked bs)) found ≡ false
+  ready_waits : (bs : List Bool) (found : Option ActionTree) → HaveEnded bs → is_ready bs found ≡ true →
+      waits_for (is_waiting actions (marked bs)) found ≡ false
   ready_waits bs None ended ready = absurd (true≢false (sym ready))
   ready_waits bs (Some a) ended ready = ready_ends bs a.after ended ready
 
   -- a ready action is marked
-  pub one_more : (bs : List Bool) (n : ℕ) → HaveEnded bs → n < length bs → is_marked bs n ≡ false → is_ready bs (slice_get actions n) ≡ true → HaveEnded (set bs n true)
+  pub one_more : (bs : List Bool) (n : ℕ) → HaveEnded bs → n < length bs → is_marked bs n ≡ false →
+      is_ready bs (slice_get actions n) ≡ true → HaveEnded (set bs n true)
   one_more bs n ended lt off ready m on =
       rw (marked_more bs n lt off)
-      (⊎_elim (λ is. subst (λ k. is_waiting actions (suc (marked bs)) k ≡ false) (sym is) (ready_waits bs (slice_get actions n) ended ready))
+      (⊎_elim (λ is. subst (λ k. is_waiting actions (suc (marked bs)) k ≡ false) (sym is)
+      (ready_waits bs (slice_get actions n) ended ready))
       (λ before. ended_stays actions (marked bs) m (ended m before)) (marked_before bs n m on))
 
   absent_waits : (rounds n : ℕ) → length actions ≤ n → is_waiting actions rounds n ≡ true
@@ -105,42 +109,53 @@ module _ (actions : List ActionTree) where
       list_all (λ need. is_marked bs need.name) needs ≡ false → list_any (λ need. is_waiting actions rounds need.name) needs ≡ true
   some_waits bs rounds [] waits off = absurd (true≢false off)
   some_waits bs rounds (need ∷ needs) waits off =
-      ⊎_elim (λ on. or_right (is_waiting actions rounds need.name) _ (some_waits bs rounds needs waits (subst (λ b. (b && list_all (λ need. is_marked bs need.name) needs) ≡ false) on off)))
+      ⊎_elim (λ on. or_right (is_waiting actions rounds need.name) _
+      (some_waits bs rounds needs waits (subst (λ b. (b && list_all (λ need. is_marked bs need.name) needs) ≡ false) on off)))
       (λ unmarked. rw (waits need.name unmarked)) (two (is_marked bs need.name))
 
-  unready_waits : (bs : List Bool) (rounds : ℕ) (found : Option ActionTree) → ((m : ℕ) → is_marked bs m ≡ false → is_waiting actions rounds m ≡ true) →
+  unready_waits : (bs : List Bool) (rounds : ℕ) (found : Option ActionTree) →
+      ((m : ℕ) → is_marked bs m ≡ false → is_waiting actions rounds m ≡ true) →
       is_ready bs found ≡ false → waits_for (is_waiting actions rounds) found ≡ true
   unready_waits bs rounds None waits off = refl
   unready_waits bs rounds (Some a) waits off = some_waits bs rounds a.after waits off
 
   below_or_not : (bs : List Bool) → length bs ≡ length actions → (n : ℕ) → (n < length bs) ⊎ (length actions ≤ n)
-  below_or_not bs same n = ⊎_elim (λ t. inl (ltb-true n (length bs) t)) (λ f. inr (omega (arith, same, ltb-false n (length bs) f))) (two (ltb n (length bs)))
+  below_or_not bs same n = ⊎_elim (λ t. inl (ltb-true n (length bs) t)) (λ f. inr (omega (arith, same, ltb-false n (length bs) f)))
+      (two (ltb n (length bs)))
 
-  stuck_waits : (bs : List Bool) → length bs ≡ length actions → IsStuck bs → (rounds n : ℕ) → is_marked bs n ≡ false → is_waiting actions rounds n ≡ true
+  stuck_waits : (bs : List Bool) → length bs ≡ length actions → IsStuck bs → (rounds n : ℕ) → is_marked bs n ≡ false →
+      is_waiting actions rounds n ≡ true
   stuck_waits bs same stuck zero n off = refl
   stuck_waits bs same stuck (suc rounds) n off =
-      ⊎_elim (λ lt. unready_waits bs rounds (slice_get actions n) (stuck_waits bs same stuck rounds) (stuck n lt off)) (λ le. absent_waits (suc rounds) n le) (below_or_not bs same n)
+      ⊎_elim (λ lt. unready_waits bs rounds (slice_get actions n) (stuck_waits bs same stuck rounds) (stuck n lt off))
+      (λ le. absent_waits (suc rounds) n le) (below_or_not bs same n)
 
-  all_from : (test : ℕ → Bool) (n : ℕ) (rest : List ActionTree) → ((m : ℕ) → n ≤ m → m < n + length rest → test m ≡ true) → list_all test (places n rest) ≡ true
+  all_from : (test : ℕ → Bool) (n : ℕ) (rest : List ActionTree) → ((m : ℕ) → n ≤ m → m < n + length rest → test m ≡ true) →
+      list_all test (places n rest) ≡ true
   all_from test n [] each = refl
-  all_from test n (a ∷ more) each = rw (each n (omega arith) (omega arith)) (all_from test (suc n) more (λ m le lt. each m (omega (arith, le)) (omega (arith, lt))))
+  all_from test n (a ∷ more) each = rw (each n (omega arith) (omega arith))
+      (all_from test (suc n) more (λ m le lt. each m (omega (arith, le)) (omega (arith, lt))))
 
   -- All are marked, so all end; or none of the others is ready, so these never end.
-  pub marked_all : (bs : List Bool) → length bs ≡ length actions → HaveEnded bs → IsStuck bs → eqb (marked bs) (length actions) ≡ all_end actions
+  pub marked_all : (bs : List Bool) → length bs ≡ length actions → HaveEnded bs → IsStuck bs →
+      eqb (marked bs) (length actions) ≡ all_end actions
   marked_all bs same ended stuck = ⊎_elim all one (two (eqb (marked bs) (length actions)))
     where
       all : eqb (marked bs) (length actions) ≡ true → eqb (marked bs) (length actions) ≡ all_end actions
       all on =
           let whole : marked bs ≡ length actions = eqb-true _ _ on in
           on ∙ sym (all_from (λ m. not (is_waiting actions (length actions) m)) 0 actions
-          (λ m le lt. ap not (subst (λ k. is_waiting actions k m ≡ false) whole (ended m (all_are_marked bs m (whole ∙ sym same) (omega (arith, same, lt)))))))
+          (λ m le lt. ap not (subst (λ k. is_waiting actions k m ≡ false) whole
+          (ended m (all_are_marked bs m (whole ∙ sym same) (omega (arith, same, lt)))))))
 
       one : eqb (marked bs) (length actions) ≡ false → eqb (marked bs) (length actions) ≡ all_end actions
       one off =
           let left = one_is_left bs (omega (arith, marked_le bs, same, eqb-false _ _ off)) in
           let waits = stuck_waits bs same stuck (length actions) left.0 left.2 in
           off ∙ ⊎_elim
-          (λ ends. absurd (true≢false (sym (test_at (λ m. not (is_waiting actions (length actions) m)) actions left.0 ends (is_there actions left.0 (omega (arith, same, left.1)))) ∙ ap not waits)))
+          (λ ends. absurd (true≢false (sym
+          (test_at (λ m. not (is_waiting actions (length actions) m)) actions left.0 ends
+          (is_there actions left.0 (omega (arith, same, left.1)))) ∙ ap not waits)))
           (λ none. sym none) (two (all_end actions))
 
 none_marked : (size n : ℕ) → is_marked (replicate size false) n ≡ false

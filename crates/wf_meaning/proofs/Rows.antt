@@ -29,7 +29,8 @@ listed_alone (TimedOut ∷ ss) e = absurd (true≢false (sym e))
 listed_alone (Cancelled ∷ ss) e = absurd (true≢false (sym e))
 
 -- a fact of each action of a list
-waits_at : (test : ActionTree → Bool) (actions : List ActionTree) (n : ℕ) (a : ActionTree) → list_all test actions ≡ true → slice_get actions n ≡ Some a → test a ≡ true
+waits_at : (test : ActionTree → Bool) (actions : List ActionTree) (n : ℕ) (a : ActionTree) → list_all test actions ≡ true →
+    slice_get actions n ≡ Some a → test a ≡ true
 waits_at test [] n a all is = absurd (true≢false (sym (ap is_some is)))
 waits_at test (b ∷ more) zero a all is = subst (λ x. test x ≡ true) (cc) (and_in _ _ all).0
 waits_at test (b ∷ more) (suc n) a all is = waits_at test more n a (and_in _ _ all).1 is
@@ -39,42 +40,54 @@ module _ (actions : List ActionTree) where
   abbrev AllComposed : Table Row → List Need → Type 0
   AllComposed known needs = (p : ℕ) → Names needs p → (inputs : ValueTree) × (known (address p []) ≡ Some (composed inputs))
 
-  met : (known : Table Row) (needs : List Need) → list_all (λ need. is_succeeded_alone need.listed) needs ≡ true → AllComposed known needs → all_met (source actions) needs [] known ≡ true
+  met : (known : Table Row) (needs : List Need) → list_all (λ need. is_succeeded_alone need.listed) needs ≡ true →
+      AllComposed known needs → all_met (source actions) needs [] known ≡ true
   met known [] alone rows = refl
   met known (need ∷ needs) alone rows =
       let first = rows need.name (inl refl) in
-      and_of _ _ (rw first.1 (listed_alone need.listed (and_in _ _ alone).0)) (met known needs (and_in _ _ alone).1 (λ p names. rows p (inr names)))
+      and_of _ _ (rw first.1 (listed_alone need.listed (and_in _ _ alone).0))
+      (met known needs (and_in _ _ alone).1 (λ p names. rows p (inr names)))
 
-  look_at : (known : Table Row) (n : ℕ) (rest : List ActionTree) (m : ℕ) (a : ActionTree) → numbered n rest m ≡ Some a → all_met (source actions) a.after [] known ≡ true →
+  look_at : (known : Table Row) (n : ℕ) (rest : List ActionTree) (m : ℕ) (a : ActionTree) → numbered n rest m ≡ Some a →
+      all_met (source actions) a.after [] known ≡ true →
       look (source actions) (graph_from n rest) [] known (address m []) ≡ Some (composed (inputs_of actions m))
   look_at known n [] m a is open_all = absurd (true≢false (sym (ap is_some is)))
   look_at known n (b ∷ more) m a is open_all =
-      ⊎_elim here (λ other. later other (look_at known (suc n) more m a (subst (λ t. cond t (Some b) (numbered (suc n) more m) ≡ Some a) other is) open_all)) (two (nat_eq n m))
+      ⊎_elim here (λ other. later other (look_at known (suc n) more m a
+      (subst (λ t. cond t (Some b) (numbered (suc n) more m) ≡ Some a) other is) open_all)) (two (nat_eq n m))
     where
-      here : nat_eq n m ≡ true → look (source actions) (graph_from n (b ∷ more)) [] known (address m []) ≡ Some (composed (inputs_of actions m))
+      here : nat_eq n m ≡ true → look (source actions) (graph_from n (b ∷ more)) [] known (address m []) ≡ Some
+          (composed (inputs_of actions m))
       here same =
           let one : Some b ≡ Some a = subst (λ t. cond t (Some b) (numbered (suc n) more m) ≡ Some a) same is in
           let first : b ≡ a = cc in
-          let open_gate : all_met (source actions) b.after [] known ≡ true = subst (λ (x : ActionTree). all_met (source actions) x.after [] known ≡ true) (sym first) open_all in
+          let open_gate : all_met (source actions) b.after [] known ≡ true =
+          subst (λ (x : ActionTree). all_met (source actions) x.after [] known ≡ true) (sym first) open_all in
           rw (same, open_gate) (ap (λ k. Some (composed (inputs_of actions k))) (eqb-true n m same))
 
-      later : nat_eq n m ≡ false → look (source actions) (graph_from (suc n) more) [] known (address m []) ≡ Some (composed (inputs_of actions m)) →
+      later : nat_eq n m ≡ false → look (source actions) (graph_from (suc n) more) [] known (address m []) ≡ Some
+          (composed (inputs_of actions m)) →
           look (source actions) (graph_from n (b ∷ more)) [] known (address m []) ≡ Some (composed (inputs_of actions m))
       later other rest = rw other rest
 
 module _ (actions : List ActionTree) (all : all_end actions ≡ true) (alone : all_wait_for_success actions ≡ true) where
   -- the rows of what is less deep
   abbrev Below : ℕ → Type 0
-  Below most = (p : ℕ) (b : ActionTree) → depth_of actions p < most → slice_get actions p ≡ Some b → table_of actions (address p []) ≡ Some (composed b.inputs)
+  Below most = (p : ℕ) (b : ActionTree) → depth_of actions p < most → slice_get actions p ≡ Some b →
+      table_of actions (address p []) ≡ Some (composed b.inputs)
 
-  by_depth : (most n : ℕ) (a : ActionTree) → depth_of actions n < most → slice_get actions n ≡ Some a → table_of actions (address n []) ≡ Some (composed a.inputs)
+  by_depth : (most n : ℕ) (a : ActionTree) → depth_of actions n < most → slice_get actions n ≡ Some a →
+      table_of actions (address n []) ≡ Some (composed a.inputs)
   by_depth zero n a lt is = absurd (omega (arith, lt))
   by_depth (suc most) n a lt is =
-      let solves = meaning_obeys_the_rule (graph_of actions) (source actions) (depth_of actions) (falls actions all) (local actions all) (address n []) (within actions all n (ap is_some is)) in
-      let gate = met actions (table_of actions) a.after (waits_at (λ b. list_all (λ need. is_succeeded_alone need.listed) b.after) actions n a alone is) (earlier (by_depth most)) in
+      let solves = meaning_obeys_the_rule (graph_of actions) (source actions) (depth_of actions) (falls actions all) (local actions all)
+      (address n []) (within actions all n (ap is_some is)) in
+      let gate = met actions (table_of actions) a.after
+      (waits_at (λ b. list_all (λ need. is_succeeded_alone need.listed) b.after) actions n a alone is) (earlier (by_depth most)) in
       solves ∙ (look_at actions (table_of actions) 0 actions n a (numbered_is actions n ∙ is) gate ∙ rw is)
     where
-      at_once : Below most → (found : Option ActionTree) (p : ℕ) → slice_get actions p ≡ found → is_some found ≡ true → depth_of actions p < most → (inputs : ValueTree) × (table_of actions (address p []) ≡ Some (composed inputs))
+      at_once : Below most → (found : Option ActionTree) (p : ℕ) → slice_get actions p ≡ found → is_some found ≡ true →
+          depth_of actions p < most → (inputs : ValueTree) × (table_of actions (address p []) ≡ Some (composed inputs))
       at_once low None p is_it there less = absurd (true≢false (sym there))
       at_once low (Some b) p is_it there less = (b.inputs, low p b less is_it)
 
@@ -86,7 +99,8 @@ module _ (actions : List ActionTree) (all : all_end actions ≡ true) (alone : a
   pub row_at : (n : ℕ) (a : ActionTree) → slice_get actions n ≡ Some a → table_of actions (address n []) ≡ Some (composed a.inputs)
   row_at n a is = by_depth (suc (depth_of actions n)) n a (omega arith) is
 
-  from : (n : ℕ) (rest : List ActionTree) → ((m : ℕ) (a : ActionTree) → numbered n rest m ≡ Some a → slice_get actions m ≡ Some a) → rows_from (table_of actions) n rest ≡ map composed_at rest
+  from : (n : ℕ) (rest : List ActionTree) → ((m : ℕ) (a : ActionTree) → numbered n rest m ≡ Some a → slice_get actions m ≡ Some a) →
+      rows_from (table_of actions) n rest ≡ map composed_at rest
   from n [] stands = refl
   from n (a ∷ more) stands =
       rw (row_at n a (stands n a (rw (same_self n))), from (suc n) more (λ m b e. stands m b (numbered_later n a more m b e)))
@@ -102,7 +116,10 @@ module _ (actions : List ActionTree) (all : all_end actions ≡ true) (alone : a
       list_any (λ m. not (is_named actions m) && fails actions (table_of actions) (length actions) m) (places n rest) ≡ false
   none_fails n [] stands = refl
   none_fails n (a ∷ more) stands =
-      rw (fails_not (length actions) n a (stands n a (rw (same_self n))), none_fails (suc n) more (λ m b e. stands m b (numbered_later n a more m b e))) (off (is_named actions n))
+      rw (
+        fails_not (length actions) n a (stands n a (rw (same_self n))),
+        none_fails (suc n) more (λ m b e. stands m b (numbered_later n a more m b e)),
+      ) (off (is_named actions n))
     where
       off : (b : Bool) → (not b && false || false) ≡ false
       off true = refl

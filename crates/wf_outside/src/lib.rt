@@ -30,6 +30,3 @@ pub use mem_sink::MemSink;
 pub use mem_source::MemSource;
 pub use standard::{StdSink, StdSource};
 pub use traits::{Files, Sink, Source};
-
-#[cfg(test)]
-mod tests;

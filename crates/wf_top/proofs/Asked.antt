@@ -14,7 +14,8 @@ use Rattle.wf_top.specs.declared.words.Command.{Command}
 use Rattle.wf_top.specs.declared.words.Command.TheVariants.{Run}
 use Rattle.wf_top.specs.declared.form.FormFault.{FormFault}
 
-asked : (held : Held) (words : List (List ℕ)) (plan : Plan) (name : List ℕ) → AsksAmong words plan → ComesTo held plan name → Contains words name
+asked : (held : Held) (words : List (List ℕ)) (plan : Plan) (name : List ℕ) → AsksAmong words plan → ComesTo held plan name →
+    Contains words name
 asked held words (Says status text) name among comes = absurd comes
 asked held words (Reads first limit next) name among comes =
     elim comes [
@@ -22,11 +23,13 @@ asked held words (Reads first limit next) name among comes =
       | inr later ↦ asked held words (next later.0) name (among.1 later.0) later.2
     ]
 
-inputs_asks : (words : List (List ℕ)) (definition : DefinitionTree) (form : Result InputsTree FormFault) → AsksAmong words (judged_inputs definition form)
+inputs_asks : (words : List (List ℕ)) (definition : DefinitionTree) (form : Result InputsTree FormFault) →
+    AsksAmong words (judged_inputs definition form)
 inputs_asks words definition (Ok inputs) = tt
 inputs_asks words definition (Err fault) = tt
 
-definition_asks : (words : List (List ℕ)) (name : List ℕ) (form : Result DefinitionTree FormFault) → Contains words name → AsksAmong words (judged_definition name form)
+definition_asks : (words : List (List ℕ)) (name : List ℕ) (form : Result DefinitionTree FormFault) → Contains words name →
+    AsksAmong words (judged_definition name form)
 definition_asks words name (Ok definition) among = (among, λ file. inputs_asks words definition (form_of inputs_of file))
 definition_asks words name (Err fault) among = tt
 
@@ -41,10 +44,12 @@ plan_asks Run words is =
       λ file. definition_asks words (word words 2) (form_of definition_of file) (Contains-get_or words 2 [] more),
     )
 
-by_command : (held : Held) (words : List (List ℕ)) (command : Option Command) (old new : List (List ℕ)) (name : List ℕ) → command_of words ≡ command →
+by_command : (held : Held) (words : List (List ℕ)) (command : Option Command) (old new : List (List ℕ)) (name : List ℕ) →
+    command_of words ≡ command →
     FailedAt held (option_map (λ c. plan c words) command) old new name → Contains words name
 by_command held words None old new name is failed = absurd failed
-by_command held words (Some command) old new name is failed = asked held words (plan command words) name (plan_asks command words is) failed.0
+by_command held words (Some command) old new name is failed =
+    asked held words (plan command words) name (plan_asks command words is) failed.0
 
 -- the name that couldn't be read is one of the words
 pub failed_word : (held : Held) (words : List (List ℕ)) (old new : List (List ℕ)) (name : List ℕ) →

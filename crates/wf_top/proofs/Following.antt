@@ -9,7 +9,8 @@ use Rattle.wf_top.specs.declared.load.Stop.TheVariants.{CannotRead, Memory}
 use Rattle.wf_top.specs.declared.said.Said.{Said}
 use Rattle.wf_top.specs.declared.said.Verdict.{Verdict}
 
-reaches_next : (held : Held) (name : List ℕ) (limit : ℕ) (next : Option (List ℕ) → Plan) (file : Option (List ℕ)) (old new : List (List ℕ)) (outcome : Outcome) →
+reaches_next : (held : Held) (name : List ℕ) (limit : ℕ) (next : Option (List ℕ) → Plan) (file : Option (List ℕ))
+    (old new : List (List ℕ)) (outcome : Outcome) →
     MayGive held name limit file → Reaches held (next file) old new outcome → Reaches held (Reads name limit next) old new outcome
 reaches_next held name limit next file old new Misused gives reaches = reaches
 reaches_next held name limit next file old new (Speaks status text) gives reaches = (reaches.0, (file, gives, reaches.1))
@@ -27,7 +28,8 @@ reaches_read held held' name limit next file plan old old' new outcome same give
     (rw is (subst (λ h. Reaches h plan old new outcome) same (subst (λ o. Reaches held' plan o new outcome) gives.1 reaches)))
 
 -- The read gave a file with a fault, which was said, unless memory ran out: P says that the fault isn't want of memory.
-pub reaches_fault : (held : Held) (name : List ℕ) (limit : ℕ) (next : Option (List ℕ) → Plan) (file : Option (List ℕ)) (old new : List (List ℕ))
+pub reaches_fault : (held : Held) (name : List ℕ) (limit : ℕ) (next : Option (List ℕ) → Plan) (file : Option (List ℕ))
+    (old new : List (List ℕ))
     (P : Type 0) (verdict : Verdict) (line : List ℕ) (result : Result Said Stop) →
     MayGive held name limit file × (new ≡ old) → (P → next file ≡ Says verdict line) →
     IfOk result (λ said. P × (said.verdict ≡ verdict) × (said.text.items ≡ line)) → IfErr result (λ stop. stop ≡ Memory) →

@@ -6,7 +6,8 @@ use Rattle.wf_meaning.specs.Marks.{is_marked}
 use Rattle.wf_top.specs.Plain.{success}
 
 -- the marks of numbers, and of what waits for the success of these numbers
-pub marked_names : (marks : List Bool) (ns : List ℕ) → list_all (λ (need : Need). is_marked marks need.name) (map success ns) ≡ list_all (is_marked marks) ns
+pub marked_names : (marks : List Bool) (ns : List ℕ) →
+    list_all (λ (need : Need). is_marked marks need.name) (map success ns) ≡ list_all (is_marked marks) ns
 marked_names marks [] = refl
 marked_names marks (n ∷ ns) = ap (λ b. is_marked marks n && b) (marked_names marks ns)
 

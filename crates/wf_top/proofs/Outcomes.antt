@@ -24,8 +24,10 @@ no_longer : (xs : List (List ℕ)) (ys : List (List ℕ)) (x : List ℕ) → ys 
 no_longer xs ys x more same = omega (arith, ap length more, ap length same, length-append xs (x ∷ []))
 
 -- one read, where the files tell
-read_says : (next : Option (List ℕ) → Option (Verdict × List ℕ)) (limit : ℕ) (found : Option (List ℕ)) (file : Option (List ℕ)) (outcome : Verdict × List ℕ) →
-    option_map (within limit) found ≡ Some file → next file ≡ Some outcome → option_and_then (λ bytes. next (within limit bytes)) found ≡ Some outcome
+read_says : (next : Option (List ℕ) → Option (Verdict × List ℕ)) (limit : ℕ) (found : Option (List ℕ)) (file : Option (List ℕ))
+    (outcome : Verdict × List ℕ) →
+    option_map (within limit) found ≡ Some file → next file ≡ Some outcome →
+    option_and_then (λ bytes. next (within limit bytes)) found ≡ Some outcome
 read_says next limit None file outcome gives saying = cc
 read_says next limit (Some bytes) file outcome gives saying =
     let same : within limit bytes ≡ file = cc in rw same saying
@@ -35,12 +37,16 @@ pub one_said : (bytes_of : List ℕ → Option (List ℕ)) (plan : Plan) (status
     MaySay (Some bytes_of) plan status text → said_by bytes_of plan ≡ Some (status, text)
 one_said bytes_of (Says s t) status text saying = rw (saying.0, saying.1) refl
 one_said bytes_of (Reads name limit next) status text (file, gives, saying) =
-    read_says (λ f. said_by bytes_of (next f)) limit (bytes_of name) file (status, text) gives (one_said bytes_of (next file) status text saying)
+    read_says (λ f. said_by bytes_of (next f)) limit (bytes_of name) file (status, text) gives
+    (one_said bytes_of (next file) status text saying)
 
-said_at : (bytes_of : List ℕ → Option (List ℕ)) (plan : Option Plan) (old new : List (List ℕ)) (before after : Option (List ℕ)) (result : ℕ) (outcome : Outcome) →
-    Comes (Some bytes_of) plan old new outcome → new ≡ old → result ≡ status_of outcome → Appends before after (text_of outcome) → IsSaid (said_of bytes_of plan) before after result
+said_at : (bytes_of : List ℕ → Option (List ℕ)) (plan : Option Plan) (old new : List (List ℕ)) (before after : Option (List ℕ))
+    (result : ℕ) (outcome : Outcome) →
+    Comes (Some bytes_of) plan old new outcome → new ≡ old → result ≡ status_of outcome → Appends before after (text_of outcome) →
+    IsSaid (said_of bytes_of plan) before after result
 said_at bytes_of None old new before after result Misused comes same is all = inl (is, all)
-said_at bytes_of None old new before after result (Speaks status text) comes same is all = absurd (let e : Speaks status text ≡ Misused = comes.0 in cc)
+said_at bytes_of None old new before after result (Speaks status text) comes same is all =
+    absurd (let e : Speaks status text ≡ Misused = comes.0 in cc)
 said_at bytes_of None old new before after result (Unread name) comes same is all = absurd (let e : Unread name ≡ Misused = comes.0 in cc)
 said_at bytes_of None old new before after result Spent comes same is all = absurd (let e : Spent ≡ Misused = comes.0 in cc)
 said_at bytes_of (Some plan) old new before after result Misused comes same is all = absurd comes
@@ -50,8 +56,10 @@ said_at bytes_of (Some plan) old new before after result (Unread name) comes sam
 said_at bytes_of (Some plan) old new before after result Spent comes same is all = inr (is, all)
 
 -- where no count rose, that was said which the words say
-pub serves_said : (bytes_of : List ℕ → Option (List ℕ)) (plan : Option Plan) (old new : List (List ℕ)) (before after : Option (List ℕ)) (result : ℕ) →
-    Serves (Some bytes_of) plan old new before after result → new ≡ old → (result ≡ 4 → ⊥) → IsSaid (said_of bytes_of plan) before after result
+pub serves_said : (bytes_of : List ℕ → Option (List ℕ)) (plan : Option Plan) (old new : List (List ℕ)) (before after : Option (List ℕ))
+    (result : ℕ) →
+    Serves (Some bytes_of) plan old new before after result → new ≡ old → (result ≡ 4 → ⊥) →
+    IsSaid (said_of bytes_of plan) before after result
 serves_said bytes_of plan old new before after result serves same no_four =
     elim serves.writes [
       | inl all ↦ said_at bytes_of plan old new before after result serves.outcome serves.comes same all.0 all.1
@@ -65,7 +73,8 @@ failed_at held None old new name comes = absurd (let e : Unread name ≡ Misused
 failed_at held (Some plan) old new name comes = comes
 
 -- what 3 says
-pub three_at : (held : Held) (plan : Option Plan) (old new : List (List ℕ)) (before after : Option (List ℕ)) (result : ℕ) (outcome : Outcome) →
+pub three_at : (held : Held) (plan : Option Plan) (old new : List (List ℕ)) (before after : Option (List ℕ)) (result : ℕ)
+    (outcome : Outcome) →
     Comes held plan old new outcome → Writes before after (status_of outcome) (text_of outcome) result → result ≡ 3 →
     (name : List ℕ) × FailedAt held plan old new name × Appends before after (cannot_read name)
 three_at held plan old new before after result Misused comes writes three =
@@ -105,7 +114,8 @@ serves_unread held plan old new before after result serves =
     unread_at held plan old new before after result serves.outcome serves.comes serves.writes
 
 -- the status is one of 0 to 8
-le_at : (before after : Option (List ℕ)) (result : ℕ) (outcome : Outcome) → Writes before after (status_of outcome) (text_of outcome) result → result ≤ 8
+le_at : (before after : Option (List ℕ)) (result : ℕ) (outcome : Outcome) →
+    Writes before after (status_of outcome) (text_of outcome) result → result ≤ 8
 le_at before after result Misused writes = elim writes [ inl all ↦ omega (arith, all.0) | inr cut ↦ omega (arith, cut.0) ]
 le_at before after result (Speaks status text) writes =
     elim writes [ inl all ↦ omega (arith, all.0, number_le status) | inr cut ↦ omega (arith, cut.0) ]
@@ -151,7 +161,8 @@ misused_at before after result Spent is writes = absurd (cc)
 -- words that are no command
 pub serves_misused : (held : Held) (plan : Option Plan) (old new : List (List ℕ)) (before after : Option (List ℕ)) (result : ℕ) →
     Serves held plan old new before after result → plan ≡ None → (result ≡ 2) ⊎ (result ≡ 4)
-serves_misused held None old new before after result serves none = misused_at before after result serves.outcome serves.comes.0 serves.writes
+serves_misused held None old new before after result serves none =
+    misused_at before after result serves.outcome serves.comes.0 serves.writes
 serves_misused held (Some plan) old new before after result serves none = absurd (cc)
 
 -- no plan, no command

@@ -18,21 +18,29 @@ use Rattle.wf_top.specs.Limits.{definition_bytes, inputs_bytes}
 
 -- What `run` may say: what was found in its files, the verdict and the text.
 data RunOutcome (held : Held) (def inputs : List ℕ) (verdict : Verdict) (text : List ℕ) : Type 0 where
-  done : (definition : DefinitionTree) (handed : InputsTree) → Gives held def definition_bytes definition_of (Ok definition) → Gives held inputs inputs_bytes inputs_of (Ok handed) →
+  done : (definition : DefinitionTree) (handed : InputsTree) → Gives held def definition_bytes definition_of (Ok definition) →
+      Gives held inputs inputs_bytes inputs_of (Ok handed) →
       number verdict ≡ 0 → text ≡ run_text definition handed → RunOutcome held def inputs verdict text
-  no_definition : (fault : FormFault) → Gives held def definition_bytes definition_of (Err fault) → number verdict ≡ 1 → text ≡ fault_line (codes "definition ") fault → RunOutcome held def inputs verdict text
-  no_inputs : (definition : DefinitionTree) (fault : FormFault) → Gives held def definition_bytes definition_of (Ok definition) → Gives held inputs inputs_bytes inputs_of (Err fault) →
+  no_definition : (fault : FormFault) → Gives held def definition_bytes definition_of (Err fault) → number verdict ≡ 1 →
+      text ≡ fault_line (codes "definition ") fault → RunOutcome held def inputs verdict text
+  no_inputs : (definition : DefinitionTree) (fault : FormFault) → Gives held def definition_bytes definition_of (Ok definition) →
+      Gives held inputs inputs_bytes inputs_of (Err fault) →
       number verdict ≡ 6 → text ≡ fault_line (codes "inputs ") fault → RunOutcome held def inputs verdict text
 
 module _ (held : Held) (def inputs : List ℕ) (verdict : Verdict) (text : List ℕ) where
-  after_inputs : (definition : DefinitionTree) → Gives held def definition_bytes definition_of (Ok definition) → (file : Option (List ℕ)) → MayGive held inputs inputs_bytes file →
-      (form : Result InputsTree FormFault) → form_of inputs_of file ≡ form → MaySay held (judged_inputs definition form) verdict text → RunOutcome held def inputs verdict text
+  after_inputs : (definition : DefinitionTree) → Gives held def definition_bytes definition_of (Ok definition) →
+      (file : Option (List ℕ)) → MayGive held inputs inputs_bytes file →
+      (form : Result InputsTree FormFault) → form_of inputs_of file ≡ form → MaySay held (judged_inputs definition form) verdict text →
+      RunOutcome held def inputs verdict text
   after_inputs definition given file may (Ok handed) is saying = done definition handed given (file, may, is) (ap number saying.0) saying.1
-  after_inputs definition given file may (Err fault) is saying = no_inputs definition fault given (file, may, is) (ap number saying.0) saying.1
+  after_inputs definition given file may (Err fault) is saying =
+      no_inputs definition fault given (file, may, is) (ap number saying.0) saying.1
 
-  after_definition : (file : Option (List ℕ)) → MayGive held def definition_bytes file → (form : Result DefinitionTree FormFault) → form_of definition_of file ≡ form →
+  after_definition : (file : Option (List ℕ)) → MayGive held def definition_bytes file → (form : Result DefinitionTree FormFault) →
+      form_of definition_of file ≡ form →
       MaySay held (judged_definition inputs form) verdict text → RunOutcome held def inputs verdict text
-  after_definition file may (Ok definition) is saying = after_inputs definition (file, may, is) saying.0 saying.1 (form_of inputs_of saying.0) refl saying.2
+  after_definition file may (Ok definition) is saying =
+      after_inputs definition (file, may, is) saying.0 saying.1 (form_of inputs_of saying.0) refl saying.2
   after_definition file may (Err fault) is saying = no_definition fault (file, may, is) (ap number saying.0) saying.1
 
   run_comes : MaySay held (run def inputs) verdict text → RunOutcome held def inputs verdict text
@@ -100,11 +108,14 @@ module _ (held : Held) (words : List (List ℕ)) (old new : List (List ℕ)) (be
   ran_by command s (no_definition fault given status text) zero = absurd (omega (arith, s.is, status))
   ran_by command s (no_inputs definition fault given given' status text) zero = absurd (omega (arith, s.is, status))
 
-  pub serves_ran : Serves held (plan_of words) old new before after result → command_of words ≡ Some Run → result ≡ 0 → Ran held words before after
+  pub serves_ran : Serves held (plan_of words) old new before after result → command_of words ≡ Some Run → result ≡ 0 →
+      Ran held words before after
   serves_ran serves command zero =
-      let s = spoke serves command (λ h. omega arith, λ h. omega arith, λ h. omega arith, λ h. omega arith) in ran_by command s (run_spoke s) zero
+      let s = spoke serves command (λ h. omega arith, λ h. omega arith, λ h. omega arith, λ h. omega arith) in
+      ran_by command s (run_spoke s) zero
 
-  definition_by : command_of words ≡ Some Run → (s : RunSpoke) → RunOutcome held (word words 1) (word words 2) s.verdict s.text → result ≡ 1 →
+  definition_by : command_of words ≡ Some Run → (s : RunSpoke) → RunOutcome held (word words 1) (word words 2) s.verdict s.text →
+      result ≡ 1 →
       RefusedDefinition held words before after
   definition_by command s (done definition handed given given' status text) one = absurd (omega (arith, s.is, status))
   definition_by command s (no_definition fault given status text) one =
@@ -139,7 +150,8 @@ module _ (held : Held) (words : List (List ℕ)) (old new : List (List ℕ)) (be
 -- ---- completeness
 
 -- a read of a file that is there
-read_on : (bytes_of : List ℕ → Option (List ℕ)) (name : List ℕ) (limit : ℕ) (next : Option (List ℕ) → Plan) (bytes : List ℕ) → bytes_of name ≡ Some bytes →
+read_on : (bytes_of : List ℕ → Option (List ℕ)) (name : List ℕ) (limit : ℕ) (next : Option (List ℕ) → Plan) (bytes : List ℕ) →
+    bytes_of name ≡ Some bytes →
     said_by bytes_of (Reads name limit next) ≡ said_by bytes_of (next (within limit bytes))
 read_on bytes_of name limit next bytes is = ap (λ file. option_and_then (λ bs. said_by bytes_of (next (within limit bs))) file) is
 
@@ -157,9 +169,11 @@ says_run : (bytes_of : List ℕ → Option (List ℕ)) (words : List (List ℕ))
 unfolding plan
 says_run bytes_of words definition inputs passes =
     ap (λ command. said_of bytes_of (option_map (λ c. plan c words) command)) passes.command
-    ∙ ap (λ (outcome : Option (Verdict × List ℕ)). option_map (λ said. (number said.0, said.1)) outcome) (run_said bytes_of (word words 1) (word words 2) definition inputs passes.definition_held passes.inputs_held)
+    ∙ ap (λ (outcome : Option (Verdict × List ℕ)). option_map (λ said. (number said.0, said.1)) outcome)
+    (run_said bytes_of (word words 1) (word words 2) definition inputs passes.definition_held passes.inputs_held)
 
-whole_from : (said : Option (ℕ × List ℕ)) (before after : Option (List ℕ)) (text : List ℕ) (result : ℕ) → said ≡ Some (0, text) → IsSaid said before after result → IsWhole before after text result
+whole_from : (said : Option (ℕ × List ℕ)) (before after : Option (List ℕ)) (text : List ℕ) (result : ℕ) → said ≡ Some (0, text) →
+    IsSaid said before after result → IsWhole before after text result
 whole_from None before after text result is saying = absurd (cc)
 whole_from (Some s) before after text result is saying =
     let status : s.0 ≡ 0 = cc in
@@ -167,10 +181,13 @@ whole_from (Some s) before after text result is saying =
     elim saying [ inl all ↦ inl (all.0 ∙ status, rw same at all.1) | inr spent ↦ inr spent ]
 
 -- where all tests pass and no count rose, the whole text was taken, or memory ran out
-pub serves_whole : (held : Held) (words : List (List ℕ)) (old new : List (List ℕ)) (before after : Option (List ℕ)) (count later result : ℕ) →
+pub serves_whole : (held : Held) (words : List (List ℕ)) (old new : List (List ℕ)) (before after : Option (List ℕ))
+    (count later result : ℕ) →
     IfSome held (λ bytes_of. new ≡ old → IsCalm count later → IsSaid (say bytes_of words) before after result) →
-    IfSome held (λ bytes_of. (definition : DefinitionTree) (inputs : InputsTree) → PassesAll bytes_of words definition inputs → new ≡ old → IsCalm count later →
+    IfSome held (λ bytes_of. (definition : DefinitionTree) (inputs : InputsTree) → PassesAll bytes_of words definition inputs →
+    new ≡ old → IsCalm count later →
     IsWhole before after (run_text definition inputs) result)
 serves_whole None words old new before after count later result said = tt
 serves_whole (Some bytes_of) words old new before after count later result said = λ definition inputs passes same calm.
-    whole_from (say bytes_of words) before after (run_text definition inputs) result (says_run bytes_of words definition inputs passes) (said same calm)
+    whole_from (say bytes_of words) before after (run_text definition inputs) result (says_run bytes_of words definition inputs passes)
+    (said same calm)

@@ -20,9 +20,11 @@ all_wait [] = refl
 all_wait (a ∷ more) = rw (waits a.after.items) (all_wait more)
 
 -- each runs
-pub rows_are : (actions : List Action) → all_end (map action_tree actions) ≡ true → rows_of (map action_tree actions) ≡ map composed_at (map action_tree actions)
+pub rows_are : (actions : List Action) → all_end (map action_tree actions) ≡ true →
+    rows_of (map action_tree actions) ≡ map composed_at (map action_tree actions)
 rows_are actions all = meant.all_are_composed (map action_tree actions) all (all_wait actions)
 
 -- and the graph Succeeded
-pub status_is : (actions : List Action) → all_end (map action_tree actions) ≡ true → graph_status (map action_tree actions) (table_of (map action_tree actions)) ≡ Succeeded
+pub status_is : (actions : List Action) → all_end (map action_tree actions) ≡ true →
+    graph_status (map action_tree actions) (table_of (map action_tree actions)) ≡ Succeeded
 status_is actions all = meant.the_graph_succeeds (map action_tree actions) all (all_wait actions)

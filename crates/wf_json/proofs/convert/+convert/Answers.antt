@@ -31,7 +31,8 @@ convert_members-append-requires t c =
     let e : Entry = (c.in-Some.name, c.in-Some.member) in
     let left = c.next.new.self in
     let all : c.args.members.entries ≡ done ++ e ∷ left = l.invariant.1 ∙ ap (λ es. done ++ es) c.in-Some.ensures.steps in
-    rw (c.from_string.ensures, l.invariant.2) (above_done done e left (subst (λ es. IsStrictlySortedBy string_cmp (keys_of es)) all c.len-count.ensures.ordered))
+    rw (c.from_string.ensures, l.invariant.2)
+    (above_done done e left (subst (λ es. IsStrictlySortedBy string_cmp (keys_of es)) all c.len-count.ensures.ordered))
 
 pub convert_members-loop-name-preserved : goal.convert_members-loop-name-preserved
 convert_members-loop-name-preserved t c =
@@ -42,11 +43,13 @@ convert_members-loop-name-preserved t c =
     let all : c.args.members.entries ≡ done ++ e ∷ left = l.invariant.1 ∙ ap (λ es. done ++ es) c.in-Some.ensures.steps in (
       done ++ e ∷ [],
       all ∙ sym (append_assoc done (e ∷ []) left),
-      c.in_ok-append.ensures.ok ∙ rw (c.from_string.ensures, c.in_ok-convert.ensures, l.invariant.2) (sym (map-one_more member_of_entry done e)),
+      c.in_ok-append.ensures.ok
+          ∙ rw (c.from_string.ensures, c.in_ok-convert.ensures, l.invariant.2) (sym (map-one_more member_of_entry done e)),
     )
 
 pub convert_members-returns : goal.convert_members-returns
 convert_members-returns t c =
     let l = c.loop-name in
-    let all : l.invariant.0 ≡ c.args.members.entries = sym (l.invariant.1 ∙ ap (λ es. l.invariant.0 ++ es) c.in-None.ensures.steps.0 ∙ append-nil l.invariant.0) in
+    let all : l.invariant.0 ≡ c.args.members.entries = sym
+    (l.invariant.1 ∙ ap (λ es. l.invariant.0 ++ es) c.in-None.ensures.steps.0 ∙ append-nil l.invariant.0) in
     rw (l.invariant.2, all) (members-map c.args.members.entries)

@@ -14,5 +14,6 @@ returns-in-Ok-clause-tree c =
 pub returns-else-is_memory-clause-fault : goal.returns-else-is_memory-clause-fault
 returns-else-is_memory-clause-fault c = λ other.
     let text = after_mark c.args.bytes.now in
-    let refused : (IsUtf8 text → read text ≡ None) = subst (λ t. IsUtf8 t → read t ≡ None) c.without_mark.ensures (c.in-Err.ensures.err (refuted c.is_memory.ensures c.if-is_memory.false)) in
+    let refused : (IsUtf8 text → read text ≡ None) = subst (λ t. IsUtf8 t → read t ≡ None) c.without_mark.ensures
+    (c.in-Err.ensures.err (refuted c.is_memory.ensures c.if-is_memory.false)) in
     ap read_json (none_unless_utf8 text (read text) refused)

@@ -1,23 +1,18 @@
-use Rattle.std.proofs.Common.{◌≡◌, ℕ, List, arith, map, get_or, ap}
-use Rattle.wf_val.specs.Seen.{tree, member}
-use Rattle.wf_val.specs.ValueTree.{node_count, trees, trees_count, members, members_count}
-use Rattle.wf_val.specs.declared.val.Val.{Val}
-use Rattle.wf_val.proofs.NodeCountLemmas.{item_count-le, member_count-le}
+use Rattle.std.proofs.Common.{arith}
+use Rattle.wf_val.proofs.NodeCountLemmas.{item-falls, member-falls}
 use Rattle.wf_json.proofs.writing.+put.Goals as goal
 
 pub put_items-put-requires : goal.put_items-put-requires
 put_items-put-requires t c =
-    let vs : List Val = c.as_slice-item-items.result.now in
-    let whole : trees_count (trees (map tree vs)) ≡ trees_count (trees c.args.items.now) = ap (λ ts. trees_count (trees ts)) c.as_slice-item-items.ensures in
-    let same : node_count (tree c.item-item.result) ≡ node_count (tree (get_or vs c.loop-item.item-index c.item-item.result)) = ap (λ v. node_count (tree v)) {y = get_or vs c.loop-item.item-index c.item-item.result} c.item-item.is in
-    let here = item_count-le vs c.loop-item.item-index c.item-item.result (omega arith) in
-    omega (arith, c.decreases, whole, same, here)
+    let vs = c.as_slice-item-items.result.now in
+    let seen = c.as_slice-item-items.ensures in
+    let here = item-falls c.args.items.now vs c.loop-item.item-index c.item-item.result seen (omega arith) c.item-item.is in
+    omega (arith, c.decreases, here)
 
 pub put_members-put-requires : goal.put_members-put-requires
 put_members-put-requires t c =
-    let vs : List (List ℕ × Val) = c.as_slice-name-items.result.now in
-    let item = c.loop-name-item.result in
-    let whole : members_count (members (map member vs)) ≡ members_count (members c.args.fields.now) = ap (λ ts. members_count (members ts)) c.as_slice-name-items.ensures.members in
-    let same : node_count (tree item.1) ≡ node_count (tree (get_or vs c.loop-name.name-index item).1) = ap (λ (m : List ℕ × Val). node_count (tree m.1)) {y = get_or vs c.loop-name.name-index item} c.loop-name-item.is in
-    let here = member_count-le vs c.loop-name.name-index item (omega arith) in
-    omega (arith, c.decreases, whole, same, here)
+    let vs = c.as_slice-name-items.result.now in
+    let seen = c.as_slice-name-items.ensures.members in
+    let m = c.loop-name-item.result in
+    let here = member-falls c.args.fields.now vs c.loop-name.name-index m seen (omega arith) c.loop-name-item.is in
+    omega (arith, c.decreases, here)

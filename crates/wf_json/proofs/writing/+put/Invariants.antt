@@ -17,9 +17,11 @@ decreases-put_members l = 2 * members_count (members l.fields.now) + 1
 abbrev pub invariant-put_items-loop-item : goal.invariant-put_items-loop-item
 invariant-put_items-loop-item l =
     (l.out.before ≡ l.initial.out.before)
-    × (l.out.tokens ++ item_tokens (trees (map tree (drop l.item-index l.item-items))) ≡ l.initial.out.tokens ++ item_tokens (trees l.items))
+    × (l.out.tokens ++ item_tokens (trees (map tree (drop l.item-index l.item-items))) ≡ l.initial.out.tokens ++ item_tokens
+    (trees l.items))
 
 abbrev pub invariant-put_members-loop-name : goal.invariant-put_members-loop-name
 invariant-put_members-loop-name l =
     (l.out.before ≡ l.initial.out.before)
-    × (l.out.tokens ++ member_tokens (members (map member (drop l.name-index l.name-items))) ≡ l.initial.out.tokens ++ member_tokens (members l.fields))
+    × (l.out.tokens ++ member_tokens (members (map member (drop l.name-index l.name-items))) ≡ l.initial.out.tokens ++ member_tokens
+    (members l.fields))

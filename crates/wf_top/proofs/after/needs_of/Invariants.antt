@@ -7,4 +7,6 @@ use Rattle.wf_top.proofs.after.needs_of.Given as goal
 -- what is found so far, and what is found in the rest, is what is found in all
 abbrev pub invariant-loop-name : goal.invariant-loop-name
 invariant-loop-name l =
-    option_map (λ (more : List Need). map success l.places.items ++ more) (needs_of (map member l.all) (map member (drop l.name-index l.entries))) ≡ needs_of (map member l.all) (map member l.entries)
+    option_map (λ (more : List Need). map success l.places.items ++ more)
+    (needs_of (map member l.all) (map member (drop l.name-index l.entries)))
+    ≡ needs_of (map member l.all) (map member l.entries)

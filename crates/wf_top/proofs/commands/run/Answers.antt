@@ -16,11 +16,15 @@ returns-in_err-file-clause-follows g c =
 
 pub returns-in-Ok-clause-follows : goal.returns-in-Ok-clause-follows
 returns-in-Ok-clause-follows g c =
-    reaches_read _ _ _ _ (λ file. judged_definition c.args.inputs.now (form_of definition_of file)) _ (judged_definition c.args.inputs.now (Ok (definition_tree c.in-Ok.definition))) _ _ _ _
-    c.load.ensures.same c.in_ok-file.ensures.gives (ap (judged_definition c.args.inputs.now) c.in-Ok.ensures.form) c.run_definition.ensures.follows
+    reaches_read _ _ _ _ (λ file. judged_definition c.args.inputs.now (form_of definition_of file)) _
+    (judged_definition c.args.inputs.now (Ok (definition_tree c.in-Ok.definition))) _ _ _ _
+    c.load.ensures.same c.in_ok-file.ensures.gives (ap (judged_definition c.args.inputs.now) c.in-Ok.ensures.form)
+    c.run_definition.ensures.follows
 
 pub returns-in-Err-clause-follows : goal.returns-in-Err-clause-follows
 returns-in-Err-clause-follows g c =
     let fault = c.in-Err.fault in
-    reaches_fault _ _ _ (λ file. judged_definition c.args.inputs.now (form_of definition_of file)) _ _ _ (fault ≢ FormFault.Memory) Definition (fault_line (codes "definition ") fault) _
-    c.in_ok-file.ensures.gives (λ other. ap (judged_definition c.args.inputs.now) (c.in-Err.ensures.fault other)) c.say_fault.ensures.said c.say_fault.ensures.stopped
+    reaches_fault _ _ _ (λ file. judged_definition c.args.inputs.now (form_of definition_of file)) _ _ _ (fault ≢ FormFault.Memory)
+    Definition (fault_line (codes "definition ") fault) _
+    c.in_ok-file.ensures.gives (λ other. ap (judged_definition c.args.inputs.now) (c.in-Err.ensures.fault other))
+    c.say_fault.ensures.said c.say_fault.ensures.stopped

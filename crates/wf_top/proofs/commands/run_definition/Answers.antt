@@ -17,5 +17,7 @@ returns-in_err-file-clause-follows g c =
 pub returns-in-Err-clause-follows : goal.returns-in-Err-clause-follows
 returns-in-Err-clause-follows g c =
     let fault = c.in-Err.fault in
-    reaches_fault _ _ _ (λ file. judged_inputs (definition_tree c.args.definition) (form_of inputs_of file)) _ _ _ (fault ≢ FormFault.Memory) Inputs (fault_line (codes "inputs ") fault) _
-    c.in_ok-file.ensures.gives (λ other. ap (judged_inputs (definition_tree c.args.definition)) (c.in-Err.ensures.fault other)) c.say_fault.ensures.said c.say_fault.ensures.stopped
+    reaches_fault _ _ _ (λ file. judged_inputs (definition_tree c.args.definition) (form_of inputs_of file)) _ _ _
+    (fault ≢ FormFault.Memory) Inputs (fault_line (codes "inputs ") fault) _
+    c.in_ok-file.ensures.gives (λ other. ap (judged_inputs (definition_tree c.args.definition)) (c.in-Err.ensures.fault other))
+    c.say_fault.ensures.said c.say_fault.ensures.stopped

@@ -44,4 +44,5 @@ returns c =
     let bs : List Bool = c.loop-place.marks.items in
     let stuck = rw c.deref.ensures.value at c.in_default.ensures.stuck in
     let size = length-map c.args.actions.now action_tree in
-    rw (c.loop-place.invariant.counted, ← size) (marked_all (map action_tree c.args.actions.now) bs (c.loop-place.invariant.same ∙ sym size) c.loop-place.invariant.ended stuck)
+    rw (c.loop-place.invariant.counted, ← size)
+    (marked_all (map action_tree c.args.actions.now) bs (c.loop-place.invariant.same ∙ sym size) c.loop-place.invariant.ended stuck)

@@ -5,4 +5,5 @@ use Rattle.wf_top.proofs.cycles.first_ready.Given as goal
 
 -- none before is ready
 abbrev pub invariant-loop-place : goal.invariant-loop-place
-invariant-loop-place l = (n : ℕ) → n < l.place → is_marked l.marks n ≡ false → is_ready l.marks (slice_get (map action_tree l.actions) n) ≡ false
+invariant-loop-place l = (n : ℕ) → n < l.place → is_marked l.marks n ≡ false →
+    is_ready l.marks (slice_get (map action_tree l.actions) n) ≡ false

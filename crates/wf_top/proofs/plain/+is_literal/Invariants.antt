@@ -18,4 +18,5 @@ abbrev pub invariant-are_literal-loop-item : goal.invariant-are_literal-loop-ite
 invariant-are_literal-loop-item l = are_literal (trees (map tree (drop l.item-index l.item-items))) ≡ are_literal (trees l.items)
 
 abbrev pub invariant-have_literals-loop-value : goal.invariant-have_literals-loop-value
-invariant-have_literals-loop-value l = have_literals (members (map member (drop l.value-index l.value-items))) ≡ have_literals (members l.fields)
+invariant-have_literals-loop-value l =
+    have_literals (members (map member (drop l.value-index l.value-items))) ≡ have_literals (members l.fields)

@@ -6,4 +6,11 @@ pub returns : goal.returns
 unfolding meaning
 returns c =
     let actions = c.args.definition.actions.items in
-    rw (rows_are actions c.args.definition.ends, status_is actions c.args.definition.ends, c.in_ok-rows_of.ensures, c.in_ok-no_trigger.ensures, c.new.ensures, c.new-2.ensures)
+    rw (
+      rows_are actions c.args.definition.ends,
+      status_is actions c.args.definition.ends,
+      c.in_ok-rows_of.ensures,
+      c.in_ok-no_trigger.ensures,
+      c.new.ensures,
+      c.new-2.ensures,
+    )

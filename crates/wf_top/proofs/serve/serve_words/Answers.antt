@@ -13,7 +13,8 @@ pub returns-clause-said : goal.returns-clause-said
 returns-clause-said g c = serves_told _ _ _ _ _ _ _ _ _ c.serve.ensures.outcome c.serve.ensures.only
 
 pub returns-clause-two : goal.returns-clause-two
-returns-clause-two g c = λ two. no_command (λ command. plan command c.args.words.now) _ (serves_two _ _ _ _ _ _ _ c.serve.ensures.outcome two)
+returns-clause-two g c = λ two. no_command (λ command. plan command c.args.words.now) _
+    (serves_two _ _ _ _ _ _ _ c.serve.ensures.outcome two)
 
 pub returns-clause-misused : goal.returns-clause-misused
 returns-clause-misused g c = λ none.

@@ -1,0 +1,10 @@
+mod Meeting
+mod Grow
+mod Loops
+mod Chains
+mod MeasuredLemmas
+mod TreeLoops
+mod CondLoops
+mod Fitting
+mod Local
+mod Worked

@@ -1,0 +1,110 @@
+-- A text that is measured as it is put together is the text, where it fits.
+use Rattle.std.proofs.Common.{◌≡◌, ℕ, suc, ◌+◌, ◌<◌, ◌≤◌, ◌^◌, List, [], ◌∷◌, ◌++◌, Result, Ok, Err, map, length, drop, get_or, refl, sym, ◌∙◌, ap, subst, arith, le_refl, ◌⊎◌, inl, inr}
+use Rattle.std.proofs.lemmas.Bool.{lt-ltb, le-leb, le-ltb, lt-leb, cases_lt}
+use Rattle.std.proofs.lemmas.List.{length-append, drop_all}
+use Rattle.wf_val.specs.Arguments.{Answer}
+use Rattle.wf_val.specs.Cut.{cut_u64}
+use Rattle.wf_val.specs.ValueTree.{ValueTree, text}
+use Rattle.wf_val.specs.declared.fault.EvalFault.{EvalFault}
+use Rattle.wf_json.specs.Json as json_text
+use Rattle.wf_template.specs.TemplateSeen.{piece_tree}
+use Rattle.wf_template.specs.declared.template.Piece.{Piece}
+use Rattle.wf_eval.specs.Measured.{Measured, with_more, measured_answer, measured}
+use Rattle.wf_eval.specs.Meets.{Meets, MeetsFault}
+use Rattle.wf_eval.specs.Outcomes.{Run, go_on, turned}
+use Rattle.wf_eval.specs.TemplateValue.{piece_value, piece_runs, joined, text_answer}
+use Rattle.wf_eval.specs.Told.{Told}
+use Rattle.wf_eval.proofs.Grow.{AreGrowing, then_run-grows, handed, turned_fault}
+use Rattle.wf_eval.proofs.Loops.{drop-item}
+use Rattle.wf_eval.proofs.Meeting.{of_memory, meets}
+use Rattle.wf_eval.proofs.TreeLoops.{pieces-grow}
+
+-- the length is the text's, and as long as that fits all of the text is kept
+pub record IsOf (m : Measured) (s : List ℕ) : Type 0 where
+  pub long : m.1 ≡ cut_u64 (length s)
+  pub kept : length s < 2 ^ 20 → m.0 ≡ s
+
+more-is : (m : Measured) (s p : List ℕ) → IsOf m s → IsOf (with_more p m) (s ++ p)
+more-is m s p is =
+    let n : cut_u64 (m.1 + length p) ≡ cut_u64 (length (s ++ p)) = omega (arith, is.long, length-append s p) in
+    record {
+      long = n;
+      kept = λ lt. rw (lt-ltb (cut_u64 (m.1 + length p)) (2 ^ 20) (omega (arith, n, lt)))
+          (ap (λ x. x ++ p) (is.kept (omega (arith, lt, length-append s p))));
+    }
+
+answer-is : (m : Measured) (s : List ℕ) → IsOf m s → measured_answer m ≡ text_answer s
+answer-is m s is = go (cases_lt (length s) (2 ^ 20))
+  where
+    go : (length s < 2 ^ 20) ⊎ (2 ^ 20 ≤ length s) → measured_answer m ≡ text_answer s
+    go (inl lt) =
+        rw (lt-ltb m.1 (2 ^ 20) (omega (arith, is.long, lt)))
+        (rw (le-leb (1 + length s) (2 ^ 20) (omega (arith, lt))) (ap (λ x. Ok (text x)) (is.kept lt)))
+    go (inr le) =
+        let much : cut_u64 (suc m.1) ≡ cut_u64 (1 + length s) = omega (arith, is.long) in
+        rw (le-ltb m.1 (2 ^ 20) (omega (arith, is.long, le)))
+        (rw (lt-leb (1 + length s) (2 ^ 20) (omega (arith, le))) (ap (λ w. Err (EvalFault.TooBig 0 w)) much))
+
+-- the two ways to put the text together
+pub measured-is : (rs : List Run) (m : Measured) (s : List ℕ) (n : ℕ) → IsOf m s →
+    turned measured_answer (measured rs m n) ≡ turned text_answer (joined rs s n)
+measured-is [] m s n is = ap (λ a. (a, n)) (answer-is m s is)
+measured-is (r ∷ rs) m s n is = go (λ t k. measured-is rs (with_more (json_text.text t) m) (s ++ json_text.text t) k
+    (more-is m s (json_text.text t) is)) (r n).0 (r n).1
+  where
+    go : ((t : ValueTree) (q : ℕ) → turned measured_answer (measured rs (with_more (json_text.text t) m) q)
+        ≡ turned text_answer (joined rs (s ++ json_text.text t) q)) → (a : Answer) (k : ℕ) →
+        turned measured_answer (go_on a k (λ t q. measured rs (with_more (json_text.text t) m) q))
+        ≡ turned text_answer (go_on a k (λ t q. joined rs (s ++ json_text.text t) q))
+    go rest (Ok t) k = rest t k
+    go rest (Err f) k = refl
+
+-- from nothing on
+pub measured-whole : (rs : List Run) (n : ℕ) → turned measured_answer (measured rs ([], 0) n) ≡ turned text_answer (joined rs [] n)
+measured-whole rs n = measured-is rs ([], 0) [] n (record { long = refl; kept = λ lt. refl })
+
+measured-grows : (rs : List Run) → AreGrowing rs → (m : Measured) (n : ℕ) → n ≤ (measured rs m n).1
+measured-grows [] grow m n = le_refl n
+measured-grows (r ∷ rs) grow m n = then_run-grows n (r n) (λ t k. measured rs (with_more (json_text.text t) m) k) (grow.0 n)
+    (λ t k. measured-grows rs grow.1 (with_more (json_text.text t) m) k)
+
+-- ---- the loop over pieces
+
+-- a fault of a piece is the whole's
+pub fault_pieces : (l m : Told) (xs : List Piece) (i : ℕ) (x : Piece) (so_far : Measured) (n : ℕ) (f : EvalFault) (k : ℕ)
+    (all : Result Measured EvalFault × ℕ) →
+    i < length xs → x ≡ get_or xs i x → m ≡ l → measured (piece_runs l (map piece_tree (drop i xs))) so_far n ≡ all →
+    MeetsFault f (piece_value m (piece_tree x) n) k → MeetsFault f all k
+fault_pieces l m xs i x so_far n f k all lt e same rest_is met =
+    let rest = piece_runs l (map piece_tree (drop (suc i) xs)) in
+    subst (λ o. MeetsFault f o k) rest_is
+    (subst (λ ys. MeetsFault f (measured (piece_runs l (map piece_tree ys)) so_far n) k) (sym (drop-item xs i x lt e))
+    (handed (piece_value l (piece_tree x) n) (λ t q. measured rest (with_more (json_text.text t) so_far) q)
+    (λ t q. measured-grows rest (pieces-grow l (map piece_tree (drop (suc i) xs))) (with_more (json_text.text t) so_far) q) f k
+    (subst (λ t. MeetsFault f (piece_value t (piece_tree x) n) k) same met)))
+
+pub memory_pieces : (l m : Told) (xs : List Piece) (i : ℕ) (x : Piece) (so_far : Measured) (n k : ℕ) (all : Result Measured EvalFault × ℕ) →
+    i < length xs → x ≡ get_or xs i x → m ≡ l → measured (piece_runs l (map piece_tree (drop i xs))) so_far n ≡ all →
+    (piece_value m (piece_tree x) n).1 ≡ k → MeetsFault EvalFault.Memory all k
+memory_pieces l m xs i x so_far n k all lt e same rest_is words =
+    fault_pieces l m xs i x so_far n EvalFault.Memory k all lt e same rest_is
+    (of_memory (piece_value m (piece_tree x) n) k (rw words (le_refl k)))
+
+-- no piece is left
+pub measured_ends : (l : Told) (xs : List Piece) (i : ℕ) (so_far : Measured) (n : ℕ) (all : Result Measured EvalFault × ℕ) →
+    length xs ≤ i → measured (piece_runs l (map piece_tree (drop i xs))) so_far n ≡ all → all ≡ (Ok so_far, n)
+measured_ends l xs i so_far n all le rest_is = sym rest_is
+    ∙ ap (λ ys. measured (piece_runs l (map piece_tree ys)) so_far n) (drop_all i xs le)
+
+-- what is a fault of the measured text is one of the template
+pub of_measured : (rs : List Run) (n : ℕ) (f : EvalFault) (k : ℕ) → MeetsFault f (measured rs ([], 0) n) k →
+    MeetsFault f (turned text_answer (joined rs [] n)) k
+of_measured rs n f k met = subst (λ o. MeetsFault f o k) (measured-whole rs n)
+    (turned_fault measured_answer (measured rs ([], 0) n) f k met)
+
+-- and the answer of what is measured at the end its value
+pub of_answer : (rs : List Run) (n : ℕ) (m : Measured) (r : Answer) (k : ℕ) → measured rs ([], 0) n ≡ (Ok m, k) → r ≡ measured_answer m →
+    Meets r (turned text_answer (joined rs [] n)) k
+of_answer rs n m r k end is =
+    subst (λ o. Meets r o k) (ap (turned measured_answer) (sym end) ∙ measured-whole rs n)
+    (rw is (meets (measured_answer m) (measured_answer m, k) k (λ apart. refl) refl))

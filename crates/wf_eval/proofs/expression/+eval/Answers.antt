@@ -1,0 +1,136 @@
+use Rattle.std.proofs.Common.{◌≡◌, ◌≤◌, ◌++◌, [], ◌∷◌, refl, ap, ◌∙◌, arith, rules}
+use Rattle.std.proofs.lemmas.Result.{err_from_is_err_and}
+use Rattle.wf_val.specs.Seen.{tree}
+use Rattle.wf_template.specs.ChainSeen.{start_tree, chain_tree}
+use Rattle.wf_template.specs.ExprCounts.{expr_count}
+use Rattle.wf_template.specs.ExprSeen.{expr_tree}
+use Rattle.wf_template.proofs.ChainLemmas.{key_count, base_le_built}
+use Rattle.wf_eval.proofs.Grow.{value-grows}
+use Rattle.wf_eval.proofs.Chains.{fault_of_start, fault_of_access, start_value, access_value, through, keys_count, keys_count-snoc, keys_le_built}
+use Rattle.wf_eval.proofs.Loops.{count-item, fault_all, memory_all, fault_early, early_stops, early_goes_on, early_ends, fault_if, if-few}
+use Rattle.wf_eval.proofs.Meeting.{of_memory, of_fault}
+use Rattle.wf_eval.proofs.expression.+eval.Goals as goal
+
+pub eval_all-eval_expr-requires : goal.eval_all-eval_expr-requires
+eval_all-eval_expr-requires g t c = let le = count-item _ _ _ c.loop-arg-test.true c.arg-item.is in search (rules, arith)
+
+pub eval_early-eval_expr-requires : goal.eval_early-eval_expr-requires
+eval_early-eval_expr-requires g t c = let le = count-item _ _ _ c.loop-arg-test.true c.arg-item.is in search (rules, arith)
+
+pub eval_all-returns-in_err-eval_expr-clause-values : goal.eval_all-returns-in_err-eval_expr-clause-values
+eval_all-returns-in_err-eval_expr-clause-values g t c =
+    let p = err_from_is_err_and c.from_residual.result c.from_residual.ensures.1 in
+    rw (p.1, p.2) (fault_all _ _ _ _ _ _ _ _ _ _ c.loop-arg-test.true c.arg-item.is c.loop-arg.invariant.same c.loop-arg.invariant.so_far
+    c.in_err-eval_expr.ensures.value)
+
+pub eval_all-returns-in_err-push-clause-values : goal.eval_all-returns-in_err-push-clause-values
+eval_all-returns-in_err-push-clause-values g t c =
+    let p = err_from_is_err_and c.from_residual-in_err-push.result c.from_residual-in_err-push.ensures.1 in
+    rw (p.1, p.2) (memory_all _ _ _ _ _ _ _ _ _ c.loop-arg-test.true c.arg-item.is c.loop-arg.invariant.same c.loop-arg.invariant.so_far
+    c.in_ok-eval_expr.ensures.value.1)
+
+pub eval_early-returns-in_err-value-clause-value : goal.eval_early-returns-in_err-value-clause-value
+eval_early-returns-in_err-value-clause-value g t c =
+    let p = err_from_is_err_and c.from_residual.result c.from_residual.ensures.1 in
+    rw (p.1, p.2) (fault_early _ _ _ _ _ _ _ _ _ _ _ c.loop-arg-test.true c.arg-item.is c.loop-arg.invariant.same
+    c.loop-arg.invariant.so_far c.in_err-value.ensures.value)
+
+pub eval_early-returns-in-Some-clause-value : goal.eval_early-returns-in-Some-clause-value
+eval_early-returns-in-Some-clause-value g t c =
+    early_stops _ _ _ _ _ _ _ _ _ _ _ _ c.loop-arg-test.true c.arg-item.is c.loop-arg.invariant.same c.loop-arg.invariant.so_far
+    c.in_ok-value.ensures.value c.in-Some.ensures
+
+pub eval_early-loop-arg-preserved : goal.eval_early-loop-arg-preserved
+eval_early-loop-arg-preserved g t c = record {
+  so_far = early_goes_on _ _ _ _ _ _ _ _ _ _ _ c.loop-arg-test.true c.arg-item.is c.loop-arg.invariant.same c.loop-arg.invariant.so_far
+      c.in_ok-value.ensures.value c.in_default.ensures;
+  same = c.in_ok-value.ensures.same ∙ c.loop-arg.invariant.same;
+  held = c.in_ok-value.ensures.held ∙ c.loop-arg.invariant.held;
+  counted = omega arith;
+}
+
+pub eval_early-returns-clause-value : goal.eval_early-returns-clause-value
+eval_early-returns-clause-value g t c =
+    early_ends _ _ _ _ _ _ _ _ c.loop-arg-test.false c.loop-arg.invariant.so_far c.at_end.ensures
+
+pub eval_if-returns-in_err-eval_expr-in-len3-up-clause-value : goal.eval_if-returns-in_err-eval_expr-in-len3-up-clause-value
+eval_if-returns-in_err-eval_expr-in-len3-up-clause-value g t c =
+    let p = err_from_is_err_and c.from_residual.result c.from_residual.ensures.1 in
+    rw (p.1, p.2) (fault_if _ _ _ _ _ _ c.in-len3-up.len_at_least c.test-item.is c.in_err-eval_expr-in-len3-up.ensures.value)
+
+pub eval_if-returns-in_default-clause-value : goal.eval_if-returns-in_default-clause-value
+eval_if-returns-in_default-clause-value g t c =
+    rw (if-few (g.L.Look.told c.args.look.now) c.args.args.now (g.L.Look.drawn c.args.look.now) c.in_default.len_below)
+    (rw c.wrong_type.ensures (of_fault _ _ _ refl refl refl))
+
+pub eval_expr-returns-in_err-chain-clause-value : goal.eval_expr-returns-in_err-chain-clause-value
+eval_expr-returns-in_err-chain-clause-value g t c =
+    let p = err_from_is_err_and c.from_residual.result c.from_residual.ensures.1 in
+    rw (p.1, p.2) (of_memory _ _ (value-grows (g.L.Look.told c.args.look.now) (expr_tree c.args.e.now) (g.L.Look.drawn c.args.look.now)))
+
+pub eval_expr-eval_start-requires : goal.eval_expr-eval_start-requires
+eval_expr-eval_start-requires g t c =
+    let s = start_tree c.in_ok-chain.chain.start in
+    let whole : chain_tree c.in_ok-chain.chain ≡ expr_tree c.args.e.now = c.in_ok-chain.ensures in
+    let le : expr_count s ≤ expr_count (expr_tree c.args.e.now) =
+    omega (arith, base_le_built s c.in_ok-chain.chain.accesses.items, ap expr_count whole) in
+    search (rules, arith)
+
+pub eval_expr-returns-in_err-value-clause-value : goal.eval_expr-returns-in_err-value-clause-value
+eval_expr-returns-in_err-value-clause-value g t c =
+    let p = err_from_is_err_and c.from_residual-in_err-value.result c.from_residual-in_err-value.ensures.1 in
+    rw (p.1, p.2) (fault_of_start _ (start_tree c.in_ok-chain.chain.start) c.in_ok-chain.chain.accesses.items _ _ _ _
+    c.in_ok-chain.ensures c.in_err-value.ensures.value)
+
+pub eval_expr-loop-access-init : goal.eval_expr-loop-access-init
+eval_expr-loop-access-init g t c =
+    let s = start_tree c.in_ok-chain.chain.start in
+    let rest = c.in_ok-chain.chain.accesses.items in
+    let whole : chain_tree c.in_ok-chain.chain ≡ expr_tree c.args.e.now = c.in_ok-chain.ensures in
+    record {
+      so_far = start_value (g.L.Look.told c.args.look.now) s rest (expr_tree c.args.e.now) (g.L.Look.drawn c.args.look.now)
+          (tree c.in_ok-value.value) (g.L.Look.drawn c.eval_start.new.look) whole c.in_ok-value.ensures.value;
+      same = c.in_ok-value.ensures.same;
+      held = c.in_ok-value.ensures.held;
+      keys = omega (arith, keys_le_built s rest, ap expr_count whole);
+    }
+
+pub eval_expr-eval_access-requires : goal.eval_expr-eval_access-requires
+eval_expr-eval_access-requires g t c =
+    let a = c.in-Some.access in
+    let rest = c.pop.new.self.items in
+    let split : c.loop-access.accesses.items ≡ rest ++ a ∷ [] = search rules in
+    let le : key_count a ≤ expr_count (expr_tree c.args.e.now) =
+    omega (arith, ap keys_count split, keys_count-snoc rest a, c.loop-access.invariant.keys) in
+    search (rules, arith)
+
+pub eval_expr-returns-in_err-value-2-clause-value : goal.eval_expr-returns-in_err-value-2-clause-value
+eval_expr-returns-in_err-value-2-clause-value g t c =
+    let p = err_from_is_err_and c.from_residual-in_err-value-2.result c.from_residual-in_err-value-2.ensures.1 in
+    let a = c.in-Some.access in
+    let rest = c.pop.new.self.items in
+    let split : c.loop-access.accesses.items ≡ rest ++ a ∷ [] = search rules in
+    rw (p.1, p.2) (fault_of_access _ _ rest c.loop-access.accesses.items a (tree c.loop-access.value)
+    (g.L.Look.drawn c.loop-access.look) _ _ _ split c.loop-access.invariant.same c.loop-access.invariant.so_far
+    c.in_err-value-2.ensures.value)
+
+pub eval_expr-loop-access-preserved : goal.eval_expr-loop-access-preserved
+eval_expr-loop-access-preserved g t c =
+    let a = c.in-Some.access in
+    let rest = c.pop.new.self.items in
+    let split : c.loop-access.accesses.items ≡ rest ++ a ∷ [] = search rules in
+    record {
+      so_far = access_value (g.L.Look.told c.args.look.now) (g.L.Look.told c.loop-access.look) rest c.loop-access.accesses.items a
+          (tree c.loop-access.value) (g.L.Look.drawn c.loop-access.look) (tree c.in_ok-value-2.value)
+          (g.L.Look.drawn c.eval_access.new.look) _ split c.loop-access.invariant.same c.loop-access.invariant.so_far
+          c.in_ok-value-2.ensures.value;
+      same = c.in_ok-value-2.ensures.same ∙ c.loop-access.invariant.same;
+      held = c.in_ok-value-2.ensures.held ∙ c.loop-access.invariant.held;
+      keys = omega (arith, ap keys_count split, keys_count-snoc rest a, c.loop-access.invariant.keys);
+    }
+
+pub eval_expr-returns-clause-value : goal.eval_expr-returns-clause-value
+eval_expr-returns-clause-value g t c =
+    let none : c.loop-access.accesses.items ≡ [] = search rules in
+    through (g.L.Look.told c.args.look.now) c.loop-access.accesses.items (tree c.loop-access.value)
+    (g.L.Look.drawn c.loop-access.look) _ none c.loop-access.invariant.so_far

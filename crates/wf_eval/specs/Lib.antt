@@ -1,0 +1,14 @@
+pub mod Told
+pub mod Outcomes
+pub mod Meets
+pub mod Ways
+pub mod Accesses
+pub mod Looked
+pub mod Rows
+pub mod Value
+pub mod Measured
+pub mod TemplateValue
+pub mod TreeValue
+pub mod Truth
+pub mod Seen
+pub mod Uses

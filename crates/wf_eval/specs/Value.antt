@@ -1,0 +1,86 @@
+-- THE VALUE OF AN EXPRESSION in a look (Workflow Definition Language, "Expressions"): its value, or the first fault from left to
+-- right, and the number of words drawn. Each value fits, or is `TooBig`.
+use Rattle.std.specs.Prelude.{ℕ, suc, true, false, List, [], ◌∷◌, length, Option, Some, None, Ok, Err}
+use Rattle.wf_val.specs.Arguments.{Answer, wrong_type, bounded}
+use Rattle.wf_val.specs.Function.{function_of}
+use Rattle.wf_val.specs.ValueTree.{ValueTree, null, boolean, text}
+use Rattle.wf_val.specs.declared.fault.EvalFault.{EvalFault}
+use Rattle.wf_val.specs.declared.function.Fun.{Fun}
+use Rattle.wf_template.specs.ExprTree.{ExprTree, ExprTrees, literal, call, member, index, no_exprs, expr_then}
+use Rattle.wf_eval.specs.declared.way.Way.{Way}
+use Rattle.wf_eval.specs.Accesses.{member_row, index_row}
+use Rattle.wf_eval.specs.Looked.{named_by, told_row}
+use Rattle.wf_eval.specs.Outcomes.{Run, then_run, turned, strictly}
+use Rattle.wf_eval.specs.Rows.{fitted, strict_row}
+use Rattle.wf_eval.specs.Told.{Told}
+use Rattle.wf_eval.specs.Ways.{way_of}
+
+-- ---- functions that leave an argument without a value
+
+-- only the chosen arm
+abbrev pub chosen : Run → Run → ValueTree → Run
+chosen first second (boolean true) n = first n
+chosen first second (boolean false) n = second n
+chosen first second t n = (Err (wrong_type Fun.If 0), n)
+
+abbrev pub if_run : List Run → Run
+if_run (test ∷ first ∷ second ∷ rs) n = then_run (test n) (chosen first second)
+if_run rs n = (Err (wrong_type Fun.If (length rs)), n)
+
+-- the answer at which a function that stops early stops, at its argument of that place
+abbrev pub stop : Fun → ℕ → ValueTree → Option Answer
+stop Fun.And i (boolean true) = None
+stop Fun.And i (boolean false) = Some (Ok (boolean false))
+stop Fun.Or i (boolean true) = Some (Ok (boolean true))
+stop Fun.Or i (boolean false) = None
+stop Fun.Coalesce i null = None
+stop Fun.Coalesce i t = Some (Ok t)
+stop f i t = Some (Err (wrong_type f i))
+
+-- its value where no argument stops it
+abbrev pub at_end : Fun → ValueTree
+at_end Fun.And = boolean true
+at_end Fun.Or = boolean false
+at_end f = null
+
+abbrev pub or_go_on : Option Answer → Run → Run
+or_go_on (Some a) rest n = (a, n)
+or_go_on None rest n = rest n
+
+-- a function that stops early, from the argument of that place on
+abbrev pub early : Fun → List Run → ℕ → Run
+early f [] i n = (Ok (at_end f), n)
+early f (r ∷ rs) i n = then_run (r n) (λ t m. or_go_on (stop f i t) (λ k. early f rs (suc i) k) m)
+
+-- ---- calls
+
+-- the name that a naming function has as its literal
+abbrev pub literal_name : ExprTrees → Option (List ℕ)
+literal_name (expr_then (literal (text name)) es) = Some name
+literal_name es = None
+
+-- a call of a function, by the way in which it comes to its value; what an arm gives fits already
+abbrev pub called : Told → Fun → ExprTrees → List Run → Way → Run
+called l f es rs Way.Chosen n = if_run rs n
+called l f es rs Way.Early n = early f rs 0 n
+called l f es rs Way.Named n = (fitted (named_by l f (literal_name es)), n)
+called l f es rs Way.Told n = (fitted (told_row l f), n)
+called l f es rs Way.Strict n = strictly (λ ts. fitted (strict_row f ts)) rs n
+
+-- a call by name, which is without letter case; of no function the arguments still come first
+abbrev pub called_by : Told → List ℕ → ExprTrees → List Run → Option Fun → Run
+called_by l name es rs (Some f) n = called l f es rs (way_of f) n
+called_by l name es rs None n = strictly (λ ts. Err (EvalFault.NoValue name)) rs n
+
+-- ---- expressions
+
+abbrev mutual
+  pub value : Told → ExprTree → Run
+  value l (literal t) n = (bounded t, n)
+  value l (call name es) n = called_by l name es (runs l es) (function_of name) n
+  value l (member b k soft) n = turned (member_row k soft) (value l b n)
+  value l (index b k soft) n = then_run (value l b n) (λ t m. turned (index_row soft t) (value l k m))
+
+  pub runs : Told → ExprTrees → List Run
+  runs l no_exprs = []
+  runs l (expr_then e es) = value l e ∷ runs l es

@@ -1,0 +1,226 @@
+//! The value of an expression.
+ghost use Rattle.std.specs.Prelude.{◌≡◌, [], Ok, option_map};
+ghost use Rattle.wf_val.specs.Arguments.{Gives, seen};
+ghost use Rattle.wf_val.specs.Function.{function_of};
+ghost use Rattle.wf_val.specs.Seen.{tree};
+ghost use Rattle.wf_template.specs.ChainSeen.{start_tree};
+ghost use Rattle.wf_template.specs.ExprSeen.{expr_tree};
+ghost use Rattle.wf_eval.specs.Meets.{Meets};
+ghost use Rattle.wf_eval.specs.Outcomes.{all_after};
+ghost use Rattle.wf_eval.specs.Rows.{fitted, strict_row as row_in};
+ghost use Rattle.wf_eval.specs.Seen.{args_tree, accessed_run};
+ghost use Rattle.wf_eval.specs.Value.{value, runs, called, called_by, if_run, early, stop, at_end};
+ghost use Rattle.wf_eval.specs.Ways.{way_of};
+
+use crate::accesses::{index_of, member_of};
+use crate::look::Look;
+use crate::named::{named_by, told_row};
+use crate::rows::strict_row;
+use crate::way::{Way, way_of};
+use std::alloc::Global;
+use wf_template::{Access, Expr, Start, chain_of};
+use wf_val::{EvalFault, Fun, Text, Val, Vals, bounded, wrong_type};
+
+/// The value of the expression in the look. Accesses are gone through by a loop, however many they are.
+#[cycle(eval)]
+pub(crate) fn eval_expr<L: Look>(alloc: Global, e: &Expr, look: &mut L) -> Result<Val, EvalFault>
+    ensures value { Meets (seen result) (value (L.told look.old) (expr_tree e.now) (L.drawn look.old)) (L.drawn look.new) }
+    ensures same { L.told look.new ≡ L.told look.old }
+    ensures held { L.held look.new ≡ L.held look.old }
+{
+    let chain = chain_of(alloc, e)?;
+    let mut accesses = chain.accesses;
+    let mut value = eval_start(alloc, chain.start, look)?;
+    while let Some(access) = accesses.pop() {
+        value = eval_access(alloc, value, access, look)?;
+    }
+    Ok(value)
+}
+
+// What accesses stand on.
+#[cycle(eval)]
+fn eval_start<'a, L: Look>(alloc: Global, start: Start<'a>, look: &mut L) -> Result<Val, EvalFault>
+    ensures value { Meets (seen result) (value (L.told look.old) (start_tree start.entry) (L.drawn look.old)) (L.drawn look.new) }
+    ensures same { L.told look.new ≡ L.told look.old }
+    ensures held { L.held look.new ≡ L.held look.old }
+{
+    match start {
+        Start::Lit(value) => bounded(value.copy(alloc)?),
+        Start::Call { name, args } => eval_call(alloc, name, args.as_slice(), look),
+    }
+}
+
+// An access, of the value that it stands on.
+#[cycle(eval)]
+#[tactic(auto, using(crate::proofs::Meeting::meets))]
+fn eval_access<'a, L: Look>(
+    alloc: Global,
+    value: Val,
+    access: Access<'a>,
+    look: &mut L,
+) -> Result<Val, EvalFault>
+    ensures value { Meets (seen result)
+        (accessed_run (L.told look.old) access.entry (Ok (tree value), L.drawn look.old))
+        (L.drawn look.new) }
+    ensures same { L.told look.new ≡ L.told look.old }
+    ensures held { L.held look.new ≡ L.held look.old }
+{
+    match access {
+        Access::Member { name, soft } => member_of(alloc, value, name, soft),
+        Access::Index { key, soft } => {
+            let key = eval_expr(alloc, key, look)?;
+            index_of(alloc, value, &key, soft)
+        }
+    }
+}
+
+// A call by the name as it was written.
+#[cycle(eval)]
+fn eval_call<L: Look>(
+    alloc: Global,
+    name: &Text,
+    args: &[Expr],
+    look: &mut L,
+) -> Result<Val, EvalFault>
+    ensures value { let l = L.told look.old in
+        let es = args_tree args.now in
+        Meets (seen result)
+        (called_by l name.now es (runs l es) (function_of name.now) (L.drawn look.old))
+        (L.drawn look.new) }
+    ensures same { L.told look.new ≡ L.told look.old }
+    ensures held { L.held look.new ≡ L.held look.old }
+{
+    match Fun::of(name) {
+        Some(function) => eval_known(alloc, function, args, look),
+        None => {
+            let _values = eval_all(alloc, args, look)?;
+            Err(EvalFault::NoValue {
+                name: name.copy(alloc)?,
+            })
+        }
+    }
+}
+
+#[cycle(eval)]
+#[tactic(auto, using(crate::proofs::Meeting::meets))]
+fn eval_known<L: Look>(
+    alloc: Global,
+    function: Fun,
+    args: &[Expr],
+    look: &mut L,
+) -> Result<Val, EvalFault>
+    ensures value { let l = L.told look.old in
+        let es = args_tree args.now in
+        Meets (seen result)
+        (called l function es (runs l es) (way_of function) (L.drawn look.old))
+        (L.drawn look.new) }
+    ensures same { L.told look.new ≡ L.told look.old }
+    ensures held { L.held look.new ≡ L.held look.old }
+{
+    match way_of(function) {
+        Way::Chosen => eval_if(alloc, args, look),
+        Way::Early => eval_early(alloc, function, args, look),
+        Way::Named => fitted(named_by(alloc, look, function, args)),
+        Way::Told => fitted(told_row(alloc, look, function)),
+        Way::Strict => {
+            let values = eval_all(alloc, args, look)?;
+            fitted(strict_row(alloc, function, &values))
+        }
+    }
+}
+
+// A value, where it fits.
+fn fitted(answer: Result<Val, EvalFault>) -> Result<Val, EvalFault>
+    ensures { seen result ≡ fitted (seen answer) }
+{
+    match answer {
+        Ok(value) => bounded(value),
+        Err(fault) => Err(fault),
+    }
+}
+
+// The values of all, from left to right.
+#[cycle(eval)]
+fn eval_all<L: Look>(alloc: Global, args: &[Expr], look: &mut L) -> Result<Vals, EvalFault>
+    ensures values { Meets result
+        (all_after (runs (L.told look.old) (args_tree args.now)) [] (L.drawn look.old))
+        (L.drawn look.new) }
+    ensures same { L.told look.new ≡ L.told look.old }
+    ensures held { L.held look.new ≡ L.held look.old }
+{
+    let mut values = Vals::new(alloc);
+    for arg in args {
+        values.push(eval_expr(alloc, arg, look)?)?;
+    }
+    Ok(values)
+}
+
+// Only the chosen arm.
+#[cycle(eval)]
+fn eval_if<L: Look>(alloc: Global, args: &[Expr], look: &mut L) -> Result<Val, EvalFault>
+    ensures value { Meets (seen result)
+        (if_run (runs (L.told look.old) (args_tree args.now)) (L.drawn look.old))
+        (L.drawn look.new) }
+    ensures same { L.told look.new ≡ L.told look.old }
+    ensures held { L.held look.new ≡ L.held look.old }
+{
+    match args {
+        [test, first, second, ..] => match eval_expr(alloc, test, look)? {
+            Val::Bool(true) => eval_expr(alloc, first, look),
+            Val::Bool(false) => eval_expr(alloc, second, look),
+            _ => Err(wrong_type(Fun::If, 0)),
+        },
+        _ => Err(wrong_type(Fun::If, args.len() as u64)),
+    }
+}
+
+// A function that stops at the first argument that decides.
+#[cycle(eval)]
+fn eval_early<L: Look>(
+    alloc: Global,
+    function: Fun,
+    args: &[Expr],
+    look: &mut L,
+) -> Result<Val, EvalFault>
+    ensures value { Meets (seen result)
+        (early function (runs (L.told look.old) (args_tree args.now)) 0 (L.drawn look.old))
+        (L.drawn look.new) }
+    ensures same { L.told look.new ≡ L.told look.old }
+    ensures held { L.held look.new ≡ L.held look.old }
+{
+    let mut place = 0;
+    for arg in args {
+        let value = eval_expr(alloc, arg, look)?;
+        if let Some(end) = stop(function, place, value) {
+            return end;
+        }
+        place += 1;
+    }
+    Ok(at_end(function))
+}
+
+// The answer of a function that stops early, where it stops at this argument; its place is counted from 0.
+fn stop(function: Fun, place: u64, value: Val) -> Option<Result<Val, EvalFault>>
+    ensures { option_map seen result ≡ stop function place (tree value) }
+{
+    match (function, value) {
+        (Fun::And, Val::Bool(true)) => None,
+        (Fun::And, Val::Bool(false)) => Some(Ok(Val::Bool(false))),
+        (Fun::Or, Val::Bool(true)) => Some(Ok(Val::Bool(true))),
+        (Fun::Or, Val::Bool(false)) => None,
+        (Fun::Coalesce, Val::Null) => None,
+        (Fun::Coalesce, value) => Some(Ok(value)),
+        _ => Some(Err(wrong_type(function, place))),
+    }
+}
+
+// The value of a function that stops early and did not.
+fn at_end(function: Fun) -> Val
+    ensures { tree result ≡ at_end function }
+{
+    match function {
+        Fun::And => Val::Bool(true),
+        Fun::Or => Val::Bool(false),
+        _ => Val::Null,
+    }
+}

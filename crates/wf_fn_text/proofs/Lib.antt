@@ -1,0 +1,9 @@
+pub mod PieceLemmas
+pub mod PlaceLemmas
+pub mod LawLemmas
+pub mod RowValues
+pub mod CasesRows
+pub mod JoiningRows
+pub mod PartsRows
+pub mod PiecesRows
+pub mod PlacesRows

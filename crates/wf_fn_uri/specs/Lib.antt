@@ -1,0 +1,4 @@
+pub mod Escapes
+pub mod Encodings
+pub mod Parts
+pub mod Laws
