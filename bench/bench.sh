@@ -105,6 +105,7 @@ million = 10**6
 calls = [
     ("split of 1,000,000 commas", "split", ["," * million, ","], lambda text, part: text.split(part)),
     ("replace of 1,000,000 commas", "replace", ["," * million, ",", ";"], lambda text, old, new: text.replace(old, new)),
+    ("replace of 500,000 commas and blanks", "replace", [", " * (million // 2), ", ", ";"], lambda text, old, new: text.replace(old, new)),
     ("replace that would be too big", "replace", ["x" * million, "x", "y" * million], None),
     ("lastIndexOf of a..ab in a..a", "lastIndexOf", ["a" * million, "a" * (million // 2) + "b"],
         lambda text, part: text.lower().rfind(part.lower())),
