@@ -223,6 +223,67 @@ bool-is_its_own = refl
 isInt-is_its_own : here (of (codes "isInt") (word (codes "x") ∷ [])) ≡ (Ok (boolean false), 7)
 isInt-is_its_own = refl
 
+concat-is_its_own :
+    here (of (codes "concat") (word (codes "a") ∷ nothing ∷ truth ∷ []))
+    ≡ (Ok (text (codes "atrue")), 7)
+concat-is_its_own = refl
+
+replace-is_its_own :
+    here (of (codes "replace") (word (codes "aba") ∷ word (codes "a") ∷ word (codes "c") ∷ []))
+    ≡ (Ok (text (codes "cbc")), 7)
+replace-is_its_own = refl
+
+split-is_its_own :
+    here (of (codes "split") (word (codes "a,b") ∷ word (codes ",") ∷ []))
+    ≡ (Ok (list (trees (text (codes "a") ∷ text (codes "b") ∷ []))), 7)
+split-is_its_own = refl
+
+toLower-is_its_own : here (of (codes "toLower") (word (codes "aB") ∷ [])) ≡ (Ok (text (codes "ab")), 7)
+toLower-is_its_own = refl
+
+toUpper-is_its_own : here (of (codes "toUpper") (word (codes "aB") ∷ [])) ≡ (Ok (text (codes "AB")), 7)
+toUpper-is_its_own = refl
+
+startsWith-is_its_own :
+    here (of (codes "startsWith") (word (codes "ab") ∷ word (codes "A") ∷ []))
+    ≡ (Ok (boolean true), 7)
+startsWith-is_its_own = refl
+
+endsWith-is_its_own :
+    here (of (codes "endsWith") (word (codes "ab") ∷ word (codes "A") ∷ []))
+    ≡ (Ok (boolean false), 7)
+endsWith-is_its_own = refl
+
+substring-is_its_own :
+    here (of (codes "substring") (int 1 ∷ int 1 ∷ []))
+    ≡ (Err (EvalFault.WrongType Fun.Substring 1), 7)
+substring-is_its_own = refl
+
+trim-is_its_own : here (of (codes "trim") (int 1 ∷ [])) ≡ (Err (EvalFault.WrongType Fun.Trim 1), 7)
+trim-is_its_own = refl
+
+indexOf-is_its_own :
+    here (of (codes "indexOf") (int 1 ∷ word (codes "a") ∷ []))
+    ≡ (Err (EvalFault.WrongType Fun.IndexOf 1), 7)
+indexOf-is_its_own = refl
+
+lastIndexOf-is_its_own :
+    here (of (codes "lastIndexOf") (int 1 ∷ word (codes "a") ∷ []))
+    ≡ (Err (EvalFault.WrongType Fun.LastIndexOf 1), 7)
+lastIndexOf-is_its_own = refl
+
+slice-is_its_own : here (of (codes "slice") (int 1 ∷ int 1 ∷ [])) ≡ (Err (EvalFault.WrongType Fun.Slice 1), 7)
+slice-is_its_own = refl
+
+concat-none : here (of (codes "concat") ([])) ≡ (Err (EvalFault.WrongType Fun.Concat 1), 7)
+concat-none = refl
+
+concat-list : here (of (codes "concat") (literal (nested 2) ∷ [])) ≡ (Ok (text (codes "[[null]]")), 7)
+concat-list = refl
+
+concat-leftmost : here (of (codes "concat") (rest_by_zero ∷ by_zero ∷ [])) ≡ (Err (EvalFault.Range Fun.Mod), 7)
+concat-leftmost = refl
+
 unbuilt : here (of (codes "guid") ([])) ≡ (Err (EvalFault.NoValue (codes "guid")), 7)
 unbuilt = refl
 

@@ -7,6 +7,10 @@ use wf_fn_math::{
     f_add, f_bool, f_div, f_equals, f_greater, f_greater_or_equals, f_int, f_is_int, f_less,
     f_less_or_equals, f_max, f_min, f_mod, f_mul, f_not, f_sub,
 };
+use wf_fn_text::{
+    f_concat, f_ends_with, f_index_of, f_last_index_of, f_replace, f_slice, f_split, f_starts_with,
+    f_substring, f_to_lower, f_to_upper, f_trim,
+};
 use wf_json::JsonFault;
 use wf_val::{EvalFault, Fields, Fun, Text, Val, Vals, wrong_type};
 
@@ -18,6 +22,18 @@ pub(crate) fn strict_row(alloc: Global, function: Fun, args: &Vals) -> Result<Va
         return Err(wrong_type(function, args.len()));
     }
     match function {
+        Fun::Concat => f_concat(alloc, args),
+        Fun::Substring => f_substring(alloc, args),
+        Fun::Replace => f_replace(alloc, args),
+        Fun::Split => f_split(alloc, args),
+        Fun::ToLower => f_to_lower(alloc, args),
+        Fun::ToUpper => f_to_upper(alloc, args),
+        Fun::Trim => f_trim(alloc, args),
+        Fun::StartsWith => f_starts_with(alloc, args),
+        Fun::EndsWith => f_ends_with(alloc, args),
+        Fun::IndexOf => f_index_of(alloc, args),
+        Fun::LastIndexOf => f_last_index_of(alloc, args),
+        Fun::Slice => f_slice(alloc, args),
         Fun::Add => f_add(args),
         Fun::Sub => f_sub(args),
         Fun::Mul => f_mul(args),
