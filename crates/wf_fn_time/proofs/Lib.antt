@@ -1,3 +1,11 @@
 pub mod CalendarLemmas
 pub mod ReadingLemmas
 pub mod PatternLemmas
+pub mod LawLemmas
+pub mod RowValues
+pub mod ReadingRows
+pub mod PatternRows
+pub mod FormattingRows
+pub mod PlacesRows
+pub mod MovingRows
+pub mod DifferenceRows

@@ -5,7 +5,6 @@ use Rattle.std.specs.Prelude.{codes, option_map}
 use Rattle.std.specs.Str.{chars}
 use Rattle.wf_fn_time.specs.Pattern.{parts_of}
 use Rattle.wf_fn_time.specs.Printing.{printed}
-use Rattle.wf_fn_time.specs.declared.calendar.Day.{Day}
 use Rattle.wf_fn_time.specs.declared.clock.Clock.{Clock}
 
 -- 2024-05-01T09:08:07.0123456Z

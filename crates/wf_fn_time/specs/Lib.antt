@@ -10,3 +10,4 @@ pub mod Formatting
 pub mod Places
 pub mod Moving
 pub mod Difference
+pub mod Laws

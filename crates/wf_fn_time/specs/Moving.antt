@@ -10,7 +10,6 @@ use Rattle.wf_fn_time.specs.Calendar.{day_at, day_number}
 use Rattle.wf_fn_time.specs.Moments.{ticks_a_day, later, earlier}
 use Rattle.wf_fn_time.specs.Times.{moment_of, or_range, pattern_of, printed_value}
 use Rattle.wf_fn_time.specs.declared.calendar.Day.{Day}
-use Rattle.wf_fn_time.specs.declared.pattern.Part.{Part}
 use Rattle.wf_fn_time.specs.declared.shift.Shift.{Shift}
 use Rattle.wf_fn_time.specs.declared.shift.TimeUnit.{TimeUnit}
 

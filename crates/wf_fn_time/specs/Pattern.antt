@@ -1,6 +1,6 @@
 -- Patterns by which moments are printed (.NET, standard and custom date and time format strings; of these the ones that
 -- need no culture and no zone).
-use Rattle.std.specs.Prelude.{ℕ, zero, suc, ◌-◌, Bool, true, false, ◌||◌, not, List, [], ◌∷◌, Option, Some, None, option_map, length, drop, ◌==◌, codes, nat_lt, slice_get, slice_index, if◌then◌else◌}
+use Rattle.std.specs.Prelude.{ℕ, zero, suc, Bool, true, false, ◌||◌, not, List, [], ◌∷◌, Option, Some, None, option_map, length, ◌==◌, codes, nat_lt, slice_get, slice_index, if◌then◌else◌}
 use Rattle.std.specs.Int.{is_in_range}
 use Rattle.std.specs.Str.{chars}
 use Rattle.wf_fn_time.specs.declared.pattern.Field.{Field}

@@ -53,7 +53,6 @@ pub struct Pattern {
 
 impl Model for Pattern {
     ghost use Rattle.std.specs.Prelude.{List};
-
     ghost use Rattle.wf_fn_time.specs.declared.pattern.Part.{Part};
 
     ghost Value = { List Part };

@@ -1,4 +1,4 @@
-use Rattle.std.proofs.Common.{◌≡◌, ◌+◌, ◌-◌, ◌≤◌, arith, min, pos, to_z, ◌∙◌, ap}
+use Rattle.std.proofs.Common.{◌≡◌, ◌+◌, arith, min, pos, to_z, ◌∙◌, ap}
 use Rattle.std.specs.Int.{w16}
 use Rattle.std.proofs.lemmas.Int.{ints}
 use Rattle.jiff_core.specs.Calendar.{days_in_month}

@@ -1,0 +1,21 @@
+//! What moments, days and moves are, said in another way. Each call tells a caller so, and does nothing.
+ghost use Rattle.std.specs.Prelude.{◌≡◌, ◌≤◌, ◌==◌, ℕ, ℤ, suc, if◌then◌else◌};
+ghost use Rattle.jiff_core.specs.declared.civil.date.Date.{Date};
+ghost use Rattle.wf_fn_time.specs.Calendar.{weekday};
+ghost use Rattle.wf_fn_time.specs.Laws.{IsSum, IsUndone, IsLibraryDay};
+ghost use Rattle.wf_fn_time.specs.Moments.{last_tick};
+ghost use Rattle.wf_fn_time.specs.declared.shift.Shift.{Shift};
+
+/// A moment moved by a number of units is the sum of its ticks and theirs, and there is none where that isn't in the years
+/// 1 to 9999. Moved on and back again it is where it was.
+pub fn moves_are_sums()
+    ensures sum { (unit t : ℕ) (n : ℤ) → t ≤ last_tick → IsSum unit n t }
+    ensures undone { (unit t u : ℕ) (s : Shift) → t ≤ last_tick → IsUndone unit s t u }
+{}
+
+/// The day of so many days after 1 January of the year 1 is that of the proleptic Gregorian calendar of `jiff_core`, and
+/// each day of the week follows the one of the day before.
+pub fn days_are_those_of_the_calendar()
+    ensures day { (d : Date) (n : ℕ) → IsLibraryDay d n }
+    ensures weekday { (n : ℕ) → weekday (suc n) ≡ (if weekday n == 6 then 0 else suc (weekday n)) }
+{}
