@@ -424,14 +424,11 @@ concat-list = refl
 concat-leftmost : here (of (codes "concat") (rest_by_zero ∷ by_zero ∷ [])) ≡ (Err (EvalFault.Range Fun.Mod), 7)
 concat-leftmost = refl
 
-unbuilt : here (of (codes "guid") ([])) ≡ (Err (EvalFault.NoValue (codes "guid")), 7)
-unbuilt = refl
+guid-arguments_first : here (of (codes "guid") (by_zero ∷ [])) ≡ (Err (EvalFault.Range Fun.Div), 7)
+guid-arguments_first = refl
 
-unbuilt-arguments_first : here (of (codes "guid") (by_zero ∷ [])) ≡ (Err (EvalFault.Range Fun.Div), 7)
-unbuilt-arguments_first = refl
-
-unbuilt-counted : here (of (codes "guid") (int 1 ∷ int 2 ∷ [])) ≡ (Err (EvalFault.WrongType Fun.Guid 3), 7)
-unbuilt-counted = refl
+guid-counted : here (of (codes "guid") (int 1 ∷ int 2 ∷ [])) ≡ (Err (EvalFault.WrongType Fun.Guid 3), 7)
+guid-counted = refl
 
 unknown-arguments_first : here (of (codes "foo") (by_zero ∷ [])) ≡ (Err (EvalFault.Range Fun.Div), 7)
 unknown-arguments_first = refl

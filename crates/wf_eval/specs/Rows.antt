@@ -26,6 +26,10 @@ use Rattle.wf_fn_text.specs.Joining.{concat_row}
 use Rattle.wf_fn_text.specs.Parts.{substring_row, slice_row}
 use Rattle.wf_fn_text.specs.Pieces.{split_row, replace_row}
 use Rattle.wf_fn_text.specs.Places.{starts_with_row, ends_with_row, index_of_row, last_index_of_row}
+use Rattle.wf_fn_time.specs.Difference.{date_difference_row}
+use Rattle.wf_fn_time.specs.Formatting.{format_date_time_row, start_of_day_row, start_of_hour_row, start_of_month_row}
+use Rattle.wf_fn_time.specs.Moving.{add_days_row, add_hours_row, add_minutes_row, add_seconds_row, add_to_time_row, subtract_from_time_row}
+use Rattle.wf_fn_time.specs.Places.{day_of_month_row, day_of_year_row, day_of_week_row, ticks_row}
 use Rattle.wf_fn_uri.specs.Encodings.{base64_row, from_base64_row, data_uri_row, from_data_uri_row}
 use Rattle.wf_fn_uri.specs.Escapes.{escaped_row, unescaped_row}
 use Rattle.wf_fn_uri.specs.Parts.{of_url, scheme_of, host_of, path_of, query_of, path_and_query_of, port_of}
@@ -111,6 +115,21 @@ row_of Fun.Bool = bool_row
 row_of Fun.IsInt = is_int_row
 row_of Fun.String = string_row
 row_of Fun.Json = json_row
+row_of Fun.AddDays = add_days_row
+row_of Fun.AddHours = add_hours_row
+row_of Fun.AddMinutes = add_minutes_row
+row_of Fun.AddSeconds = add_seconds_row
+row_of Fun.AddToTime = add_to_time_row
+row_of Fun.SubtractFromTime = subtract_from_time_row
+row_of Fun.FormatDateTime = format_date_time_row
+row_of Fun.StartOfDay = start_of_day_row
+row_of Fun.StartOfHour = start_of_hour_row
+row_of Fun.StartOfMonth = start_of_month_row
+row_of Fun.DayOfMonth = day_of_month_row
+row_of Fun.DayOfYear = day_of_year_row
+row_of Fun.DayOfWeek = day_of_week_row
+row_of Fun.Ticks = ticks_row
+row_of Fun.DateDifference = date_difference_row
 row_of Fun.UriComponent = escaped_row Fun.UriComponent
 row_of Fun.EncodeUriComponent = escaped_row Fun.EncodeUriComponent
 row_of Fun.UriComponentToString = unescaped_row Fun.UriComponentToString

@@ -18,6 +18,11 @@ use wf_fn_text::{
     f_concat, f_ends_with, f_index_of, f_last_index_of, f_replace, f_slice, f_split, f_starts_with,
     f_substring, f_to_lower, f_to_upper, f_trim,
 };
+use wf_fn_time::{
+    f_add_days, f_add_hours, f_add_minutes, f_add_seconds, f_add_to_time, f_date_difference,
+    f_day_of_month, f_day_of_week, f_day_of_year, f_format_date_time, f_start_of_day,
+    f_start_of_hour, f_start_of_month, f_subtract_from_time, f_ticks,
+};
 use wf_fn_uri::{
     f_base64, f_base64_to_string, f_data_uri, f_data_uri_to_string, f_decode_base64,
     f_decode_uri_component, f_encode_uri_component, f_uri_component, f_uri_component_to_string,
@@ -81,6 +86,21 @@ pub(crate) fn strict_row(alloc: Global, function: Fun, args: &Vals) -> Result<Va
         Fun::Int => f_int(args),
         Fun::Bool => f_bool(args),
         Fun::IsInt => f_is_int(args),
+        Fun::AddDays => f_add_days(alloc, args),
+        Fun::AddHours => f_add_hours(alloc, args),
+        Fun::AddMinutes => f_add_minutes(alloc, args),
+        Fun::AddSeconds => f_add_seconds(alloc, args),
+        Fun::AddToTime => f_add_to_time(alloc, args),
+        Fun::SubtractFromTime => f_subtract_from_time(alloc, args),
+        Fun::FormatDateTime => f_format_date_time(alloc, args),
+        Fun::StartOfDay => f_start_of_day(alloc, args),
+        Fun::StartOfHour => f_start_of_hour(alloc, args),
+        Fun::StartOfMonth => f_start_of_month(alloc, args),
+        Fun::DayOfMonth => f_day_of_month(args),
+        Fun::DayOfYear => f_day_of_year(args),
+        Fun::DayOfWeek => f_day_of_week(args),
+        Fun::Ticks => f_ticks(args),
+        Fun::DateDifference => f_date_difference(alloc, args),
         Fun::UriComponent => f_uri_component(alloc, args),
         Fun::EncodeUriComponent => f_encode_uri_component(alloc, args),
         Fun::UriComponentToString => f_uri_component_to_string(alloc, args),
