@@ -175,3 +175,16 @@ place-year d (negsuc k) year from = absurd (omega (arith, signed_arith, from))
 
 pub place-date : (d : Date) → pos 1 ≤ℤ d.year → day_of_year d.year d.month d.day ≡ place_in_year (date_day d)
 place-date d from = place-year d d.year refl from
+
+number-year : (d : Date) (n : ℕ) (z : ℤ) → epoch_day d +ℤ pos 719162 ≡ pos n → d.year ≡ z → pos 1 ≤ℤ z → day_number (date_day d) ≡ n
+number-year d n (pos zero) is year from = absurd (omega (arith, signed_arith, from))
+number-year d n (pos (suc i)) is year from =
+    let civil_day = civil d in
+    let number : epoch_day d ≡ days_from_civil (pos (suc i)) d.month d.day = ap (λ y. days_from_civil y d.month d.day) year in
+    let counted : day_number (day (suc i) d.month d.day) ≡ n = omega (arith, signed_arith, is, number, number-from_1970 (suc i) d.month d.day (omega arith) civil_day.2.0) in
+    ap (λ y. day_number (day (unsigned_abs y) d.month d.day)) year ∙ counted
+number-year d n (negsuc k) is year from = absurd (omega (arith, signed_arith, from))
+
+-- the number of a date's day, which the library counts from 1970
+pub number-date : (d : Date) (n : ℕ) → epoch_day d +ℤ pos 719162 ≡ pos n → day_number (date_day d) ≡ n
+number-date d n is = number-year d n d.year is refl (year_from_1 d n is)
