@@ -1,5 +1,6 @@
 -- What the default pattern prints of a moment is read as that moment.
-use Rattle.std.proofs.Common.{◌≡◌, ℕ, zero, suc, ◌+◌, ◌-◌, ◌*◌, ◌/◌, ◌%◌, ◌≤◌, ◌<◌, List, [], ◌∷◌, ◌++◌, refl, sym, ap, ◌∙◌, arith, Bool, true, false, cond, Option, Some, None, append_assoc}
+use Rattle.std.proofs.Common.{◌≡◌, ℕ, zero, suc, ◌+◌, ◌-◌, ◌*◌, ◌/◌, ◌%◌, ◌≤◌, ◌<◌, List, [], ◌∷◌, ◌++◌, refl, sym, ap, ◌∙◌, arith, Bool}
+use Rattle.std.proofs.Common.{true, false, cond, Option, Some, None, append_assoc}
 use Rattle.std.proofs.lemmas.Bool.{cond-true, cond-false}
 use Rattle.std.proofs.lemmas.Bool.Decides.{nat_tests}
 use Rattle.std.specs.Char.{is_ascii_digit}
@@ -18,7 +19,9 @@ use Rattle.wf_fn_time.specs.declared.reading.Offset.{Offset}
 use Rattle.wf_fn_time.specs.declared.reading.Offset.TheVariants.{East}
 use Rattle.wf_fn_time.specs.declared.calendar.Day.{Day}
 use Rattle.wf_fn_time.specs.Printing.{last_digits}
-use Rattle.wf_fn_time.specs.Reading.{Read, digits, then_read, then_behind, behind, weighed, read_fraction, read_day, day_if, read_minutes, read_second, with_fraction, read_clock, read_offset, read_time_of_day, at_offset, at_time_of_day, read_time}
+use Rattle.wf_fn_time.specs.Reading.{Read, digits, then_read, then_behind, behind, weighed, read_fraction, read_day, day_if, read_minutes}
+use Rattle.wf_fn_time.specs.Reading.{read_second, with_fraction, read_clock, read_offset, read_time_of_day, at_offset, at_time_of_day}
+use Rattle.wf_fn_time.specs.Reading.{read_time}
 
 is_digit : (n : ℕ) → is_ascii_digit (48 + n % 10) ≡ true
 is_digit n = grind (arith, nat_tests)
@@ -29,7 +32,8 @@ low zero n = 0
 low (suc k) n = low k (n / 10) * 10 + n % 10
 
 digits-more-at : (t : Bool) (k m b : ℕ) (bs : List ℕ) → ((m : ℕ) → digits (suc k) m bs ≡ then_read (digits k m bs) (λ n s. digits 1 n s))
-    → cond {A = Read ℕ} t (digits (suc k) (m * 10 + (b - 48)) bs) None ≡ then_read (cond {A = Read ℕ} t (digits k (m * 10 + (b - 48)) bs) None) (λ n s. digits 1 n s)
+    → cond {A = Read ℕ} t (digits (suc k) (m * 10 + (b - 48)) bs) None
+    ≡ then_read (cond {A = Read ℕ} t (digits k (m * 10 + (b - 48)) bs) None) (λ n s. digits 1 n s)
 digits-more-at true k m b bs more = more (m * 10 + (b - 48))
 digits-more-at false k m b bs more = refl
 
@@ -82,7 +86,8 @@ fraction-last f rest h =
     let tail_c = (48 + d % 10) ∷ tail_d in
     let tail_b = (48 + c % 10) ∷ tail_c in
     let tail_a = (48 + b % 10) ∷ tail_b in
-    let value : first + 100000 * (b % 10) + 10000 * (c % 10) + 1000 * (d % 10) + 100 * (e % 10) + 10 * (g % 10) + 1 * (f % 10) ≡ f = omega (arith, h) in
+    let value : first + 100000 * (b % 10) + 10000 * (c % 10) + 1000 * (d % 10) + 100 * (e % 10) + 10 * (g % 10) + 1 * (f % 10)
+    ≡ f = omega (arith, h) in
     ap (λ r. then_read r from_tenth) (digits-one 0 a tail_a)
     ∙ ap Some (
     weighed-digit 100000 first b (10000 ∷ 1000 ∷ 100 ∷ 10 ∷ 1 ∷ []) tail_b
@@ -105,14 +110,16 @@ abbrev from_year : ℕ → List ℕ → Read Day
 from_year y s = then_behind (behind 45 s) (λ s. then_read (digits 2 0 s) (from_month y))
 
 date-digits : (y m d : ℕ) (rest : List ℕ)
-    → read_day (last_digits 4 y ++ (45 ∷ (last_digits 2 m ++ (45 ∷ (last_digits 2 d ++ rest))))) ≡ from_day (low 4 y) (low 2 m) (low 2 d) rest
+    → read_day (last_digits 4 y ++ (45 ∷ (last_digits 2 m ++ (45 ∷ (last_digits 2 d ++ rest)))))
+    ≡ from_day (low 4 y) (low 2 m) (low 2 d) rest
 date-digits y m d rest =
     ap (λ r. then_read r from_year) (digits-last 4 y (45 ∷ (last_digits 2 m ++ (45 ∷ (last_digits 2 d ++ rest)))))
     ∙ ap (λ r. then_read r (from_month (low 4 y))) (digits-last 2 m (45 ∷ (last_digits 2 d ++ rest)))
     ∙ ap (λ r. then_read r (from_day (low 4 y) (low 2 m))) (digits-last 2 d rest)
 
 pub date-last : (y m d : ℕ) (rest : List ℕ) → y < 10000 → m < 100 → d < 100 → is_day (record { year = y; month = m; day = d }) ≡ true
-    → read_day (last_digits 4 y ++ (45 ∷ (last_digits 2 m ++ (45 ∷ (last_digits 2 d ++ rest))))) ≡ Some (record { year = y; month = m; day = d }, rest)
+    → read_day (last_digits 4 y ++ (45 ∷ (last_digits 2 m ++ (45 ∷ (last_digits 2 d ++ rest)))))
+    ≡ Some (record { year = y; month = m; day = d }, rest)
 date-last y m d rest hy hm hd is =
     date-digits y m d rest ∙ ap (λ k. from_day k (low 2 m) (low 2 d) rest) (low-4 y hy) ∙ ap (λ k. from_day y k (low 2 d) rest) (low-2 m hm)
     ∙ ap (λ k. from_day y m k rest) (low-2 d hd) ∙ cond-true (is_day (record { year = y; month = m; day = d })) _ _ is
@@ -124,7 +131,8 @@ in_minutes limit hours minutes s = if (nat_lt limit hours || nat_lt 59 minutes) 
 abbrev from_hours : ℕ → ℕ → List ℕ → Read ℕ
 from_hours limit hours s = then_behind (behind 58 s) (λ s. then_read (digits 2 0 s) (in_minutes limit hours))
 
-pub minutes-last : (limit h m : ℕ) (rest : List ℕ) → h ≤ limit → h < 100 → m ≤ 59 → read_minutes limit (last_digits 2 h ++ (58 ∷ (last_digits 2 m ++ rest))) ≡ Some (h * 60 + m, rest)
+pub minutes-last : (limit h m : ℕ) (rest : List ℕ) → h ≤ limit → h < 100 → m ≤ 59
+    → read_minutes limit (last_digits 2 h ++ (58 ∷ (last_digits 2 m ++ rest))) ≡ Some (h * 60 + m, rest)
 minutes-last limit h m rest hh h2 hm =
     ap (λ r. then_read r (from_hours limit)) (digits-last 2 h (58 ∷ (last_digits 2 m ++ rest)))
     ∙ ap (λ r. then_read r (in_minutes limit (low 2 h))) (digits-last 2 m rest)
@@ -138,7 +146,8 @@ with_ticks seconds fraction s = Some (seconds * 10000000 + fraction, s)
 abbrev in_seconds : ℕ → List ℕ → Read ℕ
 in_seconds seconds s = if nat_lt 59 seconds then None else with_fraction seconds s (behind 46 s)
 
-pub second-last : (s f : ℕ) (rest : List ℕ) → s ≤ 59 → f < 10000000 → read_second (58 ∷ (last_digits 2 s ++ (46 ∷ (last_digits 7 f ++ rest)))) ≡ Some (s * 10000000 + f, rest)
+pub second-last : (s f : ℕ) (rest : List ℕ) → s ≤ 59 → f < 10000000
+    → read_second (58 ∷ (last_digits 2 s ++ (46 ∷ (last_digits 7 f ++ rest)))) ≡ Some (s * 10000000 + f, rest)
 second-last s f rest hs hf =
     ap (λ r. then_read r in_seconds) (digits-last 2 s (46 ∷ (last_digits 7 f ++ rest)))
     ∙ ap (λ k. in_seconds k (46 ∷ (last_digits 7 f ++ rest))) (low-2 s (omega (arith, hs)))
@@ -156,13 +165,15 @@ pub clock-last : (h m s f : ℕ) (rest : List ℕ) → h ≤ 23 → m ≤ 59 →
     → read_clock (last_digits 2 h ++ (58 ∷ (last_digits 2 m ++ (58 ∷ (last_digits 2 s ++ (46 ∷ (last_digits 7 f ++ rest)))))))
     ≡ Some ((h * 60 + m) * 600000000 + (s * 10000000 + f), rest)
 clock-last h m s f rest hh hm hs hf =
-    ap (λ r. then_read r from_minutes) (minutes-last 23 h m (58 ∷ (last_digits 2 s ++ (46 ∷ (last_digits 7 f ++ rest)))) hh (omega (arith, hh)) hm)
+    ap (λ r. then_read r from_minutes) (minutes-last 23 h m (58 ∷ (last_digits 2 s ++ (46 ∷ (last_digits 7 f ++ rest)))) hh
+    (omega (arith, hh)) hm)
     ∙ ap (λ r. then_read r (with_second (h * 60 + m))) (second-last s f rest hs hf)
 
 -- the whole text
 abbrev text_of : ℕ → ℕ → ℕ → ℕ → ℕ → ℕ → ℕ → List ℕ
 text_of y mo d h m s f =
-    last_digits 4 y ++ (45 ∷ (last_digits 2 mo ++ (45 ∷ (last_digits 2 d ++ (84 ∷ (last_digits 2 h ++ (58 ∷ (last_digits 2 m ++ (58 ∷ (last_digits 2 s
+    last_digits 4 y ++ (45 ∷ (last_digits 2 mo ++ (45 ∷ (last_digits 2 d ++ (84 ∷ (last_digits 2 h ++ (58 ∷ (last_digits 2 m
+    ++ (58 ∷ (last_digits 2 s
     ++ (46 ∷ (last_digits 7 f ++ (90 ∷ [])))))))))))))
 
 abbrev with_offset : ℕ → List ℕ → Option (ℕ × Offset)
@@ -174,8 +185,10 @@ on_day d s = at_time_of_day (day_number d * ticks_a_day) (read_time_of_day s)
 at-none : (t : ℕ) → t ≤ last_tick → at_offset t (East 0) ≡ Some t
 at-none t h = grind (arith, nat_tests)
 
-text-read : (y mo d h m s f t : ℕ) → y < 10000 → mo < 100 → d < 100 → h ≤ 23 → m ≤ 59 → s ≤ 59 → f < 10000000 → is_day (record { year = y; month = mo; day = d }) ≡ true
-    → day_number (record { year = y; month = mo; day = d }) * ticks_a_day + ((h * 60 + m) * 600000000 + (s * 10000000 + f)) ≡ t → t ≤ last_tick
+text-read : (y mo d h m s f t : ℕ) → y < 10000 → mo < 100 → d < 100 → h ≤ 23 → m ≤ 59 → s ≤ 59 → f < 10000000
+    → is_day (record { year = y; month = mo; day = d }) ≡ true
+    → day_number (record { year = y; month = mo; day = d }) * ticks_a_day + ((h * 60 + m) * 600000000 + (s * 10000000 + f)) ≡ t
+    → t ≤ last_tick
     → read_time (text_of y mo d h m s f) ≡ Some t
 text-read y mo d h m s f t hy hmo hd hh hm hs hf is sum le =
     let day : Day = record { year = y; month = mo; day = d } in
@@ -185,7 +198,8 @@ text-read y mo d h m s f t hy hmo hd hh hm hs hf is sum le =
     ∙ ap (λ r. at_time_of_day (day_number day * ticks_a_day) (then_read r with_offset)) (clock-last h m s f (90 ∷ []) hh hm hs hf)
     ∙ ap (λ k. at_offset k (East 0)) sum ∙ at-none t le
 
-printed-text : (t : ℕ) → let c = clock_at t in printed_by_default t ≡ Some (text_of c.day.year c.day.month c.day.day c.hour c.minute c.second c.fraction)
+printed-text : (t : ℕ) → let c = clock_at t in printed_by_default t
+    ≡ Some (text_of c.day.year c.day.month c.day.day c.hour c.minute c.second c.fraction)
 unfolding chars encode
 printed-text t = refl
 
@@ -199,11 +213,13 @@ small-month d h = grind (arith, nat_tests)
 small-day : (d : Day) → is_day d ≡ true → d.day < 100
 small-day d h = grind (arith, nat_tests)
 
-pub read-back : (t : ℕ) → t ≤ last_tick → is_day (day_at (t / ticks_a_day)) ≡ true → day_number (day_at (t / ticks_a_day)) ≡ t / ticks_a_day → IsReadBack t
+pub read-back : (t : ℕ) → t ≤ last_tick → is_day (day_at (t / ticks_a_day)) ≡ true
+    → day_number (day_at (t / ticks_a_day)) ≡ t / ticks_a_day → IsReadBack t
 read-back t le is counted =
     let c = clock_at t in
     let d = day_at (t / ticks_a_day) in
-    let sum : day_number d * ticks_a_day + ((c.hour * 60 + c.minute) * 600000000 + (c.second * 10000000 + c.fraction)) ≡ t = omega (arith, counted) in
+    let sum : day_number d * ticks_a_day + ((c.hour * 60 + c.minute) * 600000000 + (c.second * 10000000 + c.fraction))
+    ≡ t = omega (arith, counted) in
     ap (option_and_then read_time) (printed-text t)
     ∙ text-read d.year d.month d.day c.hour c.minute c.second c.fraction t (small-year d is) (small-month d is) (small-day d is)
     (omega arith) (omega arith) (omega arith) (omega arith) is sum le
