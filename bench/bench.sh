@@ -17,7 +17,7 @@ export top folder program
 (cd "$top/crates/template_rows" && rt run -- parse <stdin) >"$folder/log" 2>&1 || { cat "$folder/log" >&2 && exit 1; }
 (cd "$top/crates/function_rows" && rt run <stdin) >"$folder/log" 2>&1 || { cat "$folder/log" >&2 && exit 1; }
 python3 - <<'PROGRAM'
-import json, os, subprocess, time, urllib.parse
+import json, os, random, subprocess, time, urllib.parse
 
 top, folder, program = os.environ["top"], os.environ["folder"], os.environ["program"]
 
@@ -105,6 +105,7 @@ million = 10**6
 calls = [
     ("split of 1,000,000 commas", "split", ["," * million, ","], lambda text, part: text.split(part)),
     ("replace of 1,000,000 commas", "replace", ["," * million, ",", ";"], lambda text, old, new: text.replace(old, new)),
+    ("replace of 500,000 commas and blanks", "replace", [", " * (million // 2), ", ", ";"], lambda text, old, new: text.replace(old, new)),
     ("replace that would be too big", "replace", ["x" * million, "x", "y" * million], None),
     ("lastIndexOf of a..ab in a..a", "lastIndexOf", ["a" * million, "a" * (million // 2) + "b"],
         lambda text, part: text.lower().rfind(part.lower())),
@@ -131,4 +132,43 @@ for name, function, arguments, own in calls:
     print("%-34s %9d %9.4f %9s %7s %5d MiB  %s" % (
         name, len(row), ours, "%.4f" % min(theirs) if own else "-", "%.1f" % (ours / min(theirs)) if own else "-",
         memory([program], once), gives if len(gives) < 30 else "%d bytes" % len(gives)))
+
+# The functions on lists and objects are timed in the same way, beside jq's whole run on the same arguments. The growth is that
+# from a tenth of the items on.
+def of_items(count):
+    given = random.Random(7)
+    some, others = ([given.randrange(10 * count) for _ in range(count)] for _ in range(2))
+    texts = ["%09d" % given.randrange(10**9) for _ in range(count)]
+    one, other = ({"k%07d" % key: mark for key in keys[:count // 2]} for mark, keys in enumerate((some, others)))
+    there = set(others)
+    return [
+        ("union of two lists of numbers", "union", [some, others], "(.[0] + .[1]) | unique", list(dict.fromkeys(some + others))),
+        ("intersection of the two", "intersection", [some, others], "map(unique) | add | group_by(.) | map(select(length > 1) | .[0])",
+            [item for item in dict.fromkeys(some) if item in there]),
+        ("union of two objects of half of them", "union", [one, other], ".[0] + .[1]", dict(sorted({**one, **other}.items()))),
+        ("sort of texts", "sort", [texts], ".[0] | sort", sorted(texts)),
+        ("range", "range", [0, count], "[range(.[0]; .[0] + .[1])]", list(range(count))),
+        ("chunk of a list by 7", "chunk", [some, 7], ".[0] as $items | [range(0; $items | length; 7) as $at | $items[$at:$at + 7]]",
+            [some[at:at + 7] for at in range(0, count, 7)]),
+    ]
+
+
+def time_of(function, arguments, wanted):
+    row = function + "\t" + json.dumps(arguments) + "\n"
+    once, often = os.path.join(folder, "once"), os.path.join(folder, "often")
+    for path, times in ((once, 1), (often, 11)):
+        with open(path, "w") as out:
+            out.write(row * times)
+    with open(once) as given:
+        gives = subprocess.run([program], stdin=given, capture_output=True, check=True, text=True).stdout.strip()
+    assert gives == json.dumps(wanted, separators=(",", ":")), function
+    return (least([program], often) - least([program], once)) / 10
+
+
+print()
+print("%-37s %6s %9s %9s %7s %7s" % ("function", "items", "wflow s", "jq s", "ratio", "growth"))
+for (name, function, arguments, query, wanted), small in zip(of_items(10**5), of_items(10**4)):
+    ours, theirs = time_of(function, arguments, wanted), least(["jq", "-c", query, file("arguments.json", arguments)])
+    growth = ours / time_of(function, small[2], small[4])
+    print("%-37s %6d %9.4f %9.4f %7.1f %7.1f" % (name, 10**5, ours, theirs, ours / theirs, growth))
 PROGRAM

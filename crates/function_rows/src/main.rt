@@ -8,6 +8,7 @@
 //! The rows are data: a new row is proved by nothing and proves nothing anew. This program is no part of the engine.
 #![tactic(auto)]
 
+mod lists;
 mod numbers;
 mod texts;
 mod urls;
@@ -47,17 +48,16 @@ fn asked(alloc: Global, row: &str) -> Result<Option<Call>, AllocError> {
 
 // What the call gives, where a crate has such a function of so many arguments.
 fn given(alloc: Global, call: &Call) -> Option<Result<Val, EvalFault>> {
-    match numbers::given(call.function, &call.args) {
-        Some(answer) => Some(answer),
-        None => given_of_texts(alloc, call),
+    if let Some(answer) = numbers::given(call.function, &call.args) {
+        return Some(answer);
     }
-}
-
-fn given_of_texts(alloc: Global, call: &Call) -> Option<Result<Val, EvalFault>> {
-    match texts::given(alloc, call.function, &call.args) {
-        Some(answer) => Some(answer),
-        None => urls::given(alloc, call.function, &call.args),
+    if let Some(answer) = texts::given(alloc, call.function, &call.args) {
+        return Some(answer);
     }
+    if let Some(answer) = lists::given(alloc, call.function, &call.args) {
+        return Some(answer);
+    }
+    urls::given(alloc, call.function, &call.args)
 }
 
 // `!` and the fault. Want of memory is no answer.

@@ -8,9 +8,8 @@
 //! 3. the text that is printed of it, as JSON;
 //! 4. what that text spells, or `=` where it is the same tree.
 //!
-//! A row may also be `{"value":V}`, a value whose texts are templates, or `{"condition":C}`: then its answer is the first
-//! two columns. `show` says how a tree is written, and `tree` how a condition is. A column of more than 400 bytes is told
-//! by their number and their SHA-256 digest.
+//! `show` says how a tree is written. A column of more than 400 bytes is told by their number and their SHA-256 digest.
+//! A line that begins with `#` is a heading, and is written as it is.
 //!
 //! With the word `parse` or `read` the whole input is one text instead, for `bench/bench.sh`, which times it: `parse`
 //! says what it spells, and `read` how many bytes it has.
@@ -19,16 +18,16 @@
 mod print;
 mod row;
 mod show;
-mod tree;
 
 use crate::print::printed;
-use crate::row::{Refused, Row, row_of};
-use crate::show::{cond_shown, fault_shown, quoted, shown, tree_shown};
+use crate::row::text_of_row;
+use crate::show::{fault_shown, shown};
 use sha2::{Digest as _, Sha256};
 use std::alloc::{AllocError, Global};
 use std::io::ErrorKind;
 use std::{env, io};
 use wf_expr::{ParseFault, parse_template};
+use wf_json::quoted;
 use wf_template::Template;
 use wf_val::Text;
 
@@ -76,41 +75,22 @@ fn columns(alloc: Global, template: &Template) -> Result<String, AllocError> {
     push_same(alloc, &mut line, &tree, &copy)?;
     let text = printed(alloc, template)?;
     line.push('\t')?;
-    push_column(alloc, &mut line, &quoted(alloc, text.as_str())?)?;
+    push_column(alloc, &mut line, quoted(alloc, text.as_str())?.as_str())?;
     push_same(alloc, &mut line, &tree, &spelled(alloc, &text)?)?;
     Ok(line)
 }
 
-// What the text spells and what its copy and its printed text do, or its fault.
-fn text_answer(alloc: Global, text: &Text) -> Result<String, AllocError> {
-    match parse_template(alloc, text) {
+// The answer to a row, or a heading as it is.
+fn answer(alloc: Global, line: &str) -> Result<String, AllocError> {
+    if line.starts_with('#') {
+        return String::from_str(alloc, line);
+    }
+    let Some(text) = text_of_row(alloc, line)? else {
+        return String::from_str(alloc, "no row");
+    };
+    match parse_template(alloc, &text) {
         Ok(template) => columns(alloc, &template),
         Err(fault) => fault_shown(alloc, &fault),
-    }
-}
-
-// What is shown of a tree, and of its copy.
-fn both(alloc: Global, tree: &str, copy: &str) -> Result<String, AllocError> {
-    let mut line = String::new(alloc);
-    push_column(alloc, &mut line, tree)?;
-    push_same(alloc, &mut line, tree, copy)?;
-    Ok(line)
-}
-
-// The answer to a row.
-fn answer(alloc: Global, line: &str) -> Result<String, AllocError> {
-    match row_of(alloc, line) {
-        Ok(Row::Text(text)) => text_answer(alloc, &text),
-        Ok(Row::Value(tree)) => {
-            let copy = tree_shown(alloc, &tree.copy(alloc)?)?;
-            both(alloc, &tree_shown(alloc, &tree)?, &copy)
-        }
-        Ok(Row::Condition(condition)) => {
-            let copy = cond_shown(alloc, &condition.copy(alloc)?)?;
-            both(alloc, &cond_shown(alloc, &condition)?, &copy)
-        }
-        Err(Refused::Fault(fault)) => fault_shown(alloc, &fault),
-        Err(Refused::NoRow) => String::from_str(alloc, "no row"),
     }
 }
 

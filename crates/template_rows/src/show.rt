@@ -5,21 +5,12 @@
 //! what they stand on, with `?` before a soft one.
 use std::alloc::{AllocError, Global};
 use wf_expr::ParseFault;
-use wf_template::{
-    Access, Cond, Conds, Expr, Exprs, Piece, Pieces, Start, Template, Tree, TreeFields, Trees, chain_of,
-};
+use wf_json::quoted;
+use wf_template::{Access, Expr, Exprs, Piece, Pieces, Start, Template, chain_of};
 use wf_val::{Text, Val};
 
 // Above the greatest nesting of an expression: 64 brackets.
 const LEVELS: u8 = 80;
-
-// Above the greatest nesting of a value that is read: 120.
-const TREE_LEVELS: u8 = 130;
-
-/// A text as JSON.
-pub(crate) fn quoted(alloc: Global, text: &str) -> Result<String, AllocError> {
-    literal(alloc, &Val::Text(Text::of(alloc, text)?))
-}
 
 // A literal as JSON.
 fn literal(alloc: Global, value: &Val) -> Result<String, AllocError> {
@@ -32,7 +23,7 @@ pub(crate) fn shown(alloc: Global, template: &Template) -> Result<String, AllocE
     match template {
         Template::Plain(text) => {
             out.push_str("plain ")?;
-            out.push_str(&quoted(alloc, text.as_str())?)?;
+            out.push_str(quoted(alloc, text.as_str())?.as_str())?;
         }
         Template::Whole(expression) => {
             out.push_str("whole ")?;
@@ -59,7 +50,7 @@ fn show_pieces(alloc: Global, out: &mut String, pieces: &Pieces) -> Result<(), A
     for piece in pieces.as_slice() {
         out.push(' ')?;
         match piece {
-            Piece::Lit(text) => out.push_str(&quoted(alloc, text.as_str())?)?,
+            Piece::Lit(text) => out.push_str(quoted(alloc, text.as_str())?.as_str())?,
             Piece::Part(expression) => {
                 out.push('{')?;
                 show(alloc, out, expression, LEVELS)?;
@@ -135,126 +126,4 @@ fn show_access(
             out.push(']')
         }
     }
-}
-
-/// The value with a template for each text, as JSON but for these, each of which stands in `<` and `>`.
-pub(crate) fn tree_shown(alloc: Global, tree: &Tree) -> Result<String, AllocError> {
-    let mut out = String::new(alloc);
-    show_tree(alloc, &mut out, tree, TREE_LEVELS)?;
-    Ok(out)
-}
-
-/// The condition: `and(C,C)`, `or(C,C)`, `not(C)`, a template in `<` and `>`, or a function's name with two values.
-pub(crate) fn cond_shown(alloc: Global, condition: &Cond) -> Result<String, AllocError> {
-    let mut out = String::new(alloc);
-    show_cond(alloc, &mut out, condition, TREE_LEVELS)?;
-    Ok(out)
-}
-
-fn show_template(
-    alloc: Global,
-    out: &mut String,
-    template: &Template,
-) -> Result<(), AllocError> {
-    out.push('<')?;
-    out.push_str(&shown(alloc, template)?)?;
-    out.push('>')
-}
-
-#[cycle(show_tree)]
-fn show_tree(alloc: Global, out: &mut String, tree: &Tree, levels: u8) -> Result<(), AllocError> {
-    match tree {
-        Tree::Null => out.push_str("null"),
-        Tree::Bool(truth) => out.push_str(&format!(in alloc; "{truth}")?),
-        Tree::Int(number) => out.push_str(&format!(in alloc; "{number}")?),
-        Tree::Text(template) => show_template(alloc, out, template),
-        Tree::List(items) => show_items(alloc, out, items, levels),
-        Tree::Obj(fields) => show_members(alloc, out, fields, levels),
-    }
-}
-
-#[cycle(show_tree)]
-fn show_items(alloc: Global, out: &mut String, items: &Trees, levels: u8) -> Result<(), AllocError> {
-    let Some(below) = levels.checked_sub(1) else {
-        return out.push_str("too deep");
-    };
-    out.push('[')?;
-    for (place, item) in items.as_slice().iter().enumerate() {
-        if place > 0 {
-            out.push(',')?;
-        }
-        show_tree(alloc, out, item, below)?;
-    }
-    out.push(']')
-}
-
-#[cycle(show_tree)]
-fn show_members(
-    alloc: Global,
-    out: &mut String,
-    fields: &TreeFields,
-    levels: u8,
-) -> Result<(), AllocError> {
-    let Some(below) = levels.checked_sub(1) else {
-        return out.push_str("too deep");
-    };
-    out.push('{')?;
-    for (place, member) in fields.as_slice().iter().enumerate() {
-        if place > 0 {
-            out.push(',')?;
-        }
-        out.push_str(&quoted(alloc, member.0.as_str())?)?;
-        out.push(':')?;
-        show_tree(alloc, out, &member.1, below)?;
-    }
-    out.push('}')
-}
-
-#[cycle(show_cond)]
-fn show_cond(
-    alloc: Global,
-    out: &mut String,
-    condition: &Cond,
-    levels: u8,
-) -> Result<(), AllocError> {
-    let Some(below) = levels.checked_sub(1) else {
-        return out.push_str("too deep");
-    };
-    match condition {
-        Cond::Text(template) => show_template(alloc, out, template),
-        Cond::And(conditions) => show_conds(alloc, out, "and", conditions, below),
-        Cond::Or(conditions) => show_conds(alloc, out, "or", conditions, below),
-        Cond::Not(negated) => {
-            out.push_str("not(")?;
-            show_cond(alloc, out, negated, below)?;
-            out.push(')')
-        }
-        Cond::Compare { fun, left, right } => {
-            out.push_str(fun.name())?;
-            out.push('(')?;
-            out.push_str(&tree_shown(alloc, left)?)?;
-            out.push(',')?;
-            out.push_str(&tree_shown(alloc, right)?)?;
-            out.push(')')
-        }
-    }
-}
-
-#[cycle(show_cond)]
-fn show_conds(
-    alloc: Global,
-    out: &mut String,
-    word: &str,
-    conditions: &Conds,
-    levels: u8,
-) -> Result<(), AllocError> {
-    out.push_str(word)?;
-    out.push('(')?;
-    for (place, condition) in conditions.as_slice().iter().enumerate() {
-        if place > 0 {
-            out.push(',')?;
-        }
-        show_cond(alloc, out, condition, levels)?;
-    }
-    out.push(')')
 }

@@ -1,13 +1,14 @@
 -- What is given fits: calls, literals, lists, objects and texts are tested, and a part of a value that fits does too.
 use Rattle.std.proofs.Common.{◌≡◌, ℕ, zero, suc, ◌≤◌, ◌^◌, Bool, true, false, List, [], ◌∷◌, Option, Some, None, option_map, Result, Ok, Err, slice_get, refl, subst, arith}
 use Rattle.std.specs.Fmt.{signed_decimal}
-use Rattle.std.specs.Prelude.{pos, negsuc, ◌&&◌, nat_le, bytes_eq, if◌then◌else◌}
+use Rattle.std.specs.Ordering.{is_eq}
+use Rattle.std.specs.Prelude.{map, pos, negsuc, ◌&&◌, nat_le, if◌then◌else◌}
 use Rattle.std.proofs.lemmas.Bool.{leb-true}
 use Rattle.wf_val.specs.Arguments.{Answer, given, wrong_type, bounded}
 use Rattle.wf_val.specs.Cut.{cut_u32, cut_u64}
 use Rattle.wf_val.specs.Function.{function_of}
 use Rattle.wf_val.specs.Get as look_up
-use Rattle.wf_val.specs.NameOrder.{find_named}
+use Rattle.wf_val.specs.NameOrder.{bytes_cmp, find_named}
 use Rattle.wf_val.specs.ValueTree.{ValueTree, null, boolean, number, text, list, object, ValueTrees, no_values, value_then, MemberTrees, no_members, member_then, trees, items, members, pairs, depth, trees_depth, members_depth, weight, trees_weight, members_weight, Fits, fits}
 use Rattle.wf_val.specs.declared.function.Fun.{Fun}
 use Rattle.wf_val.specs.declared.fault.EvalFault.{EvalFault}
@@ -18,7 +19,7 @@ use Rattle.wf_eval.specs.declared.way.Way.{Way}
 use Rattle.wf_eval.specs.Accesses.{found, member_row, index_row}
 use Rattle.wf_eval.specs.Looked.{named_by, told_row}
 use Rattle.wf_eval.specs.Outcomes.{Outcome, Run, go_on, then_run, turned, all_after}
-use Rattle.wf_eval.specs.Rows.{fitted, strict_row}
+use Rattle.wf_eval.specs.Rows.{fitted, strict_row, as_text, joined_row}
 use Rattle.wf_eval.specs.TemplateValue.{text_answer, joined, piece_runs, template_value}
 use Rattle.wf_eval.specs.Told.{Told}
 use Rattle.wf_eval.specs.TreeValue.{list_answer, object_answer, members_after, tree_value, tree_runs, member_runs}
@@ -70,7 +71,7 @@ record IsWithin (u : ValueTree) (d w : ℕ) : Type 0 where
 member-within : (k : List ℕ) (ms : MemberTrees) (u : ValueTree) → look_up.value_of k (pairs ms) ≡ Some u →
     IsWithin u (members_depth ms) (members_weight ms)
 member-within k no_members u e = absurd cc
-member-within k (member_then n t ms) u e = go (member-within k ms u) (bytes_eq k n) e
+member-within k (member_then n t ms) u e = go (member-within k ms u) (is_eq (bytes_cmp k n)) e
   where
     go : (look_up.value_of k (pairs ms) ≡ Some u → IsWithin u (members_depth ms) (members_weight ms)) → (b : Bool) →
         option_map (λ m. m.1) (if b then Some (n, t) else find_named look_up.name_of k (pairs ms)) ≡ Some u →
@@ -171,6 +172,8 @@ early-fits f (r ∷ rs) fit i n =
 called-fits : (l : Told) (f : Fun) (es : ExprTrees) (rs : List Run) → AreFitting rs → (w : Way) → IsFitting (called l f es rs w)
 called-fits l f es rs fit Way.Chosen n = if_run-fits rs fit n
 called-fits l f es rs fit Way.Early n = early-fits f rs fit 0 n
+called-fits l f es rs fit Way.Joined n =
+    given-good (all_after rs [] n).0 joined_row (λ ts. fitted-good (strict_row Fun.Concat (map as_text ts)))
 called-fits l f es rs fit Way.Named n = fitted-good (named_by l f (literal_name es))
 called-fits l f es rs fit Way.Told n = fitted-good (told_row l f)
 called-fits l f es rs fit Way.Strict n =

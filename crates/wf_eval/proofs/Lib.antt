@@ -3,6 +3,7 @@ mod Grow
 mod Loops
 mod Chains
 mod MeasuredLemmas
+mod JoinedLemmas
 mod TreeLoops
 mod CondLoops
 mod Fitting

@@ -11,7 +11,7 @@ use Rattle.wf_template.specs.TemplateSeen.{piece_tree}
 use Rattle.wf_template.specs.declared.template.Piece.{Piece}
 use Rattle.wf_eval.specs.Measured.{Measured, with_more, measured_answer, measured}
 use Rattle.wf_eval.specs.Meets.{Meets, MeetsFault}
-use Rattle.wf_eval.specs.Outcomes.{Run, go_on, turned}
+use Rattle.wf_eval.specs.Outcomes.{Outcome, Run, go_on, turned}
 use Rattle.wf_eval.specs.TemplateValue.{piece_value, piece_runs, joined, text_answer}
 use Rattle.wf_eval.specs.Told.{Told}
 use Rattle.wf_eval.proofs.Grow.{AreGrowing, then_run-grows, handed, turned_fault}
@@ -63,7 +63,7 @@ measured-is (r ∷ rs) m s n is = go (λ t k. measured-is rs (with_more (json_te
 pub measured-whole : (rs : List Run) (n : ℕ) → turned measured_answer (measured rs ([], 0) n) ≡ turned text_answer (joined rs [] n)
 measured-whole rs n = measured-is rs ([], 0) [] n (record { long = refl; kept = λ lt. refl })
 
-measured-grows : (rs : List Run) → AreGrowing rs → (m : Measured) (n : ℕ) → n ≤ (measured rs m n).1
+pub measured-grows : (rs : List Run) → AreGrowing rs → (m : Measured) (n : ℕ) → n ≤ (measured rs m n).1
 measured-grows [] grow m n = le_refl n
 measured-grows (r ∷ rs) grow m n = then_run-grows n (r n) (λ t k. measured rs (with_more (json_text.text t) m) k) (grow.0 n)
     (λ t k. measured-grows rs grow.1 (with_more (json_text.text t) m) k)
@@ -96,15 +96,25 @@ pub measured_ends : (l : Told) (xs : List Piece) (i : ℕ) (so_far : Measured) (
 measured_ends l xs i so_far n all le rest_is = sym rest_is
     ∙ ap (λ ys. measured (piece_runs l (map piece_tree ys)) so_far n) (drop_all i xs le)
 
--- what is a fault of the measured text is one of the template
-pub of_measured : (rs : List Run) (n : ℕ) (f : EvalFault) (k : ℕ) → MeetsFault f (measured rs ([], 0) n) k →
-    MeetsFault f (turned text_answer (joined rs [] n)) k
-of_measured rs n f k met = subst (λ o. MeetsFault f o k) (measured-whole rs n)
-    (turned_fault measured_answer (measured rs ([], 0) n) f k met)
+-- ---- where what is measured is an outcome
 
--- and the answer of what is measured at the end its value
-pub of_answer : (rs : List Run) (n : ℕ) (m : Measured) (r : Answer) (k : ℕ) → measured rs ([], 0) n ≡ (Ok m, k) → r ≡ measured_answer m →
-    Meets r (turned text_answer (joined rs [] n)) k
-of_answer rs n m r k end is =
-    subst (λ o. Meets r o k) (ap (turned measured_answer) (sym end) ∙ measured-whole rs n)
+-- a fault of what is measured is the outcome's
+pub of_measured : (rs : List Run) (n : ℕ) (o : Outcome) (f : EvalFault) (k : ℕ) → turned measured_answer (measured rs ([], 0) n) ≡ o →
+    MeetsFault f (measured rs ([], 0) n) k → MeetsFault f o k
+of_measured rs n o f k is met = subst (λ p. MeetsFault f p k) is (turned_fault measured_answer (measured rs ([], 0) n) f k met)
+
+-- and the answer of what is measured at the end is its value
+pub of_answer : (rs : List Run) (n : ℕ) (o : Outcome) (m : Measured) (r : Answer) (k : ℕ) → turned measured_answer (measured rs ([], 0) n) ≡ o →
+    measured rs ([], 0) n ≡ (Ok m, k) → r ≡ measured_answer m → Meets r o k
+of_answer rs n o m r k whole end is =
+    subst (λ p. Meets r p k) (ap (turned measured_answer) (sym end) ∙ whole)
     (rw is (meets (measured_answer m) (measured_answer m, k) k (λ apart. refl) refl))
+
+-- the same of a template's pieces
+pub parts_fault : (rs : List Run) (n : ℕ) (f : EvalFault) (k : ℕ) → MeetsFault f (measured rs ([], 0) n) k →
+    MeetsFault f (turned text_answer (joined rs [] n)) k
+parts_fault rs n f k met = of_measured rs n (turned text_answer (joined rs [] n)) f k (measured-whole rs n) met
+
+pub parts_answer : (rs : List Run) (n : ℕ) (m : Measured) (r : Answer) (k : ℕ) → measured rs ([], 0) n ≡ (Ok m, k) → r ≡ measured_answer m →
+    Meets r (turned text_answer (joined rs [] n)) k
+parts_answer rs n m r k end is = of_answer rs n (turned text_answer (joined rs [] n)) m r k (measured-whole rs n) end is

@@ -11,7 +11,7 @@ use Rattle.wf_eval.specs.declared.way.Way.{Way}
 use Rattle.wf_eval.specs.Accesses.{member_row, index_row}
 use Rattle.wf_eval.specs.Looked.{named_by, told_row}
 use Rattle.wf_eval.specs.Outcomes.{Run, then_run, turned, strictly}
-use Rattle.wf_eval.specs.Rows.{fitted, strict_row}
+use Rattle.wf_eval.specs.Rows.{fitted, strict_row, joined_row}
 use Rattle.wf_eval.specs.Told.{Told}
 use Rattle.wf_eval.specs.Ways.{way_of}
 
@@ -63,6 +63,7 @@ literal_name es = None
 abbrev pub called : Told → Fun → ExprTrees → List Run → Way → Run
 called l f es rs Way.Chosen n = if_run rs n
 called l f es rs Way.Early n = early f rs 0 n
+called l f es rs Way.Joined n = strictly joined_row rs n
 called l f es rs Way.Named n = (fitted (named_by l f (literal_name es)), n)
 called l f es rs Way.Told n = (fitted (told_row l f), n)
 called l f es rs Way.Strict n = strictly (λ ts. fitted (strict_row f ts)) rs n

@@ -6,14 +6,15 @@ ghost use Rattle.wf_val.specs.Seen.{tree};
 ghost use Rattle.wf_template.specs.ChainSeen.{start_tree};
 ghost use Rattle.wf_template.specs.ExprSeen.{expr_tree};
 ghost use Rattle.wf_eval.specs.Meets.{Meets};
-ghost use Rattle.wf_eval.specs.Outcomes.{all_after};
-ghost use Rattle.wf_eval.specs.Rows.{fitted, strict_row as row_in};
+ghost use Rattle.wf_eval.specs.Outcomes.{all_after, strictly};
+ghost use Rattle.wf_eval.specs.Rows.{fitted, joined_row};
 ghost use Rattle.wf_eval.specs.Seen.{args_tree, accessed_run};
 ghost use Rattle.wf_eval.specs.Value.{value, runs, called, called_by, if_run, early, stop, at_end};
 ghost use Rattle.wf_eval.specs.Ways.{way_of};
 
 use crate::accesses::{index_of, member_of};
 use crate::look::Look;
+use crate::measured::{Measured, as_text};
 use crate::named::{named_by, told_row};
 use crate::rows::strict_row;
 use crate::way::{Way, way_of};
@@ -120,6 +121,7 @@ fn eval_known<L: Look>(
     match way_of(function) {
         Way::Chosen => eval_if(alloc, args, look),
         Way::Early => eval_early(alloc, function, args, look),
+        Way::Joined => eval_joined(alloc, args, look),
         Way::Named => fitted(named_by(alloc, look, function, args)),
         Way::Told => fitted(told_row(alloc, look, function)),
         Way::Strict => {
@@ -153,6 +155,27 @@ fn eval_all<L: Look>(alloc: Global, args: &[Expr], look: &mut L) -> Result<Vals,
         values.push(eval_expr(alloc, arg, look)?)?;
     }
     Ok(values)
+}
+
+// The texts of all in a row, which is `concat`. No value is kept once its text is there, and no more text than fits.
+#[cycle(eval)]
+fn eval_joined<L: Look>(alloc: Global, args: &[Expr], look: &mut L) -> Result<Val, EvalFault>
+    ensures value { Meets (seen result)
+        (strictly joined_row (runs (L.told look.old) (args_tree args.now)) (L.drawn look.old))
+        (L.drawn look.new) }
+    ensures same { L.told look.new ≡ L.told look.old }
+    ensures held { L.held look.new ≡ L.held look.old }
+{
+    if args.is_empty() {
+        return Err(wrong_type(Fun::Concat, 0));
+    }
+    let mut text = Measured::new(alloc);
+    for arg in args {
+        let value = eval_expr(alloc, arg, look)?;
+        let part = as_text(alloc, value)?;
+        text.push(part.as_str())?;
+    }
+    text.answer()
 }
 
 // Only the chosen arm.

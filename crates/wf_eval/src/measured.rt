@@ -1,6 +1,8 @@
 //! A text that is put together and measured.
-ghost use Rattle.std.specs.Prelude.{◌≡◌, [], OnOk};
+ghost use Rattle.std.specs.Prelude.{◌≡◌, [], IfOk, OnOk};
 ghost use Rattle.wf_val.specs.Arguments.{seen};
+ghost use Rattle.wf_val.specs.Seen.{tree};
+ghost use Rattle.wf_json.specs.Json as json_text;
 ghost use Rattle.wf_eval.specs.Measured.{with_more, measured_answer};
 
 use std::alloc::{AllocError, Global};
@@ -61,5 +63,15 @@ impl Measured {
                 weight: self.length.saturating_add(1),
             })
         }
+    }
+}
+
+/// A value as text; a text is moved.
+pub(crate) fn as_text(alloc: Global, value: Val) -> Result<Text, AllocError>
+    ensures { IfOk result (λ s. s ≡ json_text.text (tree value)) }
+{
+    match value {
+        Val::Text(text) => Ok(text),
+        other => wf_json::text(alloc, &other),
     }
 }

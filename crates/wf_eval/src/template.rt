@@ -1,9 +1,6 @@
 //! The value of a template.
 ghost use Rattle.std.specs.Prelude.{◌≡◌, [], map};
 ghost use Rattle.wf_val.specs.Arguments.{seen};
-ghost use Rattle.wf_val.specs.Seen.{tree};
-ghost use Rattle.wf_json.specs.Json as json_text;
-ghost use Rattle.std.specs.Prelude.{IfOk};
 ghost use Rattle.wf_template.specs.TemplateSeen.{piece_tree, template_tree};
 ghost use Rattle.wf_eval.specs.Meets.{Meets};
 ghost use Rattle.wf_eval.specs.Outcomes.{turned};
@@ -11,10 +8,10 @@ ghost use Rattle.wf_eval.specs.TemplateValue.{piece_value, piece_runs, joined, t
 
 use crate::expression::eval_expr;
 use crate::look::Look;
-use crate::measured::Measured;
-use std::alloc::{AllocError, Global};
+use crate::measured::{Measured, as_text};
+use std::alloc::Global;
 use wf_template::{Piece, Template};
-use wf_val::{EvalFault, Text, Val, bounded};
+use wf_val::{EvalFault, Val, bounded};
 
 /// The value of a template in a look: its value, or the first fault from left to right. After a fault the look has
 /// drawn the words that the definition counts up to it, and after want of memory at most as many as for the whole.
@@ -57,15 +54,5 @@ fn eval_piece<L: Look>(alloc: Global, piece: &Piece, look: &mut L) -> Result<Val
     match piece {
         Piece::Lit(text) => Ok(Val::Text(text.copy(alloc)?)),
         Piece::Part(e) => eval_expr(alloc, e, look),
-    }
-}
-
-// A value as text; a text is moved.
-fn as_text(alloc: Global, value: Val) -> Result<Text, AllocError>
-    ensures { IfOk result (λ s. s ≡ json_text.text (tree value)) }
-{
-    match value {
-        Val::Text(text) => Ok(text),
-        other => wf_json::text(alloc, &other),
     }
 }

@@ -7,13 +7,15 @@ use Rattle.std.specs.Str.{chars, encode_utf8_all, IsUtf8}
 use Rattle.wf_fn_list.specs.Chunks.{onto_first, pieces_from, chunks}
 
 -- one item, and so many more where there are so many
-cut : {X : Type 0} (others room : ℕ) (x : X) (xs : List X) → pieces_from others room (x ∷ xs) ≡ (x ∷ take room xs) ∷ pieces_from others others (drop room xs)
+cut : {X : Type 0} (others room : ℕ) (x : X) (xs : List X) → pieces_from others room (x ∷ xs)
+    ≡ (x ∷ take room xs) ∷ pieces_from others others (drop room xs)
 cut others zero x xs = refl
 cut others (suc room) x [] = refl
 cut others (suc room) x (y ∷ ys) = ap (onto_first x) (cut others room y ys)
 
 -- an item in front of the first piece is in front of all
-joined-onto : {X : Type 0} (x : X) (pieces : List (List X)) → flat_map (λ piece. piece) (onto_first x pieces) ≡ x ∷ flat_map (λ piece. piece) pieces
+joined-onto : {X : Type 0} (x : X) (pieces : List (List X)) → flat_map (λ piece. piece) (onto_first x pieces)
+    ≡ x ∷ flat_map (λ piece. piece) pieces
 joined-onto x [] = refl
 joined-onto x (piece ∷ pieces) = refl
 
@@ -26,7 +28,8 @@ joined-from others (suc room) (x ∷ xs) = joined-onto x (pieces_from others roo
 pub chunks-joined : {X : Type 0} (size : ℕ) (xs : List X) → flat_map (λ piece. piece) (chunks size xs) ≡ xs
 chunks-joined size xs = joined-from (size - 1) (size - 1) xs
 
-pub chunks-cons : {X : Type 0} (size : ℕ) (xs : List X) → 0 < size → 0 < length xs → chunks size xs ≡ take size xs ∷ chunks size (drop size xs)
+pub chunks-cons : {X : Type 0} (size : ℕ) (xs : List X) → 0 < size → 0 < length xs → chunks size xs
+    ≡ take size xs ∷ chunks size (drop size xs)
 chunks-cons zero xs some full = absurd (omega (arith, some))
 chunks-cons (suc others) [] some full = absurd (omega (arith, full))
 chunks-cons (suc others) (x ∷ xs) some full =
@@ -36,7 +39,8 @@ chunks-cons (suc others) (x ∷ xs) some full =
     ∙ ap (λ n. (x ∷ take others xs) ∷ pieces_from n n (drop others xs)) (sym one_less)
 
 -- one more piece is cut off
-pub piece-cut : {X Z : Type 0} (shown : List X → Z) (size : ℕ) (xs : List X) (done now : List Z) → 0 < size → 0 < length xs → now ≡ done ++ shown (take size xs) ∷ []
+pub piece-cut : {X Z : Type 0} (shown : List X → Z) (size : ℕ) (xs : List X) (done now : List Z) → 0 < size → 0 < length xs → now
+    ≡ done ++ shown (take size xs) ∷ []
     → now ++ map shown (chunks size (drop size xs)) ≡ done ++ map shown (chunks size xs)
 piece-cut shown size xs done now some full is =
     ap (λ l. l ++ map shown (chunks size (drop size xs))) is
@@ -44,7 +48,8 @@ piece-cut shown size xs done now some full is =
     ∙ ap (λ l. done ++ map shown l) (sym (chunks-cons size xs some full))
 
 -- nothing is left
-pub all-cut : {X Z : Type 0} (shown : List X → Z) (size : ℕ) (xs : List X) (done : List Z) → length xs ≡ 0 → done ++ map shown (chunks size xs) ≡ done
+pub all-cut : {X Z : Type 0} (shown : List X → Z) (size : ℕ) (xs : List X) (done : List Z) → length xs ≡ 0
+    → done ++ map shown (chunks size xs) ≡ done
 all-cut shown size [] done none = append-nil done
 all-cut shown size (x ∷ xs) done none = absurd (omega (arith, none))
 

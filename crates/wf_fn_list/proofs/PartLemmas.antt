@@ -25,7 +25,8 @@ pub rest : {X Y : Type 0} (f : X → Y) (n : ℕ) (xs : List X) → map f (drop 
 rest f n xs = ap (map f) (drop-min n xs) ∙ sym (drop-map f n xs)
 
 -- what is left at a place begins with the item there
-pub rest-from : {X Y : Type 0} (left : List X → Y) (xs : List X) (i : ℕ) (x : X) → i < length xs → x ≡ get_or xs i x → left (drop i xs) ≡ left (x ∷ drop (i + 1) xs)
+pub rest-from : {X Y : Type 0} (left : List X → Y) (xs : List X) (i : ℕ) (x : X) → i < length xs → x ≡ get_or xs i x → left (drop i xs)
+    ≡ left (x ∷ drop (i + 1) xs)
 rest-from left xs i x lt is = at_drop_more left xs i x lt ∙ ap (λ y. left (y ∷ drop (i + 1) xs)) (sym is)
 
 -- lists that are read off, joined

@@ -44,7 +44,8 @@ range-at a (suc n) (suc k) lt =
     let next : a + 1 + k ≡ a + suc k = omega arith in
     range-at (a + 1) n k (omega (arith, lt)) ∙ ap Some next
 
-pub number-at : (first : ℤ) (count place : ℕ) → place < count → slice_get (numbers_from first count) place ≡ Some (number (first +ℤ pos place))
+pub number-at : (first : ℤ) (count place : ℕ) → place < count → slice_get (numbers_from first count) place
+    ≡ Some (number (first +ℤ pos place))
 number-at first count place lt =
     let none : 0 + place ≡ place = omega arith in
     slice_get-map (λ k. number (first +ℤ pos k)) (range_with_len 0 count) place
@@ -56,5 +57,6 @@ past-within n x past =
     let over : nat_le (1 + n) (2 ^ 20) ≡ false = grind (arith, nat_tests) in
     ap (λ b. cond b (Ok x) (Err (EvalFault.TooBig 1 (cut_u64 (1 + n))))) over
 
-pub numbers-too_big : (first : ℤ) (count : ℕ) → 2 ^ 20 ≤ count → bounded (list (trees (numbers_from first count))) ≡ Err (EvalFault.TooBig 1 (cut_u64 (1 + count)))
+pub numbers-too_big : (first : ℤ) (count : ℕ) → 2 ^ 20 ≤ count → bounded (list (trees (numbers_from first count)))
+    ≡ Err (EvalFault.TooBig 1 (cut_u64 (1 + count)))
 numbers-too_big first count past = measured first count ∙ past-within count (list (trees (numbers_from first count))) past

@@ -56,7 +56,8 @@ among-contained : (xs : List ValueTree) (x : ValueTree) → is_among xs x ≡ tr
 among-contained [] x is = absurd (cc)
 among-contained (y ∷ ys) x is = contained-at y ys x (is_eq (order x y)) refl is (among-contained ys x)
   where
-    contained-at : (y : ValueTree) (ys : List ValueTree) (x : ValueTree) (b : Bool) → b ≡ is_eq (order x y) → b || is_among ys x ≡ true → (is_among ys x ≡ true → Contains ys x) → Contains (y ∷ ys) x
+    contained-at : (y : ValueTree) (ys : List ValueTree) (x : ValueTree) (b : Bool) → b ≡ is_eq (order x y) → b || is_among ys x ≡ true
+        → (is_among ys x ≡ true → Contains ys x) → Contains (y ∷ ys) x
     contained-at y ys x true at is rest = (0, omega arith, sym (same-from_equal x y (sym at)))
     contained-at y ys x false at is rest = Contains-append_right (y ∷ []) ys x (rest is)
 
@@ -78,31 +79,40 @@ passed-over true true b known = refl
 passed-over true false b known = sym (known refl)
 passed-over false a b known = refl
 
-after-among : (before xs : List ValueTree) (q : ValueTree) → is_among (distinct_after before xs) q || is_among before q ≡ is_among xs q || is_among before q
+after-among : (before xs : List ValueTree) (q : ValueTree) → is_among (distinct_after before xs) q || is_among before q
+    ≡ is_among xs q || is_among before q
 after-among before [] q = refl
 after-among before (x ∷ xs) q = at (is_among before x) refl (after-among before xs q) (after-among (x ∷ before) xs q)
   where
-    at : (b : Bool) → b ≡ is_among before x → is_among (distinct_after before xs) q || is_among before q ≡ is_among xs q || is_among before q
+    at : (b : Bool) → b ≡ is_among before x → is_among (distinct_after before xs) q || is_among before q
+        ≡ is_among xs q || is_among before q
         → is_among (distinct_after (x ∷ before) xs) q || is_among (x ∷ before) q ≡ is_among xs q || is_among (x ∷ before) q
-        → is_among (cond b (distinct_after before xs) (x ∷ distinct_after (x ∷ before) xs)) q || is_among before q ≡ is_among (x ∷ xs) q || is_among before q
+        → is_among (cond b (distinct_after before xs) (x ∷ distinct_after (x ∷ before) xs)) q || is_among before q
+        ≡ is_among (x ∷ xs) q || is_among before q
     at true known passed kept =
-        passed ∙ sym (passed-over (is_eq (order q x)) (is_among xs q) (is_among before q) (λ e. ap (is_among before) (same-from_equal q x e) ∙ sym known))
-    at false known passed kept = merged (is_eq (order q x)) (is_among (distinct_after (x ∷ before) xs) q) (is_among xs q) (is_among before q) kept
+        passed ∙ sym (passed-over (is_eq (order q x)) (is_among xs q) (is_among before q)
+        (λ e. ap (is_among before) (same-from_equal q x e) ∙ sym known))
+    at false known passed kept =
+        merged (is_eq (order q x)) (is_among (distinct_after (x ∷ before) xs) q) (is_among xs q) (is_among before q) kept
 
 pub distinct-among : (xs : List ValueTree) (q : ValueTree) → is_among (distinct xs) q ≡ is_among xs q
 distinct-among xs q = sym (or-none (is_among (distinct xs) q)) ∙ after-among [] xs q ∙ or-none (is_among xs q)
 
 -- no two of them are the same
-forget : (x : ValueTree) (before ys : List ValueTree) → AllByRecursion (λ y. is_among (x ∷ before) y ≡ false) ys → AllByRecursion (λ y. is_among before y ≡ false) ys
+forget : (x : ValueTree) (before ys : List ValueTree) → AllByRecursion (λ y. is_among (x ∷ before) y ≡ false) ys
+    → AllByRecursion (λ y. is_among before y ≡ false) ys
 forget x before [] all = tt
 forget x before (y ∷ ys) all = (or-second_false (is_eq (order y x)) (is_among before y) all.0, forget x before ys all.1)
 
-apart : (x : ValueTree) (before ys : List ValueTree) → AllByRecursion (λ y. is_among (x ∷ before) y ≡ false) ys → AllByRecursion (λ y. is_eq (order x y) ≡ false) ys
+apart : (x : ValueTree) (before ys : List ValueTree) → AllByRecursion (λ y. is_among (x ∷ before) y ≡ false) ys
+    → AllByRecursion (λ y. is_eq (order x y) ≡ false) ys
 apart x before [] all = tt
 apart x before (y ∷ ys) all = (equal-swapped x y ∙ or-first_false (is_eq (order y x)) (is_among before y) all.0, apart x before ys all.1)
 
-new-at : (x : ValueTree) (before xs : List ValueTree) (b : Bool) → b ≡ is_among before x → AllByRecursion (λ y. is_among before y ≡ false) (distinct_after before xs)
-    → AllByRecursion (λ y. is_among (x ∷ before) y ≡ false) (distinct_after (x ∷ before) xs) → AllByRecursion (λ y. is_among before y ≡ false) (cond b (distinct_after before xs) (x ∷ distinct_after (x ∷ before) xs))
+new-at : (x : ValueTree) (before xs : List ValueTree) (b : Bool) → b ≡ is_among before x
+    → AllByRecursion (λ y. is_among before y ≡ false) (distinct_after before xs)
+    → AllByRecursion (λ y. is_among (x ∷ before) y ≡ false) (distinct_after (x ∷ before) xs)
+    → AllByRecursion (λ y. is_among before y ≡ false) (cond b (distinct_after before xs) (x ∷ distinct_after (x ∷ before) xs))
 new-at x before xs true is passed kept = passed
 new-at x before xs false is passed kept = (sym is, forget x before (distinct_after (x ∷ before) xs) kept)
 
@@ -110,7 +120,8 @@ after-new : (before xs : List ValueTree) → AllByRecursion (λ y. is_among befo
 after-new before [] = tt
 after-new before (x ∷ xs) = new-at x before xs (is_among before x) refl (after-new before xs) (after-new (x ∷ before) xs)
 
-once-at : (x : ValueTree) (before xs : List ValueTree) (b : Bool) → IsDistinct (λ y z. is_eq (order y z)) (distinct_after before xs) → IsDistinct (λ y z. is_eq (order y z)) (distinct_after (x ∷ before) xs)
+once-at : (x : ValueTree) (before xs : List ValueTree) (b : Bool) → IsDistinct (λ y z. is_eq (order y z)) (distinct_after before xs)
+    → IsDistinct (λ y z. is_eq (order y z)) (distinct_after (x ∷ before) xs)
     → IsDistinct (λ y z. is_eq (order y z)) (cond b (distinct_after before xs) (x ∷ distinct_after (x ∷ before) xs))
 unfolding IsDistinct
 once-at x before xs true passed kept = passed
@@ -139,23 +150,30 @@ consed x y true ys = refl
 consed x y false ys = refl
 
 after-more : (before xs : List ValueTree) (x : ValueTree)
-    → distinct_after before (xs ++ x ∷ []) ≡ cond (is_among before x || is_among xs x) (distinct_after before xs) (distinct_after before xs ++ x ∷ [])
+    → distinct_after before (xs ++ x ∷ [])
+    ≡ cond (is_among before x || is_among xs x) (distinct_after before xs) (distinct_after before xs ++ x ∷ [])
 after-more before [] x = ap (λ b. cond b [] (x ∷ [])) (sym (or-none (is_among before x)))
 after-more before (y ∷ ys) x = at (is_among before y) refl (after-more before ys x) (after-more (y ∷ before) ys x)
   where
     at : (b : Bool) → b ≡ is_among before y
-        → distinct_after before (ys ++ x ∷ []) ≡ cond (is_among before x || is_among ys x) (distinct_after before ys) (distinct_after before ys ++ x ∷ [])
-        → distinct_after (y ∷ before) (ys ++ x ∷ []) ≡ cond (is_among (y ∷ before) x || is_among ys x) (distinct_after (y ∷ before) ys) (distinct_after (y ∷ before) ys ++ x ∷ [])
+        → distinct_after before (ys ++ x ∷ [])
+        ≡ cond (is_among before x || is_among ys x) (distinct_after before ys) (distinct_after before ys ++ x ∷ [])
+        → distinct_after (y ∷ before) (ys ++ x ∷ [])
+        ≡ cond (is_among (y ∷ before) x || is_among ys x) (distinct_after (y ∷ before) ys) (distinct_after (y ∷ before) ys ++ x ∷ [])
         → cond b (distinct_after before (ys ++ x ∷ [])) (y ∷ distinct_after (y ∷ before) (ys ++ x ∷ []))
-        ≡ cond (is_among before x || is_among (y ∷ ys) x) (cond b (distinct_after before ys) (y ∷ distinct_after (y ∷ before) ys)) (cond b (distinct_after before ys) (y ∷ distinct_after (y ∷ before) ys) ++ x ∷ [])
+        ≡ cond (is_among before x || is_among (y ∷ ys) x) (cond b (distinct_after before ys) (y ∷ distinct_after (y ∷ before) ys))
+        (cond b (distinct_after before ys) (y ∷ distinct_after (y ∷ before) ys) ++ x ∷ [])
     at true known passed kept =
         passed ∙ ap (λ b. cond b (distinct_after before ys) (distinct_after before ys ++ x ∷ []))
-        (known-moved (is_eq (order x y)) (is_among ys x) (is_among before x) (λ e. ap (is_among before) (same-from_equal x y e) ∙ sym known))
+        (known-moved (is_eq (order x y)) (is_among ys x) (is_among before x)
+        (λ e. ap (is_among before) (same-from_equal x y e) ∙ sym known))
     at false known passed kept =
         ap (λ l. y ∷ l) kept ∙ consed x y (is_among (y ∷ before) x || is_among ys x) (distinct_after (y ∷ before) ys)
-        ∙ ap (λ b. cond b (y ∷ distinct_after (y ∷ before) ys) ((y ∷ distinct_after (y ∷ before) ys) ++ x ∷ [])) (or-moved (is_eq (order x y)) (is_among ys x) (is_among before x))
+        ∙ ap (λ b. cond b (y ∷ distinct_after (y ∷ before) ys) ((y ∷ distinct_after (y ∷ before) ys) ++ x ∷ []))
+        (or-moved (is_eq (order x y)) (is_among ys x) (is_among before x))
 
-pub distinct-more : (xs : List ValueTree) (x : ValueTree) → distinct (xs ++ x ∷ []) ≡ cond (is_among xs x) (distinct xs) (distinct xs ++ x ∷ [])
+pub distinct-more : (xs : List ValueTree) (x : ValueTree) → distinct (xs ++ x ∷ [])
+    ≡ cond (is_among xs x) (distinct xs) (distinct xs ++ x ∷ [])
 distinct-more xs x = after-more [] xs x
 
 -- lists taken together
@@ -165,7 +183,8 @@ or-joined false b c = refl
 
 among-joined : (xs ys : List ValueTree) (q : ValueTree) → is_among (xs ++ ys) q ≡ is_among xs q || is_among ys q
 among-joined [] ys q = refl
-among-joined (x ∷ xs) ys q = ap (λ b. is_eq (order q x) || b) (among-joined xs ys q) ∙ sym (or-joined (is_eq (order q x)) (is_among xs q) (is_among ys q))
+among-joined (x ∷ xs) ys q =
+    ap (λ b. is_eq (order q x) || b) (among-joined xs ys q) ∙ sym (or-joined (is_eq (order q x)) (is_among xs q) (is_among ys q))
 
 among-any : (lists : List (List ValueTree)) (q : ValueTree) → is_among (flat_map (λ xs. xs) lists) q ≡ list_any (λ xs. is_among xs q) lists
 among-any [] q = refl
@@ -187,10 +206,13 @@ among-filtered : (test : ValueTree → Bool) (xs : List ValueTree) (q : ValueTre
 among-filtered test [] q = refl
 among-filtered test (x ∷ xs) q = at (test x) refl (among-filtered test xs q)
   where
-    at : (b : Bool) → b ≡ test x → is_among (filter test xs) q ≡ is_among xs q && test q → is_among (cond b (x ∷ filter test xs) (filter test xs)) q ≡ is_among (x ∷ xs) q && test q
+    at : (b : Bool) → b ≡ test x → is_among (filter test xs) q ≡ is_among xs q && test q
+        → is_among (cond b (x ∷ filter test xs) (filter test xs)) q ≡ is_among (x ∷ xs) q && test q
     at true is rest =
-        ap (λ b. is_eq (order q x) || b) rest ∙ kept-test (is_eq (order q x)) (is_among xs q) (test q) refl (λ e. ap test (same-from_equal q x e) ∙ sym is)
+        ap (λ b. is_eq (order q x) || b) rest
+        ∙ kept-test (is_eq (order q x)) (is_among xs q) (test q) refl (λ e. ap test (same-from_equal q x e) ∙ sym is)
     at false is rest = rest ∙ dropped-test (is_eq (order q x)) (is_among xs q) (test q) (λ e. ap test (same-from_equal q x e) ∙ sym is)
 
-pub common-among : (xs : List ValueTree) (others : List (List ValueTree)) (q : ValueTree) → is_among (common_items (xs ∷ others)) q ≡ list_all (λ ys. is_among ys q) (xs ∷ others)
+pub common-among : (xs : List ValueTree) (others : List (List ValueTree)) (q : ValueTree) → is_among (common_items (xs ∷ others)) q
+    ≡ list_all (λ ys. is_among ys q) (xs ∷ others)
 common-among xs others q = distinct-among (in_all others xs) q ∙ among-filtered (λ x. list_all (λ ys. is_among ys x) others) xs q

@@ -26,7 +26,8 @@ module _ (key : ValueTree → ValueTree) where
   IsAscending [] = Unit {0}
   IsAscending (x ∷ xs) = AllByRecursion (λ y. is_gt (by_key x y) ≡ false) xs × IsAscending xs
 
-  all-insert : (P : ValueTree → Type 0) (x : ValueTree) (ys : List ValueTree) → P x → AllByRecursion P ys → AllByRecursion P (insert_behind key x ys)
+  all-insert : (P : ValueTree → Type 0) (x : ValueTree) (ys : List ValueTree) → P x → AllByRecursion P ys
+      → AllByRecursion P (insert_behind key x ys)
   all-insert P x [] one all = (one, tt)
   all-insert P x (y ∷ ys) one all = at (is_lt (by_key x y)) (all-insert P x ys one all.1)
     where
@@ -47,11 +48,13 @@ module _ (key : ValueTree → ValueTree) where
   not_below : (x y : ValueTree) → is_lt (by_key x y) ≡ false → is_gt (by_key y x) ≡ false
   not_below x y is = ap is_gt (by_key-total.antisymm y x) ∙ reversed-not_above (by_key x y) is
 
-  all-above : (x y : ValueTree) (zs : List ValueTree) → is_gt (by_key x y) ≡ false → AllByRecursion (λ z. is_gt (by_key y z) ≡ false) zs → AllByRecursion (λ z. is_gt (by_key x z) ≡ false) zs
+  all-above : (x y : ValueTree) (zs : List ValueTree) → is_gt (by_key x y) ≡ false → AllByRecursion (λ z. is_gt (by_key y z) ≡ false) zs
+      → AllByRecursion (λ z. is_gt (by_key x z) ≡ false) zs
   all-above x y [] le all = tt
   all-above x y (z ∷ zs) le all = (upto by_key-total x y z le all.0, all-above x y zs le all.1)
 
-  ascending-at : (x y : ValueTree) (ys : List ValueTree) (b : Bool) → b ≡ is_lt (by_key x y) → IsAscending (y ∷ ys) → IsAscending (insert_behind key x ys)
+  ascending-at : (x y : ValueTree) (ys : List ValueTree) (b : Bool) → b ≡ is_lt (by_key x y) → IsAscending (y ∷ ys)
+      → IsAscending (insert_behind key x ys)
       → IsAscending (cond b (x ∷ y ∷ ys) (y ∷ insert_behind key x ys))
   ascending-at x y ys true is up rest =
       let le = below-not_above (by_key x y) (sym is) in
@@ -84,23 +87,42 @@ module _ (key : ValueTree → ValueTree) where
   sorted-in_order xs = in-order (sorted key xs) (onto-ascending [] xs tt)
 
   -- each value stands as often as before
-  one-counted : (test : ValueTree → Bool) (x : ValueTree) (xs : List ValueTree) → count_by test (x ∷ xs) ≡ cond (test x) 1 0 + count_by test xs
+  one-counted : (test : ValueTree → Bool) (x : ValueTree) (xs : List ValueTree) → count_by test (x ∷ xs)
+      ≡ cond (test x) 1 0 + count_by test xs
   one-counted test x xs = sum_by-cons (λ y. cond (test y) 1 0) x xs
 
-  counted-at : (test : ValueTree → Bool) (x y : ValueTree) (ys : List ValueTree) (b : Bool) → count_by test (insert_behind key x ys) ≡ count_by test (x ∷ ys)
+  counted-at : (test : ValueTree → Bool) (x y : ValueTree) (ys : List ValueTree) (b : Bool) → count_by test (insert_behind key x ys)
+      ≡ count_by test (x ∷ ys)
       → count_by test (cond b (x ∷ y ∷ ys) (y ∷ insert_behind key x ys)) ≡ count_by test (x ∷ y ∷ ys)
   counted-at test x y ys true rest = refl
   counted-at test x y ys false rest =
-      omega (arith, rest, one-counted test y (insert_behind key x ys), one-counted test x ys, one-counted test x (y ∷ ys), one-counted test y ys)
+      omega (
+        arith,
+        rest,
+        one-counted test y (insert_behind key x ys),
+        one-counted test x ys,
+        one-counted test x (y ∷ ys),
+        one-counted
+            test y ys,
+      )
 
-  insert-counted : (test : ValueTree → Bool) (x : ValueTree) (ys : List ValueTree) → count_by test (insert_behind key x ys) ≡ count_by test (x ∷ ys)
+  insert-counted : (test : ValueTree → Bool) (x : ValueTree) (ys : List ValueTree) → count_by test (insert_behind key x ys)
+      ≡ count_by test (x ∷ ys)
   insert-counted test x [] = refl
   insert-counted test x (y ∷ ys) = counted-at test x y ys (is_lt (by_key x y)) (insert-counted test x ys)
 
-  onto-counted : (test : ValueTree → Bool) (done xs : List ValueTree) → count_by test (sorted_onto key done xs) ≡ count_by test done + count_by test xs
+  onto-counted : (test : ValueTree → Bool) (done xs : List ValueTree) → count_by test (sorted_onto key done xs)
+      ≡ count_by test done + count_by test xs
   onto-counted test done [] = omega arith
   onto-counted test done (x ∷ xs) =
-      omega (arith, onto-counted test (insert_behind key x done) xs, insert-counted test x done, one-counted test x done, one-counted test x xs)
+      omega (
+        arith,
+        onto-counted test (insert_behind key x done) xs,
+        insert-counted test x done,
+        one-counted test x done,
+        one-counted
+            test x xs,
+      )
 
   pub sorted-counted : (xs : List ValueTree) (test : ValueTree → Bool) → count_by test (sorted key xs) ≡ count_by test xs
   sorted-counted xs test = omega (arith, onto-counted test [] xs)
@@ -136,12 +158,14 @@ module _ (key : ValueTree → ValueTree) where
       by_key-total.antisymm x z ∙ ap ordering_reverse (by_key-total.congr z y x back) ∙ sym (by_key-total.antisymm x y) ∙ less
   below-through x y z Greater is less le = absurd (cc)
 
-  none-tied : (z x : ValueTree) (ys : List ValueTree) → is_tied z x ≡ true → AllByRecursion (λ y. by_key x y ≡ Less) ys → filter (is_tied z) ys ≡ []
+  none-tied : (z x : ValueTree) (ys : List ValueTree) → is_tied z x ≡ true → AllByRecursion (λ y. by_key x y ≡ Less) ys
+      → filter (is_tied z) ys ≡ []
   none-tied z x [] tied above = refl
   none-tied z x (y ∷ ys) tied above =
       ap (λ b. cond b (y ∷ filter (is_tied z) ys) (filter (is_tied z) ys)) (above-apart z x y tied above.0) ∙ none-tied z x ys tied above.1
 
-  all-below : (x y : ValueTree) (zs : List ValueTree) → by_key x y ≡ Less → AllByRecursion (λ z. is_gt (by_key y z) ≡ false) zs → AllByRecursion (λ z. by_key x z ≡ Less) zs
+  all-below : (x y : ValueTree) (zs : List ValueTree) → by_key x y ≡ Less → AllByRecursion (λ z. is_gt (by_key y z) ≡ false) zs
+      → AllByRecursion (λ z. by_key x z ≡ Less) zs
   all-below x y [] less all = tt
   all-below x y (z ∷ zs) less all = (below-through x y z (by_key y z) refl less all.0, all-below x y zs less all.1)
 
@@ -153,7 +177,8 @@ module _ (key : ValueTree → ValueTree) where
       ap (λ l. x ∷ l) none ∙ ap (λ l. l ++ x ∷ []) (sym none)
   tied-front z x y ys false tied lt up = sym (append-nil (filter (is_tied z) (y ∷ ys)))
 
-  tied-behind : (y : ValueTree) (b : Bool) (rest tail : List ValueTree) → cond b (y ∷ (rest ++ tail)) (rest ++ tail) ≡ cond b (y ∷ rest) rest ++ tail
+  tied-behind : (y : ValueTree) (b : Bool) (rest tail : List ValueTree) → cond b (y ∷ (rest ++ tail)) (rest ++ tail)
+      ≡ cond b (y ∷ rest) rest ++ tail
   tied-behind y true rest tail = refl
   tied-behind y false rest tail = refl
 
@@ -164,11 +189,13 @@ module _ (key : ValueTree → ValueTree) where
   tied-at z x y ys false is up rest =
       ap (λ l. cond (is_tied z y) (y ∷ l) l) rest ∙ tied-behind y (is_tied z y) (filter (is_tied z) ys) (filter (is_tied z) (x ∷ []))
 
-  insert-tied : (z x : ValueTree) (ys : List ValueTree) → IsAscending ys → filter (is_tied z) (insert_behind key x ys) ≡ filter (is_tied z) ys ++ filter (is_tied z) (x ∷ [])
+  insert-tied : (z x : ValueTree) (ys : List ValueTree) → IsAscending ys → filter (is_tied z) (insert_behind key x ys)
+      ≡ filter (is_tied z) ys ++ filter (is_tied z) (x ∷ [])
   insert-tied z x [] up = refl
   insert-tied z x (y ∷ ys) up = tied-at z x y ys (is_lt (by_key x y)) refl up (insert-tied z x ys up.1)
 
-  onto-tied : (z : ValueTree) (done xs : List ValueTree) → IsAscending done → filter (is_tied z) (sorted_onto key done xs) ≡ filter (is_tied z) done ++ filter (is_tied z) xs
+  onto-tied : (z : ValueTree) (done xs : List ValueTree) → IsAscending done → filter (is_tied z) (sorted_onto key done xs)
+      ≡ filter (is_tied z) done ++ filter (is_tied z) xs
   onto-tied z done [] up = sym (append-nil (filter (is_tied z) done))
   onto-tied z done (x ∷ xs) up =
       onto-tied z (insert_behind key x done) xs (insert-ascending x done up)

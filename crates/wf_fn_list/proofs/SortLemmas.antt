@@ -39,21 +39,27 @@ module _ {V : Type 0} (key : ValueTree → ValueTree) (item : V → ValueTree) w
       → map entry_item (insert_entry sort_cmp es k v) ≡ insert_behind key (item v) (map entry_item es)
   put-behind [] k v before keyed = refl
   put-behind (e ∷ es) k v before keyed =
-      put-at k v e es (order (tree k.value.now) (tree e.0.value.now)) (nat_cmp k.place e.0.place) (later e.0.place k.place before.0.0) (put-behind es k v before.1 keyed)
-      ∙ ap₂ (λ a b. cond (is_lt (order a b)) (item v ∷ item e.1 ∷ map entry_item es) (item e.1 ∷ insert_behind key (item v) (map entry_item es))) keyed before.0.1
+      put-at k v e es (order (tree k.value.now) (tree e.0.value.now)) (nat_cmp k.place e.0.place) (later e.0.place k.place before.0.0)
+      (put-behind es k v before.1 keyed)
+      ∙ ap₂ (λ a b. cond (is_lt (order a b)) (item v ∷ item e.1 ∷ map entry_item es)
+      (item e.1 ∷ insert_behind key (item v) (map entry_item es))) keyed before.0.1
 
   before-more : (n : ℕ) (es : List (SortKey × V)) → AreBefore n es → AreBefore (n + 1) es
   before-more n [] before = tt
   before-more n (e ∷ es) before = ((omega (arith, before.0.0), before.0.1), before-more n es before.1)
 
-  before-at : (n : ℕ) (k : SortKey) (v : V) (e : SortKey × V) (es : List (SortKey × V)) (o place : Ordering) → place ≡ Greater → k.place ≡ n → tree k.value.now ≡ key (item v)
+  before-at : (n : ℕ) (k : SortKey) (v : V) (e : SortKey × V) (es : List (SortKey × V)) (o place : Ordering) → place ≡ Greater → k.place
+      ≡ n → tree k.value.now ≡ key (item v)
       → AreBefore n (e ∷ es) → AreBefore (n + 1) (insert_entry sort_cmp es k v)
       → AreBefore (n + 1) (match_ordering (ordering_then o place) ((k, v) ∷ e ∷ es) ((e.0, v) ∷ es) (e ∷ insert_entry sort_cmp es k v))
-  before-at n k v e es Less place at is keyed before rest = ((omega (arith, is), keyed), ((omega (arith, before.0.0), before.0.1), before-more n es before.1))
+  before-at n k v e es Less place at is keyed before rest =
+      ((omega (arith, is), keyed), ((omega (arith, before.0.0), before.0.1), before-more n es before.1))
   before-at n k v e es Equal place at is keyed before rest = rw at ((omega (arith, before.0.0), before.0.1), rest)
   before-at n k v e es Greater place at is keyed before rest = ((omega (arith, before.0.0), before.0.1), rest)
 
-  pub before-put : (n : ℕ) (es : List (SortKey × V)) (k : SortKey) (v : V) → k.place ≡ n → tree k.value.now ≡ key (item v) → AreBefore n es → AreBefore (n + 1) (insert_entry sort_cmp es k v)
+  pub before-put : (n : ℕ) (es : List (SortKey × V)) (k : SortKey) (v : V) → k.place ≡ n → tree k.value.now ≡ key (item v)
+      → AreBefore n es → AreBefore (n + 1) (insert_entry sort_cmp es k v)
   before-put n [] k v is keyed before = ((omega (arith, is), keyed), tt)
   before-put n (e ∷ es) k v is keyed before =
-      before-at n k v e es (order (tree k.value.now) (tree e.0.value.now)) (nat_cmp k.place e.0.place) (later e.0.place k.place (omega (arith, is, before.0.0))) is keyed before (before-put n es k v is keyed before.1)
+      before-at n k v e es (order (tree k.value.now) (tree e.0.value.now)) (nat_cmp k.place e.0.place)
+      (later e.0.place k.place (omega (arith, is, before.0.0))) is keyed before (before-put n es k v is keyed before.1)

@@ -27,9 +27,11 @@ stands-front part (b ∷ bs) starts = or-first (starts_with nat_eq (b ∷ bs) pa
 stands-behind : (part before behind : List ℕ) → stands_in part (before ++ (part ++ behind)) ≡ true
 stands-behind part [] behind = stands-front part (part ++ behind) (starts-has part behind)
 stands-behind part (b ∷ before) behind =
-    or-second (starts_with nat_eq (b ∷ (before ++ (part ++ behind))) part) (stands_in part (before ++ (part ++ behind))) (stands-behind part before behind)
+    or-second (starts_with nat_eq (b ∷ (before ++ (part ++ behind))) part) (stands_in part (before ++ (part ++ behind)))
+    (stands-behind part before behind)
 
-cut-at : (part : List ℕ) (b : ℕ) (bs : List ℕ) (starts : Bool) → starts ≡ starts_with nat_eq (b ∷ bs) part → (stands_in part bs ≡ true → HasSubslice bs part)
+cut-at : (part : List ℕ) (b : ℕ) (bs : List ℕ) (starts : Bool) → starts ≡ starts_with nat_eq (b ∷ bs) part
+    → (stands_in part bs ≡ true → HasSubslice bs part)
     → starts || stands_in part bs ≡ true → HasSubslice (b ∷ bs) part
 cut-at part b bs true is behind stands = starts-cut part (b ∷ bs) (sym is)
 cut-at part b bs false is behind stands = let cut = behind stands in (b ∷ cut.0, cut.1, ap (λ l. b ∷ l) cut.2)

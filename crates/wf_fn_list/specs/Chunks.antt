@@ -27,4 +27,6 @@ chunk_size (pos (suc n)) = Ok (suc n)
 chunk_size n = Err (EvalFault.Range Fun.Chunk)
 
 abbrev pub chunk_row : List ValueTree → Answer
-chunk_row = with_number Fun.Chunk chunk_size (λ n cs. bounded (listed (map spelled (chunks n cs)))) (λ n xs. bounded (listed (map listed (chunks n xs))))
+chunk_row =
+    with_number Fun.Chunk chunk_size (λ n cs. bounded (listed (map spelled (chunks n cs))))
+    (λ n xs. bounded (listed (map listed (chunks n xs))))

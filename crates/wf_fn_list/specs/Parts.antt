@@ -37,7 +37,9 @@ first_row ts = of_parts Fun.First (λ cs. bounded (spelled (take 1 cs))) (λ xs.
 
 -- the last, likewise
 abbrev pub last_row : List ValueTree → Answer
-last_row ts = of_parts Fun.Last (λ cs. bounded (spelled (drop (length cs - 1) cs))) (λ xs. bounded (item_or_null (slice_get xs (length xs - 1)))) (slice_get ts 0)
+last_row ts =
+    of_parts Fun.Last (λ cs. bounded (spelled (drop (length cs - 1) cs))) (λ xs. bounded (item_or_null (slice_get xs (length xs - 1))))
+    (slice_get ts 0)
 
 -- a count; `Range` below 0
 abbrev pub count_of : Fun → ℤ → Result ℕ EvalFault
@@ -66,4 +68,5 @@ reverse_row ts = given (list_at Fun.Reverse ts 0) (λ xs. bounded (listed (rever
 
 -- the texts of a list with another between each two; an item that is no text adds nothing
 abbrev pub join_row : List ValueTree → Answer
-join_row ts = given (list_at Fun.Join ts 0) (λ xs. given (text_at Fun.Join ts 1) (λ between. bounded (text (join_by text_bytes between xs))))
+join_row ts =
+    given (list_at Fun.Join ts 0) (λ xs. given (text_at Fun.Join ts 1) (λ between. bounded (text (join_by text_bytes between xs))))

@@ -60,7 +60,8 @@ abbrev pub objects_together : Fun → (List (List Member) → List Member) → L
 objects_together f taken ts = given (each_from (object_of f) 0 ts) (λ objects. bounded (object (members (taken objects))))
 
 -- the first argument says which
-abbrev pub taken_together : Fun → (List (List ValueTree) → List ValueTree) → (List (List Member) → List Member) → List ValueTree → Option ValueTree → Answer
+abbrev pub taken_together : Fun → (List (List ValueTree) → List ValueTree) → (List (List Member) → List Member) → List ValueTree
+    → Option ValueTree → Answer
 taken_together f of_lists of_objects ts (Some (list xs)) = lists_together f of_lists ts
 taken_together f of_lists of_objects ts (Some (object ms)) = objects_together f of_objects ts
 taken_together f of_lists of_objects ts t = Err (wrong_type f 0)

@@ -133,7 +133,8 @@ fn in_all<'a>(
     lists: &[&'a Vals],
     values: Vec<&'a Val>,
 ) -> Result<Vec<&'a Val>, AllocError>
-    ensures { IfOk result (λ v. map (λ x. tree x.now) v.items ≡ filter (λ x. list_all (λ ys. is_among ys x) (map (λ l. l.now) lists.now)) (map (λ x. tree x.now) values.entry.items)) }
+    ensures { IfOk result (λ v. map (λ x. tree x.now) v.items
+        ≡ filter (λ x. list_all (λ ys. is_among ys x) (map (λ l. l.now) lists.now)) (map (λ x. tree x.now) values.entry.items)) }
 {
     let mut kept = values;
     for list in lists {

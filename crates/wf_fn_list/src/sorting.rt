@@ -98,7 +98,8 @@ fn by_key<'a>(
     values: &'a [Val],
     name: Option<&Text>,
 ) -> Result<BTreeMap<SortKey<'a>, &'a Val>, AllocError>
-    ensures { IfOk result (λ m. map (λ e. tree e.1.now) m.entries ≡ sorted (sort_key (option_map (λ t. t.now) name.entry)) (map tree values.now)) }
+    ensures { IfOk result (λ m. map (λ e. tree e.1.now) m.entries
+        ≡ sorted (sort_key (option_map (λ t. t.now) name.entry)) (map tree values.now)) }
 {
     let mut by_key = BTreeMap::new(alloc);
     for (place, value) in values.iter().enumerate() {

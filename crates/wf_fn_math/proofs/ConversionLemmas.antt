@@ -33,12 +33,14 @@ is_fit-from ds v h =
     let numeral = and_parts _ _ both.0 in
     ((ltb-true 0 (length ds) numeral.0, digits.to ds numeral.1), fits-from v both.1)
 
-parsed_as : {E : Type 0} (ds : List ℕ) (v : ℤ) (r : Result ℤ E) → OkIff r (IsNumeral 10 ds × FitsSigned w64 v) v → result_ok r ≡ cond (is_fit ds v) (Some v) None
+parsed_as : {E : Type 0} (ds : List ℕ) (v : ℤ) (r : Result ℤ E) → OkIff r (IsNumeral 10 ds × FitsSigned w64 v) v
+    → result_ok r ≡ cond (is_fit ds v) (Some v) None
 parsed_as ds v (Ok z) h = rw (is_fit-true ds v h.0, h.1) refl
 parsed_as ds v (Err e) h = rw (false_from_ne_true (is_fit ds v) (λ test. h (is_fit-from ds v test))) refl
 
 -- with no plus in front, `parse` reads a whole number
-pub whole_number-parsed : {E : Type 0} (s : List ℕ) (r : Result ℤ E) → (slice_index s 0 == 43) ≡ false → ParsesSigned w64 10 s r → result_ok r ≡ whole_number s
+pub whole_number-parsed : {E : Type 0} (s : List ℕ) (r : Result ℤ E) → (slice_index s 0 == 43) ≡ false → ParsesSigned w64 10 s r
+    → result_ok r ≡ whole_number s
 whole_number-parsed s r plus h =
     let unsigned : without_leading_sign s ≡ without_minus s = ap (λ b. cond (starts_with_minus s) (drop 1 s) (drop (cond b 1 0) s)) plus in
     parsed_as (without_minus s) (signed_digits_value 10 s) r

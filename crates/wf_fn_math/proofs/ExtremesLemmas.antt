@@ -1,5 +1,6 @@
 -- What is picked of values, by those before a place and those from it on.
-use Rattle.std.proofs.Common.{◌≡◌, ℕ, suc, List, [], ◌∷◌, map, drop, zero, ◌+◌, ◌<◌, length, get_or, refl, sym, ◌∙◌, ap, arith, Option, Some, None, Result, Ok, Err, Bool}
+use Rattle.std.proofs.Common.{◌≡◌, ℕ, suc, List, [], ◌∷◌, map, drop, zero, ◌+◌, ◌<◌, length, get_or, refl, sym, ◌∙◌, ap, arith, Option}
+use Rattle.std.proofs.Common.{Some, None, Result, Ok, Err, Bool}
 use Rattle.std.specs.Prelude.{ℤ}
 use Rattle.std.specs.List.{fold}
 use Rattle.wf_val.specs.Arguments.{Answer, given}

@@ -1,5 +1,6 @@
 -- Conversion to numbers and truth values (Workflow Definition Language, conversion functions int, bool and isInt).
-use Rattle.std.specs.Prelude.{ℕ, ℤ, pos, Bool, true, false, not, ◌&&◌, List, Option, Some, None, Ok, Err, is_some, length, drop, nat_lt, slice_get, codes, if◌then◌else◌}
+use Rattle.std.specs.Prelude.{ℕ, ℤ, pos, Bool, true, false, not, ◌&&◌, List, Option, Some, None, Ok, Err, is_some, length, drop, nat_lt}
+use Rattle.std.specs.Prelude.{slice_get, codes, if◌then◌else◌}
 use Rattle.std.specs.Ordering.{int_eq}
 use Rattle.std.specs.Str.{all_ascii_digits, str_eq_ignore_ascii_case}
 use Rattle.std.specs.Str.Parse.{starts_with_minus, signed_digits_value}
@@ -35,7 +36,8 @@ int_row ts = int_of (slice_get ts 0)
 
 -- the truth value that a text names; the case of ASCII letters doesn't count
 abbrev pub named_truth : List ℕ → Answer
-named_truth s = if str_eq_ignore_ascii_case s (codes "true") then Ok (boolean true) else (if str_eq_ignore_ascii_case s (codes "false") then Ok (boolean false) else Err (EvalFault.BadText Fun.Bool))
+named_truth s = if str_eq_ignore_ascii_case s (codes "true") then Ok (boolean true) else (if str_eq_ignore_ascii_case s
+    (codes "false") then Ok (boolean false) else Err (EvalFault.BadText Fun.Bool))
 
 abbrev pub bool_of : Option ValueTree → Answer
 bool_of (Some (boolean b)) = Ok (boolean b)

@@ -1,5 +1,6 @@
 -- The least and the greatest of numbers (Workflow Definition Language, math functions min and max).
-use Rattle.std.specs.Prelude.{ℕ, suc, ℤ, Bool, true, false, List, [], ◌∷◌, Option, Some, None, Result, Ok, Err, ◌==◌, length, slice_get, if◌then◌else◌}
+use Rattle.std.specs.Prelude.{ℕ, suc, ℤ, Bool, true, false, List, [], ◌∷◌, Option, Some, None, Result, Ok, Err, ◌==◌, length, slice_get}
+use Rattle.std.specs.Prelude.{if◌then◌else◌}
 use Rattle.std.specs.Int.{int_min, int_max}
 use Rattle.std.specs.List.{reduce}
 use Rattle.wf_val.specs.Arguments.{Answer, given, wrong_type}

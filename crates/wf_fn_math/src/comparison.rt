@@ -1,7 +1,8 @@
 //! Comparison and logic.
 ghost use Rattle.std.specs.Prelude.{◌≡◌, ◌↔◌, length, Some, IsTrue, slice_get};
 ghost use Rattle.wf_val.specs.Arguments.{seen};
-ghost use Rattle.wf_fn_math.specs.Comparison.{are_equal, beside, compared, equals_row, greater_row, greater_or_equals_row, less_row, less_or_equals_row, not_row};
+ghost use Rattle.wf_fn_math.specs.Comparison.{are_equal, beside, compared, equals_row, greater_row, greater_or_equals_row, less_row};
+ghost use Rattle.wf_fn_math.specs.Comparison.{less_or_equals_row, not_row};
 ghost use Rattle.wf_val.specs.Seen.{tree};
 ghost use Rattle.wf_val.specs.ValueTree.{ValueTree};
 

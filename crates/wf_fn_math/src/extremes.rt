@@ -1,7 +1,8 @@
 //! The least and the greatest of numbers.
 ghost use Rattle.std.specs.Prelude.{◌≡◌, ◌<◌, length, map, option_map};
 ghost use Rattle.wf_val.specs.Arguments.{seen, given};
-ghost use Rattle.wf_fn_math.specs.Extremes.{min_row, max_row, extreme_row, items_of_only, all_numbers, picked_of, place_named, function_of, pick_of, better};
+ghost use Rattle.wf_fn_math.specs.Extremes.{min_row, max_row, extreme_row, items_of_only, all_numbers, picked_of, place_named};
+ghost use Rattle.wf_fn_math.specs.Extremes.{function_of, pick_of, better};
 ghost use Rattle.wf_val.specs.Seen.{tree};
 
 use wf_val::{EvalFault, Fun, Val, Vals, wrong_type};
@@ -89,7 +90,8 @@ fn items_of_only(args: &Vals) -> Option<&Vals>
 
 // What is picked of the values, which are a list's items or the arguments.
 fn picked_of_values(which: Extreme, values: &[Val], in_list: bool) -> Result<Val, EvalFault>
-    ensures { seen result ≡ given (all_numbers (function_of which) in_list 0 (map tree values.now)) (picked_of (function_of which) (pick_of which)) }
+    ensures { seen result ≡ given (all_numbers (function_of which) in_list 0 (map tree values.now))
+        (picked_of (function_of which) (pick_of which)) }
 {
     let mut best: Option<i64> = None;
     for (place, value) in values.iter().enumerate() {

@@ -18,7 +18,8 @@ to_lower-edges = refl
 to_lower-empty : to_lower_row (word "" ∷ []) ≡ Ok (word "")
 to_lower-empty = refl
 
-to_lower-other_letters : to_lower_row (text (195 ∷ 137 ∷ 226 ∷ 132 ∷ 170 ∷ 196 ∷ 176 ∷ []) ∷ []) ≡ Ok (text (195 ∷ 137 ∷ 226 ∷ 132 ∷ 170 ∷ 196 ∷ 176 ∷ []))
+to_lower-other_letters : to_lower_row (text (195 ∷ 137 ∷ 226 ∷ 132 ∷ 170 ∷ 196 ∷ 176 ∷ []) ∷ [])
+    ≡ Ok (text (195 ∷ 137 ∷ 226 ∷ 132 ∷ 170 ∷ 196 ∷ 176 ∷ []))
 to_lower-other_letters = refl
 
 to_lower-number : to_lower_row (plus 1 ∷ []) ≡ Err (EvalFault.WrongType Fun.ToLower 1)
@@ -34,7 +35,8 @@ to_upper-example = refl
 to_upper-edges : to_upper_row (word "@AZ[`az{" ∷ []) ≡ Ok (word "@AZ[`AZ{")
 to_upper-edges = refl
 
-to_upper-other_letters : to_upper_row (text (195 ∷ 159 ∷ 195 ∷ 169 ∷ 196 ∷ 177 ∷ 197 ∷ 191 ∷ []) ∷ []) ≡ Ok (text (195 ∷ 159 ∷ 195 ∷ 169 ∷ 196 ∷ 177 ∷ 197 ∷ 191 ∷ []))
+to_upper-other_letters : to_upper_row (text (195 ∷ 159 ∷ 195 ∷ 169 ∷ 196 ∷ 177 ∷ 197 ∷ 191 ∷ []) ∷ [])
+    ≡ Ok (text (195 ∷ 159 ∷ 195 ∷ 169 ∷ 196 ∷ 177 ∷ 197 ∷ 191 ∷ []))
 to_upper-other_letters = refl
 
 to_upper-list : to_upper_row (items [] ∷ []) ≡ Err (EvalFault.WrongType Fun.ToUpper 1)
@@ -65,11 +67,13 @@ trim-two_bytes : trim_row (text (194 ∷ 160 ∷ 194 ∷ 133 ∷ 120 ∷ 194 ∷
 unfolding chars encode trim_start trim_end
 trim-two_bytes = refl
 
-trim-three_bytes : trim_row (text (225 ∷ 154 ∷ 128 ∷ 226 ∷ 128 ∷ 128 ∷ 226 ∷ 128 ∷ 138 ∷ 226 ∷ 128 ∷ 168 ∷ 226 ∷ 128 ∷ 169 ∷ 226 ∷ 128 ∷ 175 ∷ 226 ∷ 129 ∷ 159 ∷ 227 ∷ 128 ∷ 128 ∷ 120 ∷ 227 ∷ 128 ∷ 128 ∷ []) ∷ []) ≡ Ok (word "x")
+trim-three_bytes : trim_row (text (225 ∷ 154 ∷ 128 ∷ 226 ∷ 128 ∷ 128 ∷ 226 ∷ 128 ∷ 138 ∷ 226 ∷ 128 ∷ 168 ∷ 226 ∷ 128 ∷ 169 ∷ 226 ∷ 128 ∷
+    175 ∷ 226 ∷ 129 ∷ 159 ∷ 227 ∷ 128 ∷ 128 ∷ 120 ∷ 227 ∷ 128 ∷ 128 ∷ []) ∷ []) ≡ Ok (word "x")
 unfolding chars encode trim_start trim_end
 trim-three_bytes = refl
 
-trim-no_width : trim_row (text (226 ∷ 128 ∷ 139 ∷ 120 ∷ 239 ∷ 187 ∷ 191 ∷ []) ∷ []) ≡ Ok (text (226 ∷ 128 ∷ 139 ∷ 120 ∷ 239 ∷ 187 ∷ 191 ∷ []))
+trim-no_width : trim_row (text (226 ∷ 128 ∷ 139 ∷ 120 ∷ 239 ∷ 187 ∷ 191 ∷ []) ∷ [])
+    ≡ Ok (text (226 ∷ 128 ∷ 139 ∷ 120 ∷ 239 ∷ 187 ∷ 191 ∷ []))
 unfolding chars encode trim_start trim_end
 trim-no_width = refl
 

@@ -17,5 +17,6 @@ concat-empties = refl
 concat-nothing : concat_row (word "" ∷ word "" ∷ []) ≡ Ok (word "")
 concat-nothing = refl
 
-concat-other_letters : concat_row (text (195 ∷ 169 ∷ []) ∷ text (240 ∷ 159 ∷ 152 ∷ 128 ∷ []) ∷ []) ≡ Ok (text (195 ∷ 169 ∷ 240 ∷ 159 ∷ 152 ∷ 128 ∷ []))
+concat-other_letters : concat_row (text (195 ∷ 169 ∷ []) ∷ text (240 ∷ 159 ∷ 152 ∷ 128 ∷ []) ∷ [])
+    ≡ Ok (text (195 ∷ 169 ∷ 240 ∷ 159 ∷ 152 ∷ 128 ∷ []))
 concat-other_letters = refl

@@ -77,7 +77,8 @@ substring-three_bytes : substring_row (text (97 ∷ 226 ∷ 130 ∷ 172 ∷ 98 �
 unfolding chars encode
 substring-three_bytes = refl
 
-substring-four_bytes : substring_row (text (240 ∷ 159 ∷ 152 ∷ 128 ∷ 97 ∷ []) ∷ plus 0 ∷ plus 1 ∷ []) ≡ Ok (text (240 ∷ 159 ∷ 152 ∷ 128 ∷ []))
+substring-four_bytes : substring_row (text (240 ∷ 159 ∷ 152 ∷ 128 ∷ 97 ∷ []) ∷ plus 0 ∷ plus 1 ∷ [])
+    ≡ Ok (text (240 ∷ 159 ∷ 152 ∷ 128 ∷ []))
 unfolding chars encode
 substring-four_bytes = refl
 

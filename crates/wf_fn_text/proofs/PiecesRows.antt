@@ -40,7 +40,8 @@ split-letter_case = refl
 split-two_bytes : split_row (text (97 ∷ 195 ∷ 169 ∷ 98 ∷ []) ∷ text (195 ∷ 169 ∷ []) ∷ []) ≡ Ok (items (word "a" ∷ word "b" ∷ []))
 split-two_bytes = refl
 
-split-same_first_byte : split_row (text (195 ∷ 169 ∷ 195 ∷ 168 ∷ []) ∷ text (195 ∷ 168 ∷ []) ∷ []) ≡ Ok (items (text (195 ∷ 169 ∷ []) ∷ word "" ∷ []))
+split-same_first_byte : split_row (text (195 ∷ 169 ∷ 195 ∷ 168 ∷ []) ∷ text (195 ∷ 168 ∷ []) ∷ [])
+    ≡ Ok (items (text (195 ∷ 169 ∷ []) ∷ word "" ∷ []))
 split-same_first_byte = refl
 
 split-empty_separator : split_row (word "a" ∷ word "" ∷ []) ≡ Err (EvalFault.Range Fun.Split)

@@ -151,7 +151,8 @@ index_of-two_bytes : index_of_row (text (195 ∷ 169 ∷ 195 ∷ 169 ∷ 120 ∷
 unfolding chars encode
 index_of-two_bytes = refl
 
-index_of-four_bytes : index_of_row (text (240 ∷ 159 ∷ 152 ∷ 128 ∷ 98 ∷ 240 ∷ 159 ∷ 152 ∷ 128 ∷ []) ∷ text (240 ∷ 159 ∷ 152 ∷ 128 ∷ []) ∷ []) ≡ Ok (plus 0)
+index_of-four_bytes : index_of_row (text (240 ∷ 159 ∷ 152 ∷ 128 ∷ 98 ∷ 240 ∷ 159 ∷ 152 ∷ 128 ∷ []) ∷ text (240 ∷ 159 ∷ 152 ∷ 128 ∷ []) ∷
+    []) ≡ Ok (plus 0)
 unfolding chars encode
 index_of-four_bytes = refl
 
@@ -222,7 +223,8 @@ last_index_of-two_bytes : last_index_of_row (text (195 ∷ 169 ∷ 195 ∷ 169 �
 unfolding chars encode
 last_index_of-two_bytes = refl
 
-last_index_of-four_bytes : last_index_of_row (text (240 ∷ 159 ∷ 152 ∷ 128 ∷ 98 ∷ 240 ∷ 159 ∷ 152 ∷ 128 ∷ []) ∷ text (240 ∷ 159 ∷ 152 ∷ 128 ∷ []) ∷ []) ≡ Ok (plus 2)
+last_index_of-four_bytes : last_index_of_row (text (240 ∷ 159 ∷ 152 ∷ 128 ∷ 98 ∷ 240 ∷ 159 ∷ 152 ∷ 128 ∷ []) ∷ text (240 ∷ 159 ∷ 152 ∷
+    128 ∷ []) ∷ []) ≡ Ok (plus 2)
 unfolding chars encode
 last_index_of-four_bytes = refl
 

@@ -1,6 +1,7 @@
 -- Parts of a text between two places; places count characters, Unicode scalar values (Workflow Definition Language,
 -- string functions substring and slice).
-use Rattle.std.specs.Prelude.{ℕ, suc, ◌+◌, ◌-◌, min, ℤ, pos, negsuc, List, Option, Some, None, Err, length, take, drop, nat_le, if◌then◌else◌}
+use Rattle.std.specs.Prelude.{ℕ, suc, ◌+◌, ◌-◌, min, ℤ, pos, negsuc, List, Option, Some, None, Err, length, take, drop, nat_le}
+use Rattle.std.specs.Prelude.{if◌then◌else◌}
 use Rattle.std.specs.Str.{chars, encode_utf8_all}
 use Rattle.wf_val.specs.Arguments.{Answer, given, text_at, number_at, optional_number_at, bounded}
 use Rattle.wf_val.specs.ValueTree.{ValueTree, text}
@@ -25,7 +26,8 @@ part_or_range f s None = Err (EvalFault.Range f)
 -- the part from a start on; `Range` where it doesn't lie within the text
 abbrev pub substring_row : List ValueTree → Answer
 substring_row ts =
-    given (text_at Fun.Substring ts 0) (λ s. given (number_at Fun.Substring ts 1) (λ start. given (optional_number_at Fun.Substring ts 2) (λ count.
+    given (text_at Fun.Substring ts 0) (λ s. given (number_at Fun.Substring ts 1) (λ start. given
+    (optional_number_at Fun.Substring ts 2) (λ count.
     part_or_range Fun.Substring s (span start count (length (chars s))))))
 
 -- a place, counted from the end where it is below 0, and cut to n characters
@@ -41,4 +43,5 @@ end_within None n = n
 abbrev pub slice_row : List ValueTree → Answer
 slice_row ts =
     given (text_at Fun.Slice ts 0) (λ s. given (number_at Fun.Slice ts 1) (λ start. given (optional_number_at Fun.Slice ts 2) (λ end.
-    bounded (text (part (place_within start (length (chars s))) (end_within end (length (chars s)) - place_within start (length (chars s))) s)))))
+    bounded (text (part (place_within start (length (chars s))) (end_within end (length (chars s)) - place_within start (length
+    (chars s))) s)))))

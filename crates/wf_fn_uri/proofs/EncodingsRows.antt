@@ -4,7 +4,7 @@ use Rattle.base64.proofs.OnLiterals.{base64_on_literals}
 use Rattle.std.proofs.Common.{◌≡◌, refl, [], ◌∷◌, Ok, Err}
 use Rattle.std.specs.Str.{chars, is_utf8}
 use Rattle.wf_fn_uri.specs.Encodings.{base64_row, from_base64_row, data_uri_row, from_data_uri_row}
-use Rattle.wf_fn_uri.proofs.RowValues.{yes, no, plus, word, items}
+use Rattle.wf_fn_uri.proofs.RowValues.{yes, plus, word, items}
 use Rattle.wf_val.specs.ValueTree.{null, text}
 use Rattle.wf_val.specs.declared.fault.EvalFault.{EvalFault}
 use Rattle.wf_val.specs.declared.function.Fun.{Fun}
@@ -98,7 +98,8 @@ base64_to_string-blank : from_base64_row Fun.Base64ToString (word "Zm9v " ∷ []
 unfolding base64_on_literals is_utf8 chars encode
 base64_to_string-blank = refl
 
-base64_to_string-line_end : from_base64_row Fun.Base64ToString (text (90 ∷ 109 ∷ 57 ∷ 118 ∷ 10 ∷ []) ∷ []) ≡ Err (EvalFault.BadText Fun.Base64ToString)
+base64_to_string-line_end : from_base64_row Fun.Base64ToString (text (90 ∷ 109 ∷ 57 ∷ 118 ∷ 10 ∷ []) ∷ [])
+    ≡ Err (EvalFault.BadText Fun.Base64ToString)
 unfolding base64_on_literals is_utf8 chars encode
 base64_to_string-line_end = refl
 
@@ -167,7 +168,8 @@ data_uri_to_string-upper_base64 : from_data_uri_row (word "data:;BASE64,aGk=" �
 unfolding base64_on_literals is_utf8 chars encode
 data_uri_to_string-upper_base64 = refl
 
-data_uri_to_string-base64_before : from_data_uri_row (word "data:;base64;charset=utf-8,aGk=" ∷ []) ≡ Err (EvalFault.BadText Fun.DataUriToString)
+data_uri_to_string-base64_before : from_data_uri_row (word "data:;base64;charset=utf-8,aGk=" ∷ [])
+    ≡ Err (EvalFault.BadText Fun.DataUriToString)
 unfolding base64_on_literals is_utf8 chars encode
 data_uri_to_string-base64_before = refl
 

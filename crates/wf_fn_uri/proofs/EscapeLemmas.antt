@@ -32,4 +32,9 @@ no_utf8_text bs h = false_from_ne_true (is_utf8 bs) (λ t. h (IsUtf8-from_is_utf
 pub as_table_all : (bs : List ℕ) → All (λ b. b < 256) bs → percent_encode UNRESERVED bs ≡ escaped bs
 unfolding percent_encode
 as_table_all [] h = refl
-as_table_all (b ∷ bs) h = rw (in_table b (All-head (λ b. b < 256) b bs h), of_not b (is_unreserved b), as_table_all bs (All-tail (λ b. b < 256) b bs h)) refl
+as_table_all (b ∷ bs) h = rw (
+  in_table b (All-head (λ b. b < 256) b bs h),
+  of_not b (is_unreserved b),
+  as_table_all bs (All-tail
+      (λ b. b < 256) b bs h),
+) refl

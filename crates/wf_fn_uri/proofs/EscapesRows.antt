@@ -4,7 +4,7 @@ use Rattle.percent_encoding.proofs.OnLiterals.{percent_encoding_on_literals}
 use Rattle.std.proofs.Common.{◌≡◌, refl, [], ◌∷◌, Ok, Err}
 use Rattle.std.specs.Str.{chars, is_utf8}
 use Rattle.wf_fn_uri.specs.Escapes.{escaped_row, unescaped_row}
-use Rattle.wf_fn_uri.proofs.RowValues.{no, plus, word}
+use Rattle.wf_fn_uri.proofs.RowValues.{plus, word}
 use Rattle.wf_val.specs.ValueTree.{null, text}
 use Rattle.wf_val.specs.declared.fault.EvalFault.{EvalFault}
 use Rattle.wf_val.specs.declared.function.Fun.{Fun}
@@ -67,11 +67,13 @@ unfolding percent_encoding_on_literals is_utf8 chars encode
 uri_component-empty = refl
 
 -- uriComponentToString
-uri_component_to_string-example : unescaped_row Fun.UriComponentToString (word "https%3A%2F%2Fcontoso.com" ∷ []) ≡ Ok (word "https://contoso.com")
+uri_component_to_string-example : unescaped_row Fun.UriComponentToString (word "https%3A%2F%2Fcontoso.com" ∷ [])
+    ≡ Ok (word "https://contoso.com")
 unfolding percent_encoding_on_literals is_utf8 chars encode
 uri_component_to_string-example = refl
 
-uri_component_to_string-no_utf8 : unescaped_row Fun.UriComponentToString (word "a%FF" ∷ []) ≡ Err (EvalFault.BadText Fun.UriComponentToString)
+uri_component_to_string-no_utf8 : unescaped_row Fun.UriComponentToString (word "a%FF" ∷ [])
+    ≡ Err (EvalFault.BadText Fun.UriComponentToString)
 unfolding percent_encoding_on_literals is_utf8 chars encode
 uri_component_to_string-no_utf8 = refl
 
@@ -79,7 +81,8 @@ uri_component_to_string-null : unescaped_row Fun.UriComponentToString (null ∷ 
 uri_component_to_string-null = refl
 
 -- decodeUriComponent
-decode_uri_component-example : unescaped_row Fun.DecodeUriComponent (word "https%3A%2F%2Fcontoso.com" ∷ []) ≡ Ok (word "https://contoso.com")
+decode_uri_component-example : unescaped_row Fun.DecodeUriComponent (word "https%3A%2F%2Fcontoso.com" ∷ [])
+    ≡ Ok (word "https://contoso.com")
 unfolding percent_encoding_on_literals is_utf8 chars encode
 decode_uri_component-example = refl
 
@@ -127,15 +130,18 @@ uri_component_to_string-two_bytes : unescaped_row Fun.UriComponentToString (word
 unfolding percent_encoding_on_literals is_utf8 chars encode
 uri_component_to_string-two_bytes = refl
 
-uri_component_to_string-half_a_letter : unescaped_row Fun.UriComponentToString (word "%C3" ∷ []) ≡ Err (EvalFault.BadText Fun.UriComponentToString)
+uri_component_to_string-half_a_letter : unescaped_row Fun.UriComponentToString (word "%C3" ∷ [])
+    ≡ Err (EvalFault.BadText Fun.UriComponentToString)
 unfolding percent_encoding_on_literals is_utf8 chars encode
 uri_component_to_string-half_a_letter = refl
 
-uri_component_to_string-surrogate : unescaped_row Fun.UriComponentToString (word "%ED%A0%80" ∷ []) ≡ Err (EvalFault.BadText Fun.UriComponentToString)
+uri_component_to_string-surrogate : unescaped_row Fun.UriComponentToString (word "%ED%A0%80" ∷ [])
+    ≡ Err (EvalFault.BadText Fun.UriComponentToString)
 unfolding percent_encoding_on_literals is_utf8 chars encode
 uri_component_to_string-surrogate = refl
 
-uri_component_to_string-too_long_form : unescaped_row Fun.UriComponentToString (word "%C0%AF" ∷ []) ≡ Err (EvalFault.BadText Fun.UriComponentToString)
+uri_component_to_string-too_long_form : unescaped_row Fun.UriComponentToString (word "%C0%AF" ∷ [])
+    ≡ Err (EvalFault.BadText Fun.UriComponentToString)
 unfolding percent_encoding_on_literals is_utf8 chars encode
 uri_component_to_string-too_long_form = refl
 

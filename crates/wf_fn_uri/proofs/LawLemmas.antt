@@ -1,5 +1,6 @@
 -- Encodings are undone, and escaped texts are made of unreserved characters and escapes.
-use Rattle.std.proofs.Common.{◌≡◌, ℕ, suc, ◌+◌, ◌<◌, ◌%◌, ◌/◌, List, [], ◌∷◌, ◌++◌, length, refl, sym, ◌∙◌, ap, arith, Bool, true, false, cond, Some, None, codes, ◌&&◌, nat_lt}
+use Rattle.std.proofs.Common.{◌≡◌, ℕ, suc, ◌+◌, ◌<◌, ◌%◌, ◌/◌, List, [], ◌∷◌, ◌++◌, length, refl, sym, ◌∙◌, ap, arith, Bool, true}
+use Rattle.std.proofs.Common.{false, cond, Some, None, codes, ◌&&◌, nat_lt}
 use Rattle.std.proofs.lemmas.Bool.{agree_below_at, lt-ltb}
 use Rattle.std.specs.Fmt.{digit_glyph}
 use Rattle.std.specs.List.{All}
@@ -20,11 +21,13 @@ hex d h = agree_below_at (λ d. is_upper_hex (digit_glyph true d)) (λ d. true) 
 below-16 : (n : ℕ) → n % 16 < 16
 below-16 n = omega arith
 
-escaped-byte : (b : ℕ) (rest : List ℕ) (t : Bool) → is_unreserved b ≡ t → IsEscaped rest → IsEscaped (cond t (b ∷ []) (percent_encode_byte b) ++ rest)
+escaped-byte : (b : ℕ) (rest : List ℕ) (t : Bool) → is_unreserved b ≡ t → IsEscaped rest
+    → IsEscaped (cond t (b ∷ []) (percent_encode_byte b) ++ rest)
 unfolding percent_encode_byte
 escaped-byte b rest true is h = IsEscaped.itself b rest is h
 escaped-byte b rest false is h =
-    IsEscaped.escape (digit_glyph true (b / 16 % 16)) (digit_glyph true (b % 16)) rest (hex (b / 16 % 16) (below-16 (b / 16))) (hex (b % 16) (below-16 b)) h
+    IsEscaped.escape (digit_glyph true (b / 16 % 16)) (digit_glyph true (b % 16)) rest (hex (b / 16 % 16) (below-16 (b / 16))) (hex
+    (b % 16) (below-16 b)) h
 
 pub escaped-made : (s : List ℕ) → IsEscaped (escaped s)
 escaped-made [] = IsEscaped.nothing

@@ -2,13 +2,14 @@
 use Rattle.url.proofs.OnLiterals.{url_on_literals}
 use Rattle.std.proofs.Common.{◌≡◌, refl, [], ◌∷◌, Ok, Err}
 use Rattle.wf_fn_uri.specs.Parts.{of_url, scheme_of, host_of, path_of, query_of, path_and_query_of, port_of}
-use Rattle.wf_fn_uri.proofs.RowValues.{no, plus, minus, word}
+use Rattle.wf_fn_uri.proofs.RowValues.{plus, minus, word}
 use Rattle.wf_val.specs.ValueTree.{null}
 use Rattle.wf_val.specs.declared.fault.EvalFault.{EvalFault}
 use Rattle.wf_val.specs.declared.function.Fun.{Fun}
 
 -- each part of one URL, and the faults of each
-uri_scheme-example : of_url Fun.UriScheme scheme_of (word "https://www.localhost.com:8080/catalog/shownew.htm?date=today" ∷ []) ≡ Ok (word "https")
+uri_scheme-example : of_url Fun.UriScheme scheme_of (word "https://www.localhost.com:8080/catalog/shownew.htm?date=today" ∷ [])
+    ≡ Ok (word "https")
 unfolding url_on_literals
 uri_scheme-example = refl
 
@@ -19,7 +20,8 @@ uri_scheme-no_url = refl
 uri_scheme-null : of_url Fun.UriScheme scheme_of (null ∷ []) ≡ Err (EvalFault.WrongType Fun.UriScheme 1)
 uri_scheme-null = refl
 
-uri_host-example : of_url Fun.UriHost host_of (word "https://www.localhost.com:8080/catalog/shownew.htm?date=today" ∷ []) ≡ Ok (word "www.localhost.com")
+uri_host-example : of_url Fun.UriHost host_of (word "https://www.localhost.com:8080/catalog/shownew.htm?date=today" ∷ [])
+    ≡ Ok (word "www.localhost.com")
 unfolding url_on_literals
 uri_host-example = refl
 
@@ -30,7 +32,8 @@ uri_host-no_url = refl
 uri_host-null : of_url Fun.UriHost host_of (null ∷ []) ≡ Err (EvalFault.WrongType Fun.UriHost 1)
 uri_host-null = refl
 
-uri_path-example : of_url Fun.UriPath path_of (word "https://www.localhost.com:8080/catalog/shownew.htm?date=today" ∷ []) ≡ Ok (word "/catalog/shownew.htm")
+uri_path-example : of_url Fun.UriPath path_of (word "https://www.localhost.com:8080/catalog/shownew.htm?date=today" ∷ [])
+    ≡ Ok (word "/catalog/shownew.htm")
 unfolding url_on_literals
 uri_path-example = refl
 
@@ -41,7 +44,8 @@ uri_path-no_url = refl
 uri_path-null : of_url Fun.UriPath path_of (null ∷ []) ≡ Err (EvalFault.WrongType Fun.UriPath 1)
 uri_path-null = refl
 
-uri_query-example : of_url Fun.UriQuery query_of (word "https://www.localhost.com:8080/catalog/shownew.htm?date=today" ∷ []) ≡ Ok (word "?date=today")
+uri_query-example : of_url Fun.UriQuery query_of (word "https://www.localhost.com:8080/catalog/shownew.htm?date=today" ∷ [])
+    ≡ Ok (word "?date=today")
 unfolding url_on_literals
 uri_query-example = refl
 
@@ -52,7 +56,8 @@ uri_query-no_url = refl
 uri_query-null : of_url Fun.UriQuery query_of (null ∷ []) ≡ Err (EvalFault.WrongType Fun.UriQuery 1)
 uri_query-null = refl
 
-uri_path_and_query-example : of_url Fun.UriPathAndQuery path_and_query_of (word "https://www.localhost.com:8080/catalog/shownew.htm?date=today" ∷ []) ≡ Ok (word "/catalog/shownew.htm?date=today")
+uri_path_and_query-example : of_url Fun.UriPathAndQuery path_and_query_of
+    (word "https://www.localhost.com:8080/catalog/shownew.htm?date=today" ∷ []) ≡ Ok (word "/catalog/shownew.htm?date=today")
 unfolding url_on_literals
 uri_path_and_query-example = refl
 

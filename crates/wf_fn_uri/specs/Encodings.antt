@@ -1,6 +1,7 @@
 -- Base64 (RFC 4648, section 4) and data URLs (RFC 2397; Workflow Definition Language, conversion functions base64,
 -- base64ToString, decodeBase64, dataUri and dataUriToString).
-use Rattle.std.specs.Prelude.{ℕ, Bool, ◌&&◌, ◌==◌, List, ◌++◌, Option, Some, None, Result, Ok, Err, codes, drop, length, nat_eq, nat_lt, if◌then◌else◌}
+use Rattle.std.specs.Prelude.{ℕ, Bool, ◌&&◌, ◌==◌, List, ◌++◌, Option, Some, None, Result, Ok, Err, codes, drop, length, nat_eq, nat_lt}
+use Rattle.std.specs.Prelude.{if◌then◌else◌}
 use Rattle.std.specs.List.{starts_with, ends_with, position_or_len, before_first, after_first}
 use Rattle.base64.specs.GeneralPurpose.{encode_of, decode_of}
 use Rattle.base64.specs.Engines.{standard}
@@ -25,7 +26,8 @@ from_base64_row f ts = given (text_at f ts 0) (λ s. decoded_or_bad f (decode_of
 
 -- a data URL of the text
 abbrev pub data_uri_row : List ValueTree → Answer
-data_uri_row ts = given (text_at Fun.DataUri ts 0) (λ s. bounded (text (codes "data:text/plain;charset=utf-8;base64," ++ encode_of standard s)))
+data_uri_row ts = given (text_at Fun.DataUri ts 0) (λ s. bounded (text
+    (codes "data:text/plain;charset=utf-8;base64," ++ encode_of standard s)))
 
 -- what stands behind the scheme of a data URL
 abbrev pub behind_scheme : List ℕ → Option (List ℕ)
@@ -37,7 +39,8 @@ is_comma b = b == 44
 -- what stands behind the first comma, where `;base64` stands right before it
 abbrev pub behind_comma : List ℕ → Option (List ℕ)
 behind_comma s =
-    if (nat_lt (position_or_len is_comma s) (length s) && ends_with nat_eq (before_first is_comma s) (codes ";base64")) then Some (after_first is_comma s) else None
+    if (nat_lt (position_or_len is_comma s) (length s) && ends_with nat_eq (before_first is_comma s) (codes ";base64")) then Some
+    (after_first is_comma s) else None
 
 -- the encoding that a data URL carries
 abbrev pub encoded_part : Option (List ℕ) → Option (List ℕ)

@@ -11,4 +11,5 @@ is_upper_hex b = is_in_range 48 57 b || is_in_range 65 70 b
 pub data IsEscaped : List ℕ → Type 0 where
   nothing : IsEscaped []
   itself : (b : ℕ) (rest : List ℕ) → is_unreserved b ≡ true → IsEscaped rest → IsEscaped (b ∷ rest)
-  escape : (high low : ℕ) (rest : List ℕ) → is_upper_hex high ≡ true → is_upper_hex low ≡ true → IsEscaped rest → IsEscaped (37 ∷ high ∷ low ∷ rest)
+  escape : (high low : ℕ) (rest : List ℕ) → is_upper_hex high ≡ true → is_upper_hex low ≡ true → IsEscaped rest
+      → IsEscaped (37 ∷ high ∷ low ∷ rest)

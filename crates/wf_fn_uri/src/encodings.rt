@@ -1,7 +1,8 @@
 //! Base64 and data URLs.
 ghost use Rattle.std.specs.Prelude.{◌≡◌, length, option_map};
 ghost use Rattle.wf_val.specs.Arguments.{seen, Gives};
-ghost use Rattle.wf_fn_uri.specs.Encodings.{base64_row, from_base64_row, data_uri_row, from_data_uri_row, decoded_or_bad, behind_scheme, behind_comma, encoded_part};
+ghost use Rattle.wf_fn_uri.specs.Encodings.{base64_row, from_base64_row, data_uri_row, from_data_uri_row, decoded_or_bad, behind_scheme};
+ghost use Rattle.wf_fn_uri.specs.Encodings.{behind_comma, encoded_part};
 ghost use Rattle.base64.specs.GeneralPurpose.{decode_of};
 ghost use Rattle.base64.specs.Engines.{standard};
 

@@ -1,13 +1,10 @@
 -- Worked values of the definitions: what is met, when actions end, how a graph ends, and what is recorded.
-use Rattle.std.proofs.Common.{◌≡◌, ℕ, List, [], ◌∷◌, true, false, Some, map, refl}
+use Rattle.std.proofs.Common.{◌≡◌, [], ◌∷◌, true, false, map, refl}
 use Rattle.std.specs.Prelude.{codes}
 use Rattle.wf_val.specs.ValueTree.{null, text, object, no_members, member_then}
 use Rattle.wf_layers.specs.Definition.{Succeeded, Failed, Skipped, TimedOut, Cancelled}
-use Rattle.wf_layers.specs.Address.{address}
-use Rattle.wf_meaning.specs.Definition.{ActionTree}
 use Rattle.wf_meaning.specs.Flat.{composed, skipped}
 use Rattle.wf_meaning.specs.Meaning.{meaning, rows_of}
-use Rattle.wf_meaning.specs.Record.{Row}
 use Rattle.wf_meaning.specs.Rounds.{all_end, depth_of, is_waiting}
 use Rattle.wf_meaning.specs.Status.{graph_status}
 use Rattle.wf_meaning.specs.Worked.{apart, chain, four, joined, loop, met_at, single, statuses}

@@ -1,5 +1,5 @@
 //! The condition of an `If` or an `Until`.
-ghost use Rattle.std.specs.Prelude.{◌≡◌, [], ◌∷◌, ◌++◌, length, map, IfOk, OnOk, OnErr, option_map, slice_get};
+ghost use Rattle.std.specs.Prelude.{◌≡◌, ◌<◌, ◌^◌, [], ◌∷◌, ◌++◌, length, map, IfOk, OnOk, OnErr, option_map, slice_get};
 ghost use Rattle.wf_template.specs.CondSeen.{cond_tree, conds_seen};
 
 use crate::template::Template;
@@ -38,7 +38,8 @@ impl Conds {
 
     /// How many conditions there are.
     pub fn len(&self) -> u64
-        ensures { result ≡ length (conds_seen self.now) }
+        ensures count { result ≡ length (conds_seen self.now) }
+        ensures in_range { result < 2 ^ 63 }
     {
         self.items.len() as u64
     }

@@ -1,5 +1,5 @@
 //! One expression.
-ghost use Rattle.std.specs.Prelude.{◌≡◌, [], ◌∷◌, ◌++◌, length, map, IfOk, OnOk, OnErr, option_map, slice_get};
+ghost use Rattle.std.specs.Prelude.{◌≡◌, ◌<◌, ◌^◌, [], ◌∷◌, ◌++◌, length, map, IfOk, OnOk, OnErr, option_map, slice_get};
 ghost use Rattle.wf_template.specs.ExprSeen.{expr_tree, exprs_seen};
 
 use crate::chain::chain_of;
@@ -68,7 +68,8 @@ impl Exprs {
 
     /// How many expressions there are.
     pub fn len(&self) -> u64
-        ensures { result ≡ length (exprs_seen self.now) }
+        ensures count { result ≡ length (exprs_seen self.now) }
+        ensures in_range { result < 2 ^ 63 }
     {
         self.items.len() as u64
     }

@@ -1,5 +1,5 @@
 //! A text with expressions in it.
-ghost use Rattle.std.specs.Prelude.{◌≡◌, [], ◌∷◌, ◌++◌, length, map, IfOk, OnOk, OnErr, option_map, slice_get};
+ghost use Rattle.std.specs.Prelude.{◌≡◌, ◌<◌, ◌^◌, [], ◌∷◌, ◌++◌, length, map, IfOk, OnOk, OnErr, option_map, slice_get};
 ghost use Rattle.wf_template.specs.TemplateSeen.{piece_tree, pieces_seen, template_tree};
 
 use crate::expr::Expr;
@@ -63,7 +63,8 @@ impl Pieces {
 
     /// How many pieces there are.
     pub fn len(&self) -> u64
-        ensures { result ≡ length (pieces_seen self.now) }
+        ensures count { result ≡ length (pieces_seen self.now) }
+        ensures in_range { result < 2 ^ 63 }
     {
         self.items.len() as u64
     }

@@ -1,5 +1,5 @@
 //! A value whose texts are templates.
-ghost use Rattle.std.specs.Prelude.{◌≡◌, [], ◌∷◌, ◌++◌, length, map, IfOk, OnOk, OnErr, option_map, slice_get};
+ghost use Rattle.std.specs.Prelude.{◌≡◌, ◌<◌, ◌^◌, [], ◌∷◌, ◌++◌, length, map, IfOk, OnOk, OnErr, option_map, slice_get};
 ghost use Rattle.wf_template.specs.DataSeen.{data_tree};
 
 use crate::template::Template;
@@ -62,7 +62,8 @@ impl Trees {
 
     /// How many items there are.
     pub fn len(&self) -> u64
-        ensures { result ≡ length self.now }
+        ensures count { result ≡ length self.now }
+        ensures in_range { result < 2 ^ 63 }
     {
         self.items.len() as u64
     }

@@ -1,5 +1,5 @@
 //! The members of an object whose texts are templates.
-ghost use Rattle.std.specs.Prelude.{◌≡◌, [], ◌∷◌, ◌++◌, length, map, IfOk, IfErr, OnOk, OnErr, option_map, slice_get};
+ghost use Rattle.std.specs.Prelude.{◌≡◌, ◌<◌, ◌^◌, [], ◌∷◌, ◌++◌, length, map, IfOk, IfErr, OnOk, OnErr, option_map, slice_get};
 ghost use Rattle.std.specs.List.Sorted.{IsSearchInRange};
 ghost use Rattle.wf_val.specs.NameOrder.{bytes_cmp, IsInNameOrder, IsAboveAll, put_named, IsPlace, IsGap};
 ghost use Rattle.wf_template.specs.DataTree.{name_of_data};
@@ -58,7 +58,8 @@ impl TreeFields {
 
     /// How many members there are.
     pub fn len(&self) -> u64
-        ensures { result ≡ length self.now }
+        ensures count { result ≡ length self.now }
+        ensures in_range { result < 2 ^ 63 }
     {
         self.members.len() as u64
     }
@@ -78,7 +79,8 @@ impl TreeFields {
         &self.members
     }
 
-    /// Adds a member in its place, or replaces the one that has the name.
+    /// Adds a member in its place, or replaces the one that has the name. It moves every member behind that place, so
+    /// members that come in the order of their names are better added by `append`.
     pub fn put(&mut self, name: Text, value: Tree) -> Result<(), AllocError>
         ensures ok { OnOk result (self.new ≡ put_named name_of_data (name, data_tree value) self.old) }
         ensures err { OnErr result (self.new ≡ self.old) }
@@ -95,7 +97,7 @@ impl TreeFields {
         }
     }
 
-    /// Adds a member behind the others: its name is above theirs.
+    /// Adds a member behind the others, for a reader that gets members in the order of their names.
     pub fn append(&mut self, name: Text, value: Tree) -> Result<(), AllocError>
         requires { IsAboveAll name_of_data name self.old }
         ensures ok { OnOk result (self.new ≡ self.old ++ (name, data_tree value) ∷ []) }

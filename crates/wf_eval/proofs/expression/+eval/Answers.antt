@@ -1,4 +1,4 @@
-use Rattle.std.proofs.Common.{◌≡◌, ◌≤◌, ◌++◌, [], ◌∷◌, refl, ap, ◌∙◌, arith, rules}
+use Rattle.std.proofs.Common.{sym, ◌≡◌, ◌≤◌, ◌++◌, [], ◌∷◌, refl, ap, ◌∙◌, arith, rules}
 use Rattle.std.proofs.lemmas.Result.{err_from_is_err_and}
 use Rattle.wf_val.specs.Seen.{tree}
 use Rattle.wf_template.specs.ChainSeen.{start_tree, chain_tree}
@@ -7,6 +7,7 @@ use Rattle.wf_template.specs.ExprSeen.{expr_tree}
 use Rattle.wf_template.proofs.ChainLemmas.{key_count, base_le_built}
 use Rattle.wf_eval.proofs.Grow.{value-grows}
 use Rattle.wf_eval.proofs.Chains.{fault_of_start, fault_of_access, start_value, access_value, through, keys_count, keys_count-snoc, keys_le_built}
+use Rattle.wf_eval.proofs.JoinedLemmas.{fault_texts, memory_texts, texts_end, some-argument}
 use Rattle.wf_eval.proofs.Loops.{count-item, fault_all, memory_all, fault_early, early_stops, early_goes_on, early_ends, fault_if, if-few}
 use Rattle.wf_eval.proofs.Meeting.{of_memory, of_fault}
 use Rattle.wf_eval.proofs.expression.+eval.Goals as goal
@@ -16,6 +17,32 @@ eval_all-eval_expr-requires g t c = let le = count-item _ _ _ c.loop-arg-test.tr
 
 pub eval_early-eval_expr-requires : goal.eval_early-eval_expr-requires
 eval_early-eval_expr-requires g t c = let le = count-item _ _ _ c.loop-arg-test.true c.arg-item.is in search (rules, arith)
+
+pub eval_joined-eval_expr-requires : goal.eval_joined-eval_expr-requires
+eval_joined-eval_expr-requires g t c = let le = count-item _ _ _ c.loop-arg-test.true c.arg-item.is in search (rules, arith)
+
+pub eval_joined-returns-in_err-value-clause-value : goal.eval_joined-returns-in_err-value-clause-value
+eval_joined-returns-in_err-value-clause-value g t c =
+    let p = err_from_is_err_and c.from_residual.result c.from_residual.ensures.1 in
+    rw (p.1, p.2) (fault_texts _ _ _ _ _ _ _ _ _ _ c.loop-arg-test.true c.arg-item.is c.loop-arg.invariant.same
+    c.loop-arg.invariant.so_far c.in_err-value.ensures.value)
+
+pub eval_joined-returns-in_err-part-clause-value : goal.eval_joined-returns-in_err-part-clause-value
+eval_joined-returns-in_err-part-clause-value g t c =
+    let p = err_from_is_err_and c.from_residual-in_err-part.result c.from_residual-in_err-part.ensures.1 in
+    rw (p.1, p.2) (memory_texts _ _ _ _ _ _ _ _ _ c.loop-arg-test.true c.arg-item.is c.loop-arg.invariant.same
+    c.loop-arg.invariant.so_far c.in_ok-value.ensures.value.1)
+
+pub eval_joined-returns-in_err-push-clause-value : goal.eval_joined-returns-in_err-push-clause-value
+eval_joined-returns-in_err-push-clause-value g t c =
+    let p = err_from_is_err_and c.from_residual-in_err-push.result c.from_residual-in_err-push.ensures.1 in
+    rw (p.1, p.2) (memory_texts _ _ _ _ _ _ _ _ _ c.loop-arg-test.true c.arg-item.is c.loop-arg.invariant.same
+    c.loop-arg.invariant.so_far c.in_ok-value.ensures.value.1)
+
+pub eval_joined-returns-clause-value : goal.eval_joined-returns-clause-value
+eval_joined-returns-clause-value g t c =
+    texts_end _ _ _ _ _ _ _ (some-argument c.args.args.now (sym c.is_empty.ensures ∙ c.if-is_empty.false)) c.loop-arg-test.false
+    c.loop-arg.invariant.so_far c.answer.ensures
 
 pub eval_all-returns-in_err-eval_expr-clause-values : goal.eval_all-returns-in_err-eval_expr-clause-values
 eval_all-returns-in_err-eval_expr-clause-values g t c =

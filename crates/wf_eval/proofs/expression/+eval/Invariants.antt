@@ -5,6 +5,7 @@ use Rattle.wf_template.specs.ExprSeen.{expr_tree}
 use Rattle.wf_template.specs.ChainSeen.{start_tree}
 use Rattle.wf_template.proofs.ChainLemmas.{key_count}
 use Rattle.wf_eval.specs.Seen.{args_tree, chained}
+use Rattle.wf_eval.specs.Measured.{measured}
 use Rattle.wf_eval.specs.Outcomes.{all_after}
 use Rattle.wf_eval.specs.Value.{value, runs, early}
 use Rattle.wf_eval.proofs.Chains.{keys_count}
@@ -29,6 +30,16 @@ invariant-eval_all-loop-arg g l = record {
   so_far :
       all_after (runs (g.L.Look.told l.initial.look) (args_tree (drop l.arg-index l.args))) l.values (g.L.Look.drawn l.look)
       ≡ all_after (runs (g.L.Look.told l.initial.look) (args_tree l.args)) [] (g.L.Look.drawn l.initial.look);
+  same : g.L.Look.told l.look ≡ g.L.Look.told l.initial.look;
+  held : g.L.Look.held l.look ≡ g.L.Look.held l.initial.look;
+}
+
+-- what the arguments that are left make behind the text so far is the whole
+abbrev pub invariant-eval_joined-loop-arg : goal.invariant-eval_joined-loop-arg
+invariant-eval_joined-loop-arg g l = record {
+  so_far :
+      measured (runs (g.L.Look.told l.initial.look) (args_tree (drop l.arg-index l.args))) l.text (g.L.Look.drawn l.look)
+      ≡ measured (runs (g.L.Look.told l.initial.look) (args_tree l.args)) ([], 0) (g.L.Look.drawn l.initial.look);
   same : g.L.Look.told l.look ≡ g.L.Look.told l.initial.look;
   held : g.L.Look.held l.look ≡ g.L.Look.held l.initial.look;
 }
@@ -60,6 +71,9 @@ decreases-eval_known g l = 8 * exprs_count (args_tree l.args.now) + 2
 
 abbrev pub decreases-eval_all : goal.decreases-eval_all
 decreases-eval_all g l = 8 * exprs_count (args_tree l.args.now) + 1
+
+abbrev pub decreases-eval_joined : goal.decreases-eval_joined
+decreases-eval_joined g l = 8 * exprs_count (args_tree l.args.now) + 1
 
 abbrev pub decreases-eval_if : goal.decreases-eval_if
 decreases-eval_if g l = 8 * exprs_count (args_tree l.args.now) + 1

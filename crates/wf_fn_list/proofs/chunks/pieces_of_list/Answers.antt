@@ -11,7 +11,8 @@ pub loop-rest-preserved : goal.loop-rest-preserved
 loop-rest-preserved c =
     let left : 0 < length c.loop-rest.rest.now = grind (arith, nat_tests) in
     let full : 0 < length (map tree c.loop-rest.rest.now) = omega (arith, length-map c.loop-rest.rest.now tree) in
-    let pushed = c.in_ok-push.ensures.ok ∙ ap (λ l. c.loop-rest.pieces ++ listed l ∷ []) (c.in_ok-copied.ensures ∙ c.split_items.ensures.front) in
+    let pushed = c.in_ok-push.ensures.ok
+    ∙ ap (λ l. c.loop-rest.pieces ++ listed l ∷ []) (c.in_ok-copied.ensures ∙ c.split_items.ensures.front) in
     ap (λ l. c.push.new.self ++ map listed (chunks c.args.size l)) c.split_items.ensures.back
     ∙ piece-cut listed c.args.size (map tree c.loop-rest.rest.now) c.loop-rest.pieces c.push.new.self c.requires full pushed
     ∙ c.loop-rest.invariant

@@ -20,7 +20,8 @@ pub loop-rest-preserved : goal.loop-rest-preserved
 loop-rest-preserved c =
     let left : 0 < length c.loop-rest.rest.now = grind (arith, nat_tests) in
     let full = some-characters c.loop-rest.rest.now c.loop-rest.invariant.0 left in
-    let pushed = c.in_ok-push.ensures.ok ∙ ap (λ s. c.loop-rest.pieces ++ text s ∷ []) (c.in_ok-of.ensures ∙ c.split_at_char.ensures.front) in (
+    let pushed = c.in_ok-push.ensures.ok
+    ∙ ap (λ s. c.loop-rest.pieces ++ text s ∷ []) (c.in_ok-of.ensures ∙ c.split_at_char.ensures.front) in (
       search rules,
       ap (λ l. c.push.new.self ++ map spelled (chunks c.args.size l)) c.split_at_char.ensures.back_characters
           ∙ piece-cut spelled c.args.size (chars c.loop-rest.rest.now) c.loop-rest.pieces c.push.new.self c.requires full pushed
@@ -30,4 +31,5 @@ loop-rest-preserved c =
 pub returns : goal.returns
 returns c =
     let none : length c.loop-rest.rest.now ≡ 0 = grind (arith, nat_tests) in
-    sym (all-cut spelled c.args.size (chars c.loop-rest.rest.now) c.loop-rest.pieces (no-characters c.loop-rest.rest.now c.loop-rest.invariant.0 none)) ∙ c.loop-rest.invariant.1
+    sym (all-cut spelled c.args.size (chars c.loop-rest.rest.now) c.loop-rest.pieces
+    (no-characters c.loop-rest.rest.now c.loop-rest.invariant.0 none)) ∙ c.loop-rest.invariant.1

@@ -10,5 +10,6 @@ use Rattle.wf_fn_list.proofs.membership.is_among.Goals as goal
 pub returns : goal.returns
 returns c =
     let value = tree c.args.value.now in
-    any_from_yields_List (λ y. is_eq (order value (tree y))) _ _ _ c.any.ensures.ran (YieldsList-from_slice c.args.values.now cc) (λ x b q k. search (rules, tests))
+    any_from_yields_List (λ y. is_eq (order value (tree y))) _ _ _ c.any.ensures.ran (YieldsList-from_slice c.args.values.now cc)
+    (λ x b q k. search (rules, tests))
     ∙ among-mapped tree c.args.values.now value

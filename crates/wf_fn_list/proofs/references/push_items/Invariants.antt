@@ -4,4 +4,5 @@ use Rattle.wf_fn_list.proofs.references.push_items.Given as goal
 
 -- the items so far behind those that were there
 abbrev pub invariant-loop-item : goal.invariant-loop-item
-invariant-loop-item l = map (λ x. tree x.now) l.items.items ≡ map (λ x. tree x.now) l.initial.items.items ++ map tree (take l.item-index l.item-items)
+invariant-loop-item l =
+    map (λ x. tree x.now) l.items.items ≡ map (λ x. tree x.now) l.initial.items.items ++ map tree (take l.item-index l.item-items)

@@ -7,5 +7,6 @@ use Rattle.wf_fn_list.proofs.sets.all_have.Goals as goal
 
 pub returns : goal.returns
 returns c =
-    all_from_yields_List (λ o. is_some (value_of c.args.name.now o.now)) _ _ _ c.all.ensures.ran (YieldsList-from_slice c.args.objects.now cc) (λ x b q k. search (rules, tests))
+    all_from_yields_List (λ o. is_some (value_of c.args.name.now o.now)) _ _ _ c.all.ensures.ran
+    (YieldsList-from_slice c.args.objects.now cc) (λ x b q k. search (rules, tests))
     ∙ sym (list_all-map (λ ms. is_some (value_of c.args.name.now ms)) (λ o. o.now) c.args.objects.now)

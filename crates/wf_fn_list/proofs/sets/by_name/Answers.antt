@@ -16,5 +16,6 @@ loop-member-preserved c =
     ∙ entry-put (λ k. k.now) (λ v. tree v.now) c.loop-member.by_name.entries _ _
     ∙ ap (λ n. put_named name_of (n, tree c.member-item.result.now.1) seen) c.as_str.ensures
     )
-    ∙ sym (rest-from (λ l. put_all seen (map (λ m. member m.now) l)) c.args.members.now c.loop-member.member-index c.member-item.result c.loop-member-test.true c.member-item.is)
+    ∙ sym (rest-from (λ l. put_all seen (map (λ m. member m.now) l)) c.args.members.now c.loop-member.member-index c.member-item.result
+    c.loop-member-test.true c.member-item.is)
     ∙ c.loop-member.invariant

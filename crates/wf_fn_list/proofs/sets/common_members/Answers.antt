@@ -14,15 +14,18 @@ loop-name-preserved-then-not-all_have c =
     let test = λ (m : Member). all_have (map (λ o. o.now) c.args.objects.now) m.0 in
     let no = sym c.all_have.ensures ∙ c.if-not-all_have.true in
     c.loop-name.invariant
-    ∙ sym (one-chosen member test c.as_slice-name-items.result.now c.loop-name.name-index c.loop-name-item.result false c.loop-name-test.true c.loop-name-item.is no ∙ append-nil _)
+    ∙ sym (one-chosen member test c.as_slice-name-items.result.now c.loop-name.name-index c.loop-name-item.result false
+    c.loop-name-test.true c.loop-name-item.is no ∙ append-nil _)
 
 pub append-requires : goal.append-requires
 append-requires c =
     let test = λ (m : Member). all_have (map (λ o. o.now) c.args.objects.now) m.0 in
     let name = c.loop-name-item.result.0 in
-    let chosen = above-chosen member test c.as_slice-name-items.result.now _ c.loop-name.name-index c.loop-name-item.result c.as_slice-name-items.ensures.members c.as_slice-name-items.ensures.in_order
+    let chosen = above-chosen member test c.as_slice-name-items.result.now _ c.loop-name.name-index c.loop-name-item.result
+    c.as_slice-name-items.ensures.members c.as_slice-name-items.ensures.in_order
     c.loop-name-test.true c.loop-name-item.is in
-    subst (λ k. IsAboveAll name_of k c.loop-name.common) (sym c.in_ok-copy.ensures) (subst (IsAboveAll name_of name) (sym c.loop-name.invariant) chosen)
+    subst (λ k. IsAboveAll name_of k c.loop-name.common) (sym c.in_ok-copy.ensures)
+    (subst (IsAboveAll name_of name) (sym c.loop-name.invariant) chosen)
 
 pub loop-name-preserved : goal.loop-name-preserved
 loop-name-preserved c =
@@ -33,7 +36,8 @@ loop-name-preserved c =
     ∙ ap (λ k. c.loop-name.common ++ (k, tree c.in_ok-copy-2.field-0) ∷ []) c.in_ok-copy.ensures
     ∙ ap (λ v. c.loop-name.common ++ (item.0, tree v) ∷ []) c.in_ok-copy-2.ensures
     ∙ ap (λ l. l ++ member item ∷ []) c.loop-name.invariant
-    ∙ sym (one-chosen member test c.as_slice-name-items.result.now c.loop-name.name-index item true c.loop-name-test.true c.loop-name-item.is yes)
+    ∙ sym (one-chosen member test c.as_slice-name-items.result.now c.loop-name.name-index item true c.loop-name-test.true
+    c.loop-name-item.is yes)
 
 pub returns : goal.returns
 returns c =

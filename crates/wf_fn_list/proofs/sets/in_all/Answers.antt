@@ -11,13 +11,16 @@ pub loop-list-preserved : goal.loop-list-preserved
 loop-list-preserved c =
     let kept = map (λ x. tree x.now) c.loop-list.kept.items in
     let others = map (λ y. y.now) (drop (c.loop-list.list-index + 1) c.args.lists.now) in
-    ap (filter (λ x. list_all (λ ys. is_among ys x) others)) (c.in_ok-kept.ensures ∙ ap (λ l. filter (is_among c.list-item.result.now) (map (λ x. tree x.now) l)) c.as_slice.ensures.value)
+    ap (filter (λ x. list_all (λ ys. is_among ys x) others))
+    (c.in_ok-kept.ensures ∙ ap (λ l. filter (is_among c.list-item.result.now) (map (λ x. tree x.now) l)) c.as_slice.ensures.value)
     ∙ one-list kept c.list-item.result.now others
-    ∙ sym (rest-from (λ l. filter (λ x. list_all (λ ys. is_among ys x) (map (λ y. y.now) l)) kept) c.args.lists.now c.loop-list.list-index c.list-item.result c.loop-list-test.true c.list-item.is)
+    ∙ sym (rest-from (λ l. filter (λ x. list_all (λ ys. is_among ys x) (map (λ y. y.now) l)) kept) c.args.lists.now
+    c.loop-list.list-index c.list-item.result c.loop-list-test.true c.list-item.is)
     ∙ c.loop-list.invariant
 
 pub returns : goal.returns
 returns c =
     let kept = map (λ x. tree x.now) c.loop-list.kept.items in
-    sym (at_drop_all (λ l. filter (λ x. list_all (λ ys. is_among ys x) (map (λ y. y.now) l)) kept) c.args.lists.now c.loop-list.list-index (omega arith) ∙ no-list kept)
+    sym (at_drop_all (λ l. filter (λ x. list_all (λ ys. is_among ys x) (map (λ y. y.now) l)) kept) c.args.lists.now
+    c.loop-list.list-index (omega arith) ∙ no-list kept)
     ∙ c.loop-list.invariant

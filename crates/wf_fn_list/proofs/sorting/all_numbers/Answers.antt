@@ -9,5 +9,6 @@ use Rattle.wf_fn_list.proofs.sorting.all_numbers.Goals as goal
 pub returns : goal.returns
 returns c =
     let name = option_map (λ t. t.now) c.args.name in
-    all_from_yields_List (λ v. is_number (judged_by name (tree v))) _ _ _ c.all.ensures.ran (YieldsList-from_slice c.args.values.now cc) (λ x b q k. search (rules, tests))
+    all_from_yields_List (λ v. is_number (judged_by name (tree v))) _ _ _ c.all.ensures.ran (YieldsList-from_slice c.args.values.now cc)
+    (λ x b q k. search (rules, tests))
     ∙ sym (list_all-map (λ x. is_number (judged_by name x)) tree c.args.values.now)
