@@ -29,12 +29,14 @@ after-in_month : (y m d : ℕ) → d < days_in_month (pos y) m → day_after (da
 after-in_month y m d lt = cond-true (nat_lt d (days_in_month (pos y) m)) _ _ (lt-ltb d (days_in_month (pos y) m) lt)
 
 after-month : (y m : ℕ) → m < 12 → day_after (day y m (days_in_month (pos y) m)) ≡ day y (suc m) 1
-after-month y m lt = cond-false (nat_lt (days_in_month (pos y) m) (days_in_month (pos y) m)) _ _ (grind (arith, nat_tests)) ∙ cond-true (nat_lt m 12) _ _ (lt-ltb m 12 lt)
+after-month y m lt = cond-false (nat_lt (days_in_month (pos y) m) (days_in_month (pos y) m)) _ _ (grind (arith, nat_tests))
+    ∙ cond-true (nat_lt m 12) _ _ (lt-ltb m 12 lt)
 
 -- further on in the month
 in_month : (y m n k : ℕ) → day_at n ≡ day y m 1 → suc k ≤ days_in_month (pos y) m → day_at (n + k) ≡ day y m (suc k)
 in_month y m n zero at le = let e : n + 0 ≡ n = omega arith in ap day_at e ∙ at
-in_month y m n (suc k) at le = next n k y m (suc k) _ (in_month y m n k at (omega (arith, le))) (after-in_month y m (suc k) (omega (arith, le)))
+in_month y m n (suc k) at le =
+    next n k y m (suc k) _ (in_month y m n k at (omega (arith, le))) (after-in_month y m (suc k) (omega (arith, le)))
 
 pub long_month : (y m : ℕ) → 1 ≤ days_in_month (pos y) m
 long_month y m = grind (arith, nat_tests)
@@ -47,9 +49,12 @@ in_year y n (suc k) at le =
     let first = in_year y n k at (omega (arith, le)) in
     let long : 1 ≤ days_in_month (pos y) (suc k) = long_month y (suc k) in
     let last : day_at (n + days_of_months (pos y) k + (days_in_month (pos y) (suc k) - 1)) ≡ day y (suc k) (days_in_month (pos y) (suc k)) =
-    in_month y (suc k) (n + days_of_months (pos y) k) (days_in_month (pos y) (suc k) - 1) first (omega (arith, long)) ∙ ap (day y (suc k)) (omega (arith, long)) in
-    let e : n + (days_of_months (pos y) k + days_in_month (pos y) (suc k)) ≡ n + days_of_months (pos y) k + suc (days_in_month (pos y) (suc k) - 1) = omega (arith, long) in
-    ap day_at e ∙ next (n + days_of_months (pos y) k) (days_in_month (pos y) (suc k) - 1) y (suc k) _ _ last (after-month y (suc k) (omega (arith, le)))
+    in_month y (suc k) (n + days_of_months (pos y) k) (days_in_month (pos y) (suc k) - 1) first (omega (arith, long))
+    ∙ ap (day y (suc k)) (omega (arith, long)) in
+    let e : n + (days_of_months (pos y) k + days_in_month (pos y) (suc k))
+    ≡ n + days_of_months (pos y) k + suc (days_in_month (pos y) (suc k) - 1) = omega (arith, long) in
+    ap day_at e
+    ∙ next (n + days_of_months (pos y) k) (days_in_month (pos y) (suc k) - 1) y (suc k) _ _ last (after-month y (suc k) (omega (arith, le)))
 
 -- a year is its months
 long_year : (y : ℕ) → days_of_months (pos y) 11 + 31 ≡ days_in_year (pos y)
@@ -62,8 +67,10 @@ unfolding day_at days_of_first_years
 at_year zero = refl
 at_year (suc i) =
     let december = in_year (suc i) (days_of_first_years i) 11 (at_year i) (omega arith) in
-    let last : day_at (days_of_first_years i + days_of_months (pos (suc i)) 11 + 30) ≡ day (suc i) 12 31 = in_month (suc i) 12 (days_of_first_years i + days_of_months (pos (suc i)) 11) 30 december (omega arith) in
-    let e : days_of_first_years i + days_in_year (pos (suc i)) ≡ days_of_first_years i + days_of_months (pos (suc i)) 11 + suc 30 = omega (arith, long_year (suc i)) in
+    let last : day_at (days_of_first_years i + days_of_months (pos (suc i)) 11 + 30)
+    ≡ day (suc i) 12 31 = in_month (suc i) 12 (days_of_first_years i + days_of_months (pos (suc i)) 11) 30 december (omega arith) in
+    let e : days_of_first_years i + days_in_year (pos (suc i))
+    ≡ days_of_first_years i + days_of_months (pos (suc i)) 11 + suc 30 = omega (arith, long_year (suc i)) in
     ap day_at e ∙ next (days_of_first_years i + days_of_months (pos (suc i)) 11) 30 (suc i) 12 31 _ last refl
 
 -- the day of the number of a day is the day
@@ -73,9 +80,12 @@ day_at-number y m d hy hm lm hd ld =
     let month : suc (m - 1) ≡ m = omega (arith, hm) in
     let place : suc (d - 1) ≡ d = omega (arith, hd) in
     let first : day_at (days_of_first_years (y - 1)) ≡ day y 1 1 = at_year (y - 1) ∙ ap (λ z. day z 1 1) year in
-    let of_month : day_at (days_of_first_years (y - 1) + days_of_months (pos y) (m - 1)) ≡ day y m 1 = in_year y (days_of_first_years (y - 1)) (m - 1) first (omega (arith, lm)) ∙ ap (λ k. day y k 1) month in
-    let e : days_of_first_years (y - 1) + (days_of_months (pos y) (m - 1) + d - 1) ≡ days_of_first_years (y - 1) + days_of_months (pos y) (m - 1) + (d - 1) = omega (arith, hd) in
-    ap day_at e ∙ in_month y m (days_of_first_years (y - 1) + days_of_months (pos y) (m - 1)) (d - 1) of_month (omega (arith, hd, ld)) ∙ ap (day y m) place
+    let of_month : day_at (days_of_first_years (y - 1) + days_of_months (pos y) (m - 1))
+    ≡ day y m 1 = in_year y (days_of_first_years (y - 1)) (m - 1) first (omega (arith, lm)) ∙ ap (λ k. day y k 1) month in
+    let e : days_of_first_years (y - 1) + (days_of_months (pos y) (m - 1) + d - 1)
+    ≡ days_of_first_years (y - 1) + days_of_months (pos y) (m - 1) + (d - 1) = omega (arith, hd) in
+    ap day_at e ∙ in_month y m (days_of_first_years (y - 1) + days_of_months (pos y) (m - 1)) (d - 1) of_month (omega (arith, hd, ld))
+    ∙ ap (day y m) place
 
 -- the library counts from 1970
 first_day : days_from_civil (pos 1) 1 1 ≡ neg_ℤ (pos 719162)
@@ -107,7 +117,8 @@ lt_or_le (negsuc n) = inl (omega (arith, signed_arith))
 year_case : (d : Date) (n : ℕ) → epoch_day d +ℤ pos 719162 ≡ pos n → (d.year <ℤ pos 1) ⊎ (pos 1 ≤ℤ d.year) → pos 1 ≤ℤ d.year
 unfolding first_date
 year_case d n is (inr from) = from
-year_case d n is (inl before) = let earlier = epoch_day-lt d first_date (inl before) in absurd (omega (arith, signed_arith, earlier, is, first_day))
+year_case d n is (inl before) = let earlier =
+    epoch_day-lt d first_date (inl before) in absurd (omega (arith, signed_arith, earlier, is, first_day))
 
 pub year_from_1 : (d : Date) (n : ℕ) → epoch_day d +ℤ pos 719162 ≡ pos n → pos 1 ≤ℤ d.year
 year_from_1 d n is = year_case d n is (lt_or_le d.year)
@@ -118,8 +129,10 @@ at_date d n i is year =
     let longest : d.day ≤ days_in_month (pos (suc i)) d.month = subst (λ y. d.day ≤ days_in_month y d.month) year parts.2.1 in
     let number : epoch_day d ≡ days_from_civil (pos (suc i)) d.month d.day = ap (λ y. days_from_civil y d.month d.day) year in
     let less : suc i - 1 ≡ i = omega arith in
-    let summed : days_of_first_years i + (day_of_year (pos (suc i)) d.month d.day - 1) ≡ n = omega (arith, signed_arith, is, number, in_civil (suc i) d.month d.day parts.2.0, civil_year i) in
-    let counted : day_number (day (suc i) d.month d.day) ≡ n = ap (λ k. days_of_first_years k + (day_of_year (pos (suc i)) d.month d.day - 1)) less ∙ summed in
+    let summed : days_of_first_years i + (day_of_year (pos (suc i)) d.month d.day - 1)
+    ≡ n = omega (arith, signed_arith, is, number, in_civil (suc i) d.month d.day parts.2.0, civil_year i) in
+    let counted : day_number (day (suc i) d.month d.day)
+    ≡ n = ap (λ k. days_of_first_years k + (day_of_year (pos (suc i)) d.month d.day - 1)) less ∙ summed in
     ap day_at (sym counted) ∙ day_at-number (suc i) d.month d.day (omega arith) parts.1.0 parts.1.1 parts.2.0 longest
 
 with_year : (d : Date) (n : ℕ) (z : ℤ) → epoch_day d +ℤ pos 719162 ≡ pos n → d.year ≡ z → pos 1 ≤ℤ z → day_at n ≡ date_day d
@@ -154,7 +167,8 @@ is_day-from d i year parts =
     let absolute : unsigned_abs d.year ≡ suc i = ap unsigned_abs year in
     let last : suc i ≤ 9999 = omega (arith, signed_arith, parts.0, year) in
     let longest : d.day ≤ days_in_month (pos (suc i)) d.month = subst (λ y. d.day ≤ days_in_month y d.month) year parts.2.1 in
-    let here : is_day (record { year = suc i; month = d.month; day = d.day }) ≡ true = grind (arith, nat_tests, parts.1.0, parts.1.1, parts.2.0) in
+    let here : is_day (record { year = suc i; month = d.month; day = d.day })
+    ≡ true = grind (arith, nat_tests, parts.1.0, parts.1.1, parts.2.0) in
     ap (λ y. is_day (record { year = y; month = d.month; day = d.day })) absolute ∙ here
 
 is_day-year : (d : Date) (z : ℤ) → d.year ≡ z → pos 1 ≤ℤ z → is_day (date_day d) ≡ true
@@ -175,3 +189,17 @@ place-year d (negsuc k) year from = absurd (omega (arith, signed_arith, from))
 
 pub place-date : (d : Date) → pos 1 ≤ℤ d.year → day_of_year d.year d.month d.day ≡ place_in_year (date_day d)
 place-date d from = place-year d d.year refl from
+
+number-year : (d : Date) (n : ℕ) (z : ℤ) → epoch_day d +ℤ pos 719162 ≡ pos n → d.year ≡ z → pos 1 ≤ℤ z → day_number (date_day d) ≡ n
+number-year d n (pos zero) is year from = absurd (omega (arith, signed_arith, from))
+number-year d n (pos (suc i)) is year from =
+    let civil_day = civil d in
+    let number : epoch_day d ≡ days_from_civil (pos (suc i)) d.month d.day = ap (λ y. days_from_civil y d.month d.day) year in
+    let counted : day_number (day (suc i) d.month d.day)
+    ≡ n = omega (arith, signed_arith, is, number, number-from_1970 (suc i) d.month d.day (omega arith) civil_day.2.0) in
+    ap (λ y. day_number (day (unsigned_abs y) d.month d.day)) year ∙ counted
+number-year d n (negsuc k) is year from = absurd (omega (arith, signed_arith, from))
+
+-- the number of a date's day, which the library counts from 1970
+pub number-date : (d : Date) (n : ℕ) → epoch_day d +ℤ pos 719162 ≡ pos n → day_number (date_day d) ≡ n
+number-date d n is = number-year d n d.year is refl (year_from_1 d n is)

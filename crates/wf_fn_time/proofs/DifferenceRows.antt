@@ -39,15 +39,18 @@ date_difference-days_back : date_difference_row (word "0001-01-12T01:00Z" ∷ wo
 unfolding chars encode digits day_at days_of_first_years days_of_months
 date_difference-days_back = refl
 
-date_difference-offsets : date_difference_row (word "0001-01-02T00:00:00+01:00" ∷ word "0001-01-02T00:00:00-01:00" ∷ []) ≡ Ok (word "02:00:00")
+date_difference-offsets : date_difference_row (word "0001-01-02T00:00:00+01:00" ∷ word "0001-01-02T00:00:00-01:00" ∷ [])
+    ≡ Ok (word "02:00:00")
 unfolding chars encode digits day_at days_of_first_years days_of_months
 date_difference-offsets = refl
 
-date_difference-longest : date_difference_row (word "0001-01-01" ∷ word "9999-12-31T23:59:59.9999999Z" ∷ []) ≡ Ok (word "3652058.23:59:59.9999999")
+date_difference-longest : date_difference_row (word "0001-01-01" ∷ word "9999-12-31T23:59:59.9999999Z" ∷ [])
+    ≡ Ok (word "3652058.23:59:59.9999999")
 unfolding chars encode digits day_at days_of_first_years days_of_months
 date_difference-longest = refl
 
-date_difference-longest_back : date_difference_row (word "9999-12-31T23:59:59.9999999Z" ∷ word "0001-01-01" ∷ []) ≡ Ok (word "-3652058.23:59:59.9999999")
+date_difference-longest_back : date_difference_row (word "9999-12-31T23:59:59.9999999Z" ∷ word "0001-01-01" ∷ [])
+    ≡ Ok (word "-3652058.23:59:59.9999999")
 unfolding chars encode digits day_at days_of_first_years days_of_months
 date_difference-longest_back = refl
 

@@ -18,15 +18,18 @@ format_date_time-first : format_date_time_row (word "0001-01-01" ∷ word "D" �
 unfolding chars encode day_at days_of_first_years days_of_months
 format_date_time-first = refl
 
-format_date_time-leap_day : format_date_time_row (word "0004-02-29T23:59:59.5Z" ∷ word "ddd d MMM yyyy HH:mm:ss.f" ∷ []) ≡ Ok (word "Sun 29 Feb 0004 23:59:59.5")
+format_date_time-leap_day : format_date_time_row (word "0004-02-29T23:59:59.5Z" ∷ word "ddd d MMM yyyy HH:mm:ss.f" ∷ [])
+    ≡ Ok (word "Sun 29 Feb 0004 23:59:59.5")
 unfolding chars encode day_at days_of_first_years days_of_months
 format_date_time-leap_day = refl
 
-format_date_time-day_before : format_date_time_row (word "0001-01-02T01:00:00+02:00" ∷ word "r" ∷ []) ≡ Ok (word "Mon, 01 Jan 0001 23:00:00 GMT")
+format_date_time-day_before : format_date_time_row (word "0001-01-02T01:00:00+02:00" ∷ word "r" ∷ [])
+    ≡ Ok (word "Mon, 01 Jan 0001 23:00:00 GMT")
 unfolding chars encode day_at days_of_first_years days_of_months
 format_date_time-day_before = refl
 
-format_date_time-last_of_year : format_date_time_row (word "0001-12-31T23:59:59.9999999Z" ∷ word "o" ∷ []) ≡ Ok (word "0001-12-31T23:59:59.9999999Z")
+format_date_time-last_of_year : format_date_time_row (word "0001-12-31T23:59:59.9999999Z" ∷ word "o" ∷ [])
+    ≡ Ok (word "0001-12-31T23:59:59.9999999Z")
 unfolding chars encode day_at days_of_first_years days_of_months
 format_date_time-last_of_year = refl
 

@@ -15,7 +15,8 @@ back-enough t by le = cond-true (nat_le by t) _ _ (grind (arith, nat_tests))
 back-too_far : (t by : ℕ) → t < by → earlier t by ≡ signed_moment (negsuc (by - t - 1))
 back-too_far t by lt = cond-false (nat_le by t) _ _ (grind (arith, nat_tests))
 
-sum-back : (unit t n : ℕ) → (t < suc n * unit) ⊎ (suc n * unit ≤ t) → earlier t (suc n * unit) ≡ signed_moment (pos t +ℤ negsuc n *ℤ pos unit)
+sum-back : (unit t n : ℕ) → (t < suc n * unit) ⊎ (suc n * unit ≤ t)
+    → earlier t (suc n * unit) ≡ signed_moment (pos t +ℤ negsuc n *ℤ pos unit)
 sum-back unit t n (inr le) =
     let z : pos t +ℤ negsuc n *ℤ pos unit ≡ pos (t - suc n * unit) = omega (arith, ints, le) in
     back-enough t (suc n * unit) le ∙ ap signed_moment (sym z)

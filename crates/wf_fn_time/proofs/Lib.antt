@@ -2,6 +2,7 @@ pub mod CalendarLemmas
 pub mod ReadingLemmas
 pub mod PatternLemmas
 pub mod LawLemmas
+pub mod RoundTripLemmas
 pub mod RowValues
 pub mod ReadingRows
 pub mod PatternRows

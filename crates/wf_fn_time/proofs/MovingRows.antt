@@ -142,7 +142,8 @@ add_to_time-month_of_no_leap : add_to_time_row (word "0003-01-31" ∷ plus 1 ∷
 unfolding chars encode day_at days_of_first_years days_of_months
 add_to_time-month_of_no_leap = refl
 
-add_to_time-month_keeps_the_day : add_to_time_row (word "0004-01-30" ∷ plus 2 ∷ word "Month" ∷ word "s" ∷ []) ≡ Ok (word "0004-03-30T00:00:00")
+add_to_time-month_keeps_the_day : add_to_time_row (word "0004-01-30" ∷ plus 2 ∷ word "Month" ∷ word "s" ∷ [])
+    ≡ Ok (word "0004-03-30T00:00:00")
 unfolding chars encode day_at days_of_first_years days_of_months
 add_to_time-month_keeps_the_day = refl
 
@@ -150,7 +151,8 @@ add_to_time-months_back : add_to_time_row (word "0004-03-31" ∷ minus 1 ∷ wor
 unfolding chars encode day_at days_of_first_years days_of_months
 add_to_time-months_back = refl
 
-add_to_time-months_over_a_year : add_to_time_row (word "0001-11-15" ∷ plus 3 ∷ word "month" ∷ word "s" ∷ []) ≡ Ok (word "0002-02-15T00:00:00")
+add_to_time-months_over_a_year : add_to_time_row (word "0001-11-15" ∷ plus 3 ∷ word "month" ∷ word "s" ∷ [])
+    ≡ Ok (word "0002-02-15T00:00:00")
 unfolding chars encode day_at days_of_first_years days_of_months
 add_to_time-months_over_a_year = refl
 
@@ -158,7 +160,8 @@ add_to_time-year : add_to_time_row (word "0004-02-29" ∷ minus 1 ∷ word "Year
 unfolding chars encode day_at days_of_first_years days_of_months
 add_to_time-year = refl
 
-add_to_time-years_to_a_leap_day : add_to_time_row (word "0001-02-28" ∷ plus 3 ∷ word "year" ∷ word "s" ∷ []) ≡ Ok (word "0004-02-28T00:00:00")
+add_to_time-years_to_a_leap_day : add_to_time_row (word "0001-02-28" ∷ plus 3 ∷ word "year" ∷ word "s" ∷ [])
+    ≡ Ok (word "0004-02-28T00:00:00")
 unfolding chars encode day_at days_of_first_years days_of_months
 add_to_time-years_to_a_leap_day = refl
 
@@ -186,11 +189,13 @@ add_to_time-no_unit : add_to_time_row (word "0001-01-01" ∷ plus 1 ∷ word "" 
 unfolding chars encode day_at days_of_first_years days_of_months
 add_to_time-no_unit = refl
 
-add_to_time-pattern_before_unit : add_to_time_row (word "0001-01-01" ∷ plus 1 ∷ word "Days" ∷ word "q" ∷ []) ≡ Err (EvalFault.BadText Fun.AddToTime)
+add_to_time-pattern_before_unit : add_to_time_row (word "0001-01-01" ∷ plus 1 ∷ word "Days" ∷ word "q" ∷ [])
+    ≡ Err (EvalFault.BadText Fun.AddToTime)
 unfolding chars encode day_at days_of_first_years days_of_months
 add_to_time-pattern_before_unit = refl
 
-add_to_time-timestamp_before_pattern : add_to_time_row (word "x" ∷ plus 1 ∷ word "Days" ∷ word "q" ∷ []) ≡ Err (EvalFault.BadText Fun.AddToTime)
+add_to_time-timestamp_before_pattern : add_to_time_row (word "x" ∷ plus 1 ∷ word "Days" ∷ word "q" ∷ [])
+    ≡ Err (EvalFault.BadText Fun.AddToTime)
 unfolding chars encode day_at days_of_first_years days_of_months
 add_to_time-timestamp_before_pattern = refl
 
@@ -210,35 +215,43 @@ subtract_from_time-day : subtract_from_time_row (word "0001-01-02" ∷ plus 1 �
 unfolding chars encode day_at days_of_first_years days_of_months
 subtract_from_time-day = refl
 
-subtract_from_time-later : subtract_from_time_row (word "0001-01-01" ∷ minus 1 ∷ word "Week" ∷ word "s" ∷ []) ≡ Ok (word "0001-01-08T00:00:00")
+subtract_from_time-later : subtract_from_time_row (word "0001-01-01" ∷ minus 1 ∷ word "Week" ∷ word "s" ∷ [])
+    ≡ Ok (word "0001-01-08T00:00:00")
 unfolding chars encode day_at days_of_first_years days_of_months
 subtract_from_time-later = refl
 
-subtract_from_time-month : subtract_from_time_row (word "0001-03-31" ∷ plus 1 ∷ word "Month" ∷ word "s" ∷ []) ≡ Ok (word "0001-02-28T00:00:00")
+subtract_from_time-month : subtract_from_time_row (word "0001-03-31" ∷ plus 1 ∷ word "Month" ∷ word "s" ∷ [])
+    ≡ Ok (word "0001-02-28T00:00:00")
 unfolding chars encode day_at days_of_first_years days_of_months
 subtract_from_time-month = refl
 
-subtract_from_time-year : subtract_from_time_row (word "0004-02-29" ∷ plus 3 ∷ word "Year" ∷ word "s" ∷ []) ≡ Ok (word "0001-02-28T00:00:00")
+subtract_from_time-year : subtract_from_time_row (word "0004-02-29" ∷ plus 3 ∷ word "Year" ∷ word "s" ∷ [])
+    ≡ Ok (word "0001-02-28T00:00:00")
 unfolding chars encode day_at days_of_first_years days_of_months
 subtract_from_time-year = refl
 
-subtract_from_time-before_year_1 : subtract_from_time_row (word "0001-01-01T00:00:00.9999999Z" ∷ plus 1 ∷ word "Second" ∷ []) ≡ Err (EvalFault.Range Fun.SubtractFromTime)
+subtract_from_time-before_year_1 : subtract_from_time_row (word "0001-01-01T00:00:00.9999999Z" ∷ plus 1 ∷ word "Second" ∷ [])
+    ≡ Err (EvalFault.Range Fun.SubtractFromTime)
 unfolding chars encode day_at days_of_first_years days_of_months
 subtract_from_time-before_year_1 = refl
 
-subtract_from_time-least : subtract_from_time_row (word "0001-01-01" ∷ least ∷ word "Second" ∷ []) ≡ Err (EvalFault.Range Fun.SubtractFromTime)
+subtract_from_time-least : subtract_from_time_row (word "0001-01-01" ∷ least ∷ word "Second" ∷ [])
+    ≡ Err (EvalFault.Range Fun.SubtractFromTime)
 unfolding chars encode day_at days_of_first_years days_of_months
 subtract_from_time-least = refl
 
-subtract_from_time-greatest : subtract_from_time_row (word "0001-01-01" ∷ greatest ∷ word "Month" ∷ []) ≡ Err (EvalFault.Range Fun.SubtractFromTime)
+subtract_from_time-greatest : subtract_from_time_row (word "0001-01-01" ∷ greatest ∷ word "Month" ∷ [])
+    ≡ Err (EvalFault.Range Fun.SubtractFromTime)
 unfolding chars encode day_at days_of_first_years days_of_months
 subtract_from_time-greatest = refl
 
-subtract_from_time-by_none : subtract_from_time_row (word "0001-01-31" ∷ plus 0 ∷ word "Month" ∷ word "s" ∷ []) ≡ Ok (word "0001-01-31T00:00:00")
+subtract_from_time-by_none : subtract_from_time_row (word "0001-01-31" ∷ plus 0 ∷ word "Month" ∷ word "s" ∷ [])
+    ≡ Ok (word "0001-01-31T00:00:00")
 unfolding chars encode day_at days_of_first_years days_of_months
 subtract_from_time-by_none = refl
 
-subtract_from_time-unknown_unit : subtract_from_time_row (word "0001-01-01" ∷ plus 0 ∷ word "Millisecond" ∷ []) ≡ Err (EvalFault.Range Fun.SubtractFromTime)
+subtract_from_time-unknown_unit : subtract_from_time_row (word "0001-01-01" ∷ plus 0 ∷ word "Millisecond" ∷ [])
+    ≡ Err (EvalFault.Range Fun.SubtractFromTime)
 unfolding chars encode day_at days_of_first_years days_of_months
 subtract_from_time-unknown_unit = refl
 

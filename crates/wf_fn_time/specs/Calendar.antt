@@ -7,13 +7,19 @@ use Rattle.wf_fn_time.specs.declared.calendar.Day.{Day}
 -- the calendar has this day, in the years 1 to 9999
 abbrev pub is_day : Day → Bool
 is_day d =
-    nat_le 1 d.year && nat_le d.year 9999 && nat_le 1 d.month && nat_le d.month 12 && nat_le 1 d.day && nat_le d.day (days_in_month (pos d.year) d.month)
+    nat_le 1 d.year && nat_le d.year 9999 && nat_le 1 d.month && nat_le d.month 12 && nat_le 1 d.day
+    && nat_le d.day (days_in_month (pos d.year) d.month)
 
 -- the day after a day
 abbrev pub day_after : Day → Day
 day_after d =
     if nat_lt d.day (days_in_month (pos d.year) d.month) then record { year = d.year; month = d.month; day = suc d.day }
-    else (if nat_lt d.month 12 then record { year = d.year; month = suc d.month; day = 1 } else record { year = suc d.year; month = 1; day = 1 })
+    else (if nat_lt d.month 12 then record { year = d.year; month = suc d.month; day = 1 } else record {
+      year = suc d.year;
+      month =
+          1;
+      day = 1;
+    })
 
 -- so many times the day after 1 January of the year 1
 unfoldable pub day_at : ℕ → Day

@@ -29,4 +29,5 @@ difference_printed from to = if nat_lt to from then 45 ∷ [] ++ span_printed (f
 abbrev pub date_difference_row : List ValueTree → Answer
 date_difference_row ts =
     given (text_at Fun.DateDifference ts 0) (λ s. given (text_at Fun.DateDifference ts 1) (λ e.
-    given (moment_of Fun.DateDifference s) (λ from. given (moment_of Fun.DateDifference e) (λ to. bounded (text (difference_printed from to))))))
+    given (moment_of Fun.DateDifference s) (λ from. given (moment_of Fun.DateDifference e) (λ to.
+    bounded (text (difference_printed from to))))))

@@ -1,6 +1,7 @@
 -- Moments moved (Workflow Definition Language, date and time functions addDays, addHours, addMinutes, addSeconds, addToTime and
 -- subtractFromTime).
-use Rattle.std.specs.Prelude.{ℕ, suc, ◌+◌, ◌-◌, ◌*◌, ◌/◌, ◌%◌, min, ℤ, pos, negsuc, true, false, not, ◌&&◌, List, Option, Some, None, option_map, codes, nat_le, nat_lt, if◌then◌else◌}
+use Rattle.std.specs.Prelude.{ℕ, suc, ◌+◌, ◌-◌, ◌*◌, ◌/◌, ◌%◌, min, ℤ, pos, negsuc, true, false, not, ◌&&◌, List, Option, Some, None}
+use Rattle.std.specs.Prelude.{option_map, codes, nat_le, nat_lt, if◌then◌else◌}
 use Rattle.std.specs.Str.{str_eq_ignore_ascii_case}
 use Rattle.wf_val.specs.Arguments.{Answer, given, text_at, number_at, optional_text_at}
 use Rattle.wf_val.specs.ValueTree.{ValueTree}
@@ -37,7 +38,8 @@ month_in_years k = if (nat_le 12 k && nat_lt k 120000) then Some k else None
 -- so many times so many months later, or earlier; none outside the years 1 to 9999
 abbrev pub month_moved : ℕ → Shift → ℕ → Option ℕ
 month_moved months s k =
-    if s.back then (if nat_le (s.count * months) k then month_in_years (k - s.count * months) else None) else month_in_years (k + s.count * months)
+    if s.back then (if nat_le (s.count * months) k then month_in_years (k - s.count * months) else None)
+    else month_in_years (k + s.count * months)
 
 -- the same day of another month, or its last
 abbrev pub day_in_month : ℕ → ℕ → Day

@@ -3,13 +3,16 @@ use Rattle.std.specs.Prelude.{ℕ, List, codes, ◌==◌, if◌then◌else◌}
 
 abbrev pub month_name : ℕ → List ℕ
 month_name n =
-    if n == 1 then codes "January" else (if n == 2 then codes "February" else (if n == 3 then codes "March" else (if n == 4 then codes "April"
+    if n == 1 then codes "January" else (if n == 2 then codes "February" else (if n == 3 then codes "March" else
+    (if n == 4 then codes "April"
     else (if n == 5 then codes "May" else (if n == 6 then codes "June" else (if n == 7 then codes "July" else (if n == 8 then codes "August"
-    else (if n == 9 then codes "September" else (if n == 10 then codes "October" else (if n == 11 then codes "November" else codes "December"))))))))))
+    else (if n == 9 then codes "September" else (if n == 10 then codes "October"
+    else (if n == 11 then codes "November" else codes "December"))))))))))
 
 abbrev pub weekday_name : ℕ → List ℕ
 weekday_name n =
-    if n == 0 then codes "Sunday" else (if n == 1 then codes "Monday" else (if n == 2 then codes "Tuesday" else (if n == 3 then codes "Wednesday"
+    if n == 0 then codes "Sunday" else (if n == 1 then codes "Monday" else (if n == 2 then codes "Tuesday" else
+    (if n == 3 then codes "Wednesday"
     else (if n == 4 then codes "Thursday" else (if n == 5 then codes "Friday" else codes "Saturday")))))
 
 -- their abbreviations

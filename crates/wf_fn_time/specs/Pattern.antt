@@ -1,6 +1,7 @@
 -- Patterns by which moments are printed (.NET, standard and custom date and time format strings; of these the ones that
 -- need no culture and no zone).
-use Rattle.std.specs.Prelude.{ℕ, zero, suc, Bool, true, false, ◌||◌, not, List, [], ◌∷◌, Option, Some, None, option_map, length, ◌==◌, codes, nat_lt, slice_get, slice_index, if◌then◌else◌}
+use Rattle.std.specs.Prelude.{ℕ, zero, suc, Bool, true, false, ◌||◌, not, List, [], ◌∷◌, Option, Some, None, option_map, length, ◌==◌}
+use Rattle.std.specs.Prelude.{codes, nat_lt, slice_get, slice_index, if◌then◌else◌}
 use Rattle.std.specs.Int.{is_in_range}
 use Rattle.std.specs.Str.{chars}
 use Rattle.wf_fn_time.specs.declared.pattern.Field.{Field}
@@ -18,7 +19,8 @@ fields_of letter =
     else (if letter == 109 then Some Field.Minute ∷ Some Field.PaddedMinute ∷ []
     else (if letter == 115 then Some Field.Second ∷ Some Field.PaddedSecond ∷ []
     else (if letter == 102 then
-    Some Field.Fraction1 ∷ Some Field.Fraction2 ∷ Some Field.Fraction3 ∷ Some Field.Fraction4 ∷ Some Field.Fraction5 ∷ Some Field.Fraction6 ∷ Some Field.Fraction7 ∷ []
+    Some Field.Fraction1 ∷ Some Field.Fraction2 ∷ Some Field.Fraction3 ∷ Some Field.Fraction4
+    ∷ Some Field.Fraction5 ∷ Some Field.Fraction6 ∷ Some Field.Fraction7 ∷ []
     else (if letter == 116 then None ∷ Some Field.HalfDay ∷ [] else []))))))))
 
 abbrev pub joined_option : {X : Type 0} → Option (Option X) → Option X

@@ -41,7 +41,8 @@ print_time_row t p f = given (pattern_of f p) (λ ps. printed_value t ps)
 -- the moment that is the first argument, and the pattern that may be the second
 abbrev pub moment_and_pattern : Fun → List ValueTree → Result (ℕ × List Part) EvalFault
 moment_and_pattern f ts =
-    given (text_at f ts 0) (λ s. given (optional_text_at f ts 1) (λ p. given (moment_of f s) (λ t. given (pattern_of f p) (λ ps. Ok (t, ps)))))
+    given (text_at f ts 0) (λ s. given (optional_text_at f ts 1) (λ p. given (moment_of f s) (λ t. given (pattern_of f p) (λ ps.
+    Ok (t, ps)))))
 
 -- the moment that is the first argument
 abbrev pub moment_at : Fun → List ValueTree → Result ℕ EvalFault

@@ -29,6 +29,7 @@ pub fn day_at(days: u64) -> Day
     requires { days ≤ 3652058 }
     ensures value { result ≡ day_at days }
     ensures in_calendar { is_day result ≡ true }
+    ensures counted { day_number result ≡ days }
 {
     let date = date_at(days);
     Day {
@@ -65,6 +66,7 @@ fn date_at(days: u64) -> Date
     requires { days ≤ 3652058 }
     ensures value { day_at days ≡ date_day result }
     ensures year { pos 1 ≤ℤ result.year }
+    ensures counted { day_number (date_day result) ≡ days }
 {
     match Date::from_unix_epoch_day(epoch_days(days)) {
         Ok(date) => date,

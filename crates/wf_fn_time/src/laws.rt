@@ -2,9 +2,12 @@
 ghost use Rattle.std.specs.Prelude.{◌≡◌, ◌≤◌, ◌==◌, ℕ, ℤ, suc, if◌then◌else◌};
 ghost use Rattle.jiff_core.specs.declared.civil.date.Date.{Date};
 ghost use Rattle.wf_fn_time.specs.Calendar.{weekday};
-ghost use Rattle.wf_fn_time.specs.Laws.{IsSum, IsUndone, IsLibraryDay};
+ghost use Rattle.wf_fn_time.specs.Laws.{IsSum, IsUndone, IsLibraryDay, IsReadBack, HasItsTicks};
 ghost use Rattle.wf_fn_time.specs.Moments.{last_tick};
 ghost use Rattle.wf_fn_time.specs.declared.shift.Shift.{Shift};
+
+use crate::calendar::day_at;
+use crate::ticks::Ticks;
 
 /// A moment moved by a number of units is the sum of its ticks and theirs, and there is none where that isn't in the years
 /// 1 to 9999. Moved on and back again it is where it was.
@@ -19,3 +22,12 @@ pub fn days_are_those_of_the_calendar()
     ensures day { (d : Date) (n : ℕ) → IsLibraryDay d n }
     ensures weekday { (n : ℕ) → weekday (suc n) ≡ (if weekday n == 6 then 0 else suc (weekday n)) }
 {}
+
+/// What is printed of a moment where no pattern is given is a timestamp of just this moment, whose `ticks` are the
+/// moment's.
+pub fn printed_moments_are_read(moment: Ticks)
+    ensures read { IsReadBack moment }
+    ensures ticks { HasItsTicks moment }
+{
+    let _day = day_at(moment.get() / 864_000_000_000);
+}

@@ -13,7 +13,7 @@
 //! The days are those of `jiff_core`'s calendar. `specs/Calendar.antt` says them without it, as so many times the day
 //! after 1 January of the year 1, and the two are proved to be the same.
 //!
-//! Laws stand beside the rows, and say in another way what they mean: `moves_are_sums` and
+//! Laws stand beside the rows, and say in another way what they mean: `printed_moments_are_read`, `moves_are_sums` and
 //! `days_are_those_of_the_calendar`.
 //!
 //! This crate reads no clock: the moment of a run is handed in. How many arguments a function takes is judged before a
@@ -37,7 +37,7 @@ mod times;
 
 pub use difference::f_date_difference;
 pub use formatting::{f_format_date_time, f_start_of_day, f_start_of_hour, f_start_of_month};
-pub use laws::{days_are_those_of_the_calendar, moves_are_sums};
+pub use laws::{days_are_those_of_the_calendar, moves_are_sums, printed_moments_are_read};
 pub use moving::{
     f_add_days, f_add_hours, f_add_minutes, f_add_seconds, f_add_to_time, f_subtract_from_time,
     moved_time,

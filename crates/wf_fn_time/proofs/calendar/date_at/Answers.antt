@@ -3,7 +3,7 @@ use Rattle.std.proofs.lemmas.Int.{to_z-of_z}
 use Rattle.std.specs.Int.{w64}
 use Rattle.std.specs.Prelude.{FitsSigned}
 use Rattle.jiff_core.specs.Date.{epoch_day}
-use Rattle.wf_fn_time.proofs.CalendarLemmas.{date_at-number, year_from_1}
+use Rattle.wf_fn_time.proofs.CalendarLemmas.{date_at-number, number-date, year_from_1}
 use Rattle.wf_fn_time.proofs.calendar.date_at.Goals as goal
 
 counted : (c : goal.In-Ok) → epoch_day c.in-Ok.date +ℤ pos 719162 ≡ pos c.args.days
@@ -16,3 +16,6 @@ returns-clause-value c = date_at-number c.in-Ok.date c.args.days (counted c)
 
 pub returns-clause-year : goal.returns-clause-year
 returns-clause-year c = year_from_1 c.in-Ok.date c.args.days (counted c)
+
+pub returns-clause-counted : goal.returns-clause-counted
+returns-clause-counted c = number-date c.in-Ok.date c.args.days (counted c)

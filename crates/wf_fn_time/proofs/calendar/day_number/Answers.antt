@@ -1,4 +1,4 @@
-use Rattle.std.proofs.Common.{◌≡◌, ◌+◌, arith, min, pos, to_z, ◌∙◌, ap}
+use Rattle.std.proofs.Common.{◌≡◌, ◌+◌, ◌≤◌, arith, min, pos, to_z, ◌∙◌, ap}
 use Rattle.std.specs.Int.{w16}
 use Rattle.std.proofs.lemmas.Int.{ints}
 use Rattle.jiff_core.specs.Calendar.{days_in_month}
@@ -14,8 +14,10 @@ counted : (c : goal.After-days_since_min) → c.days_since_min.result ≡ day_nu
 counted c =
     let signed : to_z w16 c.args.year ≡ pos c.args.year = omega (arith, ints) in
     let place = c.constrain-date.ensures.day ∙ ap (λ y. min c.args.day (days_in_month y c.args.month)) signed in
-    number-of_date c.constrain-date.result c.args.year c.args.month (min c.args.day (days_in_month (pos c.args.year) c.args.month)) c.days_since_min.result
-    (c.constrain-date.ensures.year ∙ signed) c.constrain-date.ensures.month place c.requires.year_from (omega (arith, c.requires.day_from, long_month c.args.year c.args.month)) c.days_since_min.ensures.value
+    let last = min c.args.day (days_in_month (pos c.args.year) c.args.month) in
+    let from : 1 ≤ last = omega (arith, c.requires.day_from, long_month c.args.year c.args.month) in
+    number-of_date c.constrain-date.result c.args.year c.args.month last c.days_since_min.result
+    (c.constrain-date.ensures.year ∙ signed) c.constrain-date.ensures.month place c.requires.year_from from c.days_since_min.ensures.value
 
 pub overflow_sub-result : goal.overflow_sub-result
 overflow_sub-result c = omega (arith, counted c)
