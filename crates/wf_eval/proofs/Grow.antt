@@ -2,7 +2,7 @@
 use Rattle.std.proofs.Common.{ℕ, suc, ◌+◌, ◌-◌, ◌^◌, ◌≤◌, arith, Bool, true, false, List, [], ◌∷◌, ◌++◌, Option, Some, None, Result, Ok, Err, refl, le_refl, le_trans}
 use Rattle.wf_val.specs.ValueTree.{ValueTree, boolean}
 use Rattle.std.specs.Prelude.{nat_lt, if◌then◌else◌}
-use Rattle.wf_val.specs.Arguments.{Answer, given, is_memory}
+use Rattle.wf_val.specs.Arguments.{Answer, given}
 use Rattle.wf_val.specs.Function.{function_of}
 use Rattle.wf_val.specs.declared.function.Fun.{Fun}
 use Rattle.wf_val.specs.declared.fault.EvalFault.{EvalFault}

@@ -22,7 +22,7 @@ use Rattle.wf_eval.specs.Value.{early, drawn, drawn_run, called, called_by, valu
 use Rattle.wf_eval.specs.TemplateValue.{piece_value, piece_runs, joined, text_answer, template_value}
 use Rattle.wf_eval.specs.TreeValue.{members_after, list_answer, object_answer, tree_value, tree_runs, member_runs}
 use Rattle.wf_eval.specs.Truth.{negated, compared, truth, truth_of, truths_of}
-use Rattle.wf_eval.specs.Uses.{Use, names, asks, asks_moment, asks_words, named_use, used_by, used_by_name, uses, all_uses, piece_use, piece_uses, template_uses, tree_uses, trees_uses, members_uses, cond_uses, conds_uses, Agree, AgreeAt}
+use Rattle.wf_eval.specs.Uses.{Use, names, asks, asks_words, named_use, used_by, used_by_name, uses, all_uses, piece_use, piece_uses, template_uses, tree_uses, trees_uses, members_uses, cond_uses, conds_uses, Agree, AgreeAt}
 
 pub agree-front : (l m : Told) (us vs : List Use) → AgreeAt l m (us ++ vs) → AgreeAt l m us
 agree-front l m [] vs a = tt

@@ -1,12 +1,12 @@
 -- Values of the functions that ask for the moment or draw a word, at worked calls; and which function each function on timestamps
 -- is. A word itself, a SHA-256, doesn't compute here: its place in a value does, and what is made of a word that is written out.
 use lib.Utf8.{encode}
-use Rattle.std.proofs.Common.{◌≡◌, ℕ, ◌-◌, ◌^◌, refl, List, [], ◌∷◌, Ok, Err, None}
+use Rattle.std.proofs.Common.{◌≡◌, ℕ, ◌-◌, ◌^◌, refl, true, List, [], ◌∷◌, Ok, Err, None}
 use Rattle.std.specs.Prelude.{ℤ, pos, negsuc, codes}
 use Rattle.std.specs.Str.{chars}
 use Rattle.jiff_core.specs.Calendar.{days_of_months}
 use Rattle.uuid.specs.Text.{by_index}
-use Rattle.wf_val.specs.ValueTree.{ValueTree, null, boolean, number, text}
+use Rattle.wf_val.specs.ValueTree.{null, boolean, number, text}
 use Rattle.wf_val.specs.declared.fault.EvalFault.{EvalFault}
 use Rattle.wf_val.specs.declared.function.Fun.{Fun}
 use Rattle.wf_template.specs.ExprTree.{ExprTree, literal, call, expr_trees}

@@ -1,6 +1,6 @@
 -- WHAT FUNCTIONS OF THE MOMENT GIVE (Workflow Definition Language, date and time functions utcNow, getFutureTime and getPastTime).
 -- The types of all arguments are judged first, each at its place in the call as it is written.
-use Rattle.std.specs.Prelude.{ℕ, ℤ, pos, negsuc, List, Option, Some, None, Result, Ok, Err, length, if◌then◌else◌}
+use Rattle.std.specs.Prelude.{ℕ, ℤ, pos, negsuc, List, Result, Err, length, if◌then◌else◌}
 use Rattle.wf_val.specs.Arguments.{Answer, given, wrong_type, text_at, number_at, optional_text_at}
 use Rattle.wf_val.specs.Arity.{takes}
 use Rattle.wf_val.specs.ValueTree.{ValueTree}

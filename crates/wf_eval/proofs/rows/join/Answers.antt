@@ -1,7 +1,6 @@
-use Rattle.std.proofs.Common.{◌≡◌, List, length, map, ap, ◌∙◌, subst, sym}
+use Rattle.std.proofs.Common.{◌≡◌, map, ap, ◌∙◌, subst}
 use Rattle.std.proofs.lemmas.List.{length-map}
 use Rattle.wf_val.specs.Arguments.{Gives, seen}
-use Rattle.wf_val.specs.ValueTree.{ValueTree}
 use Rattle.wf_fn_list.specs.Parts.{join_row}
 use Rattle.wf_eval.specs.Rows.{texts_in}
 use Rattle.wf_eval.proofs.rows.join.Goals as goal
