@@ -1,7 +1,8 @@
 #!/bin/sh
 # Times `wflow run` beside `jq -c .` on the same definition, and prints the ratio of the two. Then times the parsing of
 # texts as templates, which no command does yet, beside reading their bytes alone, with the ratio of these two, and beside
-# `jq -c .` on the same text as JSON. Then times functions on long texts beside Python's own.
+# `jq -c .` on the same text as JSON. Then times functions on long texts beside Python's own, and what templates come to, in the looks
+# of rows, beside `jq -c .` on the same rows.
 #
 #   bench/bench.sh
 #
@@ -16,6 +17,7 @@ program=$("$top/bin/program")
 export top folder program
 (cd "$top/crates/template_rows" && rt run -- parse <stdin) >"$folder/log" 2>&1 || { cat "$folder/log" >&2 && exit 1; }
 (cd "$top/crates/function_rows" && rt run <stdin) >"$folder/log" 2>&1 || { cat "$folder/log" >&2 && exit 1; }
+(cd "$top/crates/evaluation_rows" && rt run <stdin) >"$folder/log" 2>&1 || { cat "$folder/log" >&2 && exit 1; }
 python3 - <<'PROGRAM'
 import json, os, random, subprocess, time, urllib.parse
 
@@ -171,4 +173,24 @@ for (name, function, arguments, query, wanted), small in zip(of_items(10**5), of
     ours, theirs = time_of(function, arguments, wanted), least(["jq", "-c", query, file("arguments.json", arguments)])
     growth = ours / time_of(function, small[2], small[4])
     print("%-37s %6d %9.4f %9.4f %7.1f %7.1f" % (name, 10**5, ours, theirs, ours / theirs, growth))
+
+program = os.path.join(top, "crates", "evaluation_rows", "out", "evaluation_rows")
+spaced = "@{" + " " * 38 + "1}"
+evaluated = [
+    ("`@add(item(),1)`, 100,000 times", [{"look": {"items": [1]}}] + [{"text": "@add(item(),1)"}] * 100000),
+    ("one `concat` of 4,000 arguments", [{"text": "@concat(" + ",".join("1" * 4000) + ")"}]),
+    ("2,700 accesses in a row, 1,000 times", [{"text": ["@json('{}')", 2700, "?.a"]}] * 1000),
+    ("4 MiB of 100,000 parts", [{"text": spaced * 100000}]),
+]
+print()
+print("%-34s %9s %9s %9s %7s %9s  %s" % ("rows", "bytes", "ours s", "jq s", "ratio", "memory", "the last comes to"))
+for name, rows in evaluated:
+    path = os.path.join(folder, "rows")
+    with open(path, "w") as out:
+        out.writelines(json.dumps(row) + "\n" for row in rows)
+    with open(path) as given:
+        last = subprocess.run([program], stdin=given, capture_output=True, check=True, text=True).stdout.splitlines()[-1]
+    ours, theirs = least([program], path), least(["jq", "-c", ".", path])
+    print("%-34s %9d %9.3f %9.3f %7.1f %5d MiB  %s" % (
+        name, os.path.getsize(path), ours, theirs, ours / theirs, memory([program], path), last[:40]))
 PROGRAM
