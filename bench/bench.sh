@@ -188,7 +188,7 @@ def months_later(args):
     return moment.replace(year=year, month=month, day=day).strftime("%Y-%m-%dT%H:%M:%S") + ".0000000Z"
 
 
-moments = ["%04d-%02d-%02dT%02d:%02d:%02dZ" % (1000 + k % 8000, k % 12 + 1, k % 28 + 1, k % 24, k % 60, k * 7 % 60) for k in range(10**5)]
+moments = ["%04d-%02d-%02dT%02d:%02d:%02dZ" % (2000 + k % 7000, k % 12 + 1, k % 28 + 1, k % 24, k % 60, k * 7 % 60) for k in range(10**5)]
 timed = [
     ("formatDateTime", [[text, "ddd, dd MMM yyyy HH:mm:ss"] for text in moments], written),
     ("addToTime by months", [[text, k % 1000 - 500, "Month"] for k, text in enumerate(moments)], months_later),
