@@ -1,0 +1,6 @@
+pub mod Coming
+pub mod Kept
+pub mod Ends
+pub mod Counts
+pub mod BeforeLemmas
+pub mod NamesLemmas

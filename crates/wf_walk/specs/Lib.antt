@@ -1,0 +1,4 @@
+pub mod Seen
+pub mod Walked
+pub mod Calls
+pub mod Before
