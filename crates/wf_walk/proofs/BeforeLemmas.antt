@@ -1,4 +1,5 @@
 -- The table of what comes before what, row by row.
+use Rattle.std.specs.declared.alloc.Global.{Global}
 use Rattle.std.proofs.Common.{◌≡◌, ◌⊎◌, ◌+◌, ℕ, zero, suc, ◌<◌, ◌≤◌, Bool, true, false, ◌||◌, ◌&&◌, List, [], ◌∷◌, length, set, replicate, Option, Some, None, is_some, slice_get, inl, inr, ⊎_elim, refl, sym, ap, ◌∙◌, subst, arith, nat_eq, eqb-true, eq-eqb, Vec, true≢false}
 use Rattle.std.specs.List.{list_all, list_any}
 use Rattle.wf_layers.specs.Definition.{Need, Names}
@@ -13,7 +14,7 @@ use Rattle.wf_walk.specs.Before.{row_of, with_mark, joined_from, with_before, al
 
 -- ---- marks
 
-or_false : (b : Bool) → (b || false) ≡ b
+pub or_false : (b : Bool) → (b || false) ≡ b
 or_false true = refl
 or_false false = refl
 
@@ -21,7 +22,7 @@ or_true : (b : Bool) → (b || true) ≡ true
 or_true true = refl
 or_true false = refl
 
-or_assoc : (a b c : Bool) → ((a || b) || c) ≡ (a || (b || c))
+pub or_assoc : (a b c : Bool) → ((a || b) || c) ≡ (a || (b || c))
 or_assoc true b c = refl
 or_assoc false b c = refl
 
@@ -92,16 +93,16 @@ joined_at n (on ∷ others) marks m (suc j) is lt =
     joined_at (suc n) others (with_mark marks n on) m j (omega (arith, is)) (omega (arith, lt, mark_size marks n on))
     ∙ ap (λ b. b || is_marked others j) (mark_apart marks n m on (apart_above n m (omega (arith, is))))
 
-before_size : (table : List (Vec Bool)) (n : ℕ) (marks : List Bool) → length (with_before table n marks) ≡ length marks
+before_size : (table : List (Vec Bool Global)) (n : ℕ) (marks : List Bool) → length (with_before table n marks) ≡ length marks
 before_size table n marks = joined_size 0 (row_of table n) (with_mark marks n true) ∙ mark_size marks n true
 
-before_at : (table : List (Vec Bool)) (n : ℕ) (marks : List Bool) (p : ℕ) → p < length marks →
+before_at : (table : List (Vec Bool Global)) (n : ℕ) (marks : List Bool) (p : ℕ) → p < length marks →
     is_marked (with_before table n marks) p ≡ (is_marked marks p || (nat_eq n p || is_marked (row_of table n) p))
 before_at table n marks p lt =
     joined_at 0 (row_of table n) (with_mark marks n true) p p (omega arith) (omega (arith, lt, mark_size marks n true))
     ∙ (ap (λ b. b || is_marked (row_of table n) p) (mark_at marks n p lt) ∙ or_assoc (is_marked marks p) (nat_eq n p) (is_marked (row_of table n) p))
 
-all_before_at : (table : List (Vec Bool)) (needs : List Need) (marks : List Bool) (p : ℕ) → p < length marks →
+all_before_at : (table : List (Vec Bool Global)) (needs : List Need) (marks : List Bool) (p : ℕ) → p < length marks →
     is_marked (all_before table needs marks) p ≡ (is_marked marks p || are_marked table needs p)
 all_before_at table [] marks p lt = sym (or_false (is_marked marks p))
 all_before_at table (need ∷ needs) marks p lt =
@@ -109,16 +110,16 @@ all_before_at table (need ∷ needs) marks p lt =
     ∙ (ap (λ b. b || are_marked table needs p) (before_at table need.name marks p lt)
     ∙ or_assoc (is_marked marks p) (nat_eq need.name p || is_marked (row_of table need.name) p) (are_marked table needs p))
 
-size_none : (size : ℕ) → length (replicate size false) ≡ size
+pub size_none : (size : ℕ) → length (replicate size false) ≡ size
 size_none zero = refl
 size_none (suc size) = ap (λ k. suc k) (size_none size)
 
-none_marked : (size n : ℕ) → is_marked (replicate size false) n ≡ false
+pub none_marked : (size n : ℕ) → is_marked (replicate size false) n ≡ false
 none_marked zero n = refl
 none_marked (suc size) zero = refl
 none_marked (suc size) (suc n) = none_marked size n
 
-pub made_at : (table : List (Vec Bool)) (needs : List Need) (p : ℕ) → p < length table →
+pub made_at : (table : List (Vec Bool Global)) (needs : List Need) (p : ℕ) → p < length table →
     is_marked (all_before table needs (replicate (length table) false)) p ≡ are_marked table needs p
 made_at table needs p lt =
     all_before_at table needs (replicate (length table) false) p (omega (arith, lt, size_none (length table)))
@@ -153,10 +154,10 @@ module _ (actions : List ActionTree) where
       ap (any_need (λ q. nat_eq q p || is_before actions p q)) (sym is) ∙ before_stays (length actions) p n (ends actions n all (ap is_some is))
 
   -- the rows of the marked actions are exact
-  abbrev pub AreExact : List Bool → List (Vec Bool) → Type 0
+  abbrev pub AreExact : List Bool → List (Vec Bool Global) → Type 0
   AreExact bs table = (n p : ℕ) → is_marked bs n ≡ true → p < length actions → is_marked (row_of table n) p ≡ is_before actions p n
 
-  needs_exact : (bs : List Bool) (table : List (Vec Bool)) (needs : List Need) (p : ℕ) → p < length actions → AreExact bs table →
+  needs_exact : (bs : List Bool) (table : List (Vec Bool Global)) (needs : List Need) (p : ℕ) → p < length actions → AreExact bs table →
       list_all (λ need. is_marked bs need.name) needs ≡ true →
       are_marked table needs p ≡ list_any (λ need. nat_eq need.name p || is_before actions p need.name) needs
   needs_exact bs table [] p lt exact ready = refl
@@ -164,19 +165,19 @@ module _ (actions : List ActionTree) where
       let parts = and_in (is_marked bs need.name) (list_all (λ need. is_marked bs need.name) needs) ready in
       rw (exact need.name p parts.0 lt, needs_exact bs table needs p lt exact parts.1)
 
-  row_here : (table : List (Vec Bool)) (n : ℕ) (row : Vec Bool) → n < length table → row_of (set table n row) n ≡ row.items
+  row_here : (table : List (Vec Bool Global)) (n : ℕ) (row : Vec Bool Global) → n < length table → row_of (set table n row) n ≡ row.items
   row_here [] n row lt = absurd (omega (arith, lt))
   row_here (x ∷ table) zero row lt = refl
   row_here (x ∷ table) (suc n) row lt = row_here table n row (omega (arith, lt))
 
-  row_apart : (table : List (Vec Bool)) (n m : ℕ) (row : Vec Bool) → (n ≡ m → ⊥) → row_of (set table n row) m ≡ row_of table m
+  row_apart : (table : List (Vec Bool Global)) (n m : ℕ) (row : Vec Bool Global) → (n ≡ m → ⊥) → row_of (set table n row) m ≡ row_of table m
   row_apart [] n m row apart = refl
   row_apart (x ∷ table) zero zero row apart = absurd (apart refl)
   row_apart (x ∷ table) zero (suc m) row apart = refl
   row_apart (x ∷ table) (suc n) zero row apart = refl
   row_apart (x ∷ table) (suc n) (suc m) row apart = row_apart table n m row (λ e. apart (ap (λ k. suc k) e))
 
-  pub exact_kept : all_end actions ≡ true → (bs : List Bool) (table : List (Vec Bool)) (n : ℕ) (a : ActionTree) (row : Vec Bool) →
+  pub exact_kept : all_end actions ≡ true → (bs : List Bool) (table : List (Vec Bool Global)) (n : ℕ) (a : ActionTree) (row : Vec Bool Global) →
       length table ≡ length actions → n < length actions → slice_get actions n ≡ Some a → is_ready bs (slice_get actions n) ≡ true →
       row.items ≡ all_before table a.after (replicate (length table) false) → AreExact bs table → AreExact (set bs n true) (set table n row)
   exact_kept all bs table n a row size lt is ready made exact m p on within = ⊎_elim here other (two (nat_eq n m))
@@ -201,5 +202,5 @@ module _ (actions : List ActionTree) where
           ap (λ ms. is_marked ms p) (row_apart table n m row (λ e. true≢false (sym (eq-eqb n m e) ∙ off)))
           ∙ exact m p (sym (set_apart bs n m true off) ∙ on) within
 
-  pub none_exact : (bs : List Bool) (table : List (Vec Bool)) → bs ≡ replicate (length actions) false → AreExact bs table
+  pub none_exact : (bs : List Bool) (table : List (Vec Bool Global)) → bs ≡ replicate (length actions) false → AreExact bs table
   none_exact bs table none n p on = absurd (true≢false (sym on ∙ (ap (λ cs. is_marked cs n) none ∙ none_marked (length actions) n)))

@@ -1,5 +1,5 @@
 -- What a step of the walk keeps, over plain lists, and what it comes to.
-use Rattle.std.proofs.Common.{◌≡◌, ◌⊎◌, ◌+◌, ◌&&◌, Bool, ℕ, zero, suc, ◌<◌, true, false, List, [], ◌∷◌, length, map, set, replicate, Option, Some, None, is_some, slice_get, inl, inr, ⊎_elim, refl, sym, ap, ◌∙◌, subst, arith, nat_eq, eqb-true, eq-eqb, get_or, true≢false}
+use Rattle.std.proofs.Common.{◌≡◌, ◌⊎◌, ◌+◌, ◌++◌, ◌&&◌, Bool, ℕ, zero, suc, ◌<◌, true, false, List, [], ◌∷◌, length, map, set, replicate, Option, Some, None, is_some, slice_get, inl, inr, ⊎_elim, refl, sym, ap, ◌∙◌, subst, arith, nat_eq, eqb-true, eq-eqb, get_or, true≢false}
 use Rattle.wf_layers.specs.Address.{Table, address}
 use Rattle.wf_layers.specs.Definition.{Need, Names, needs_of}
 use Rattle.wf_layers.proofs.Basics.{two, and_in}
@@ -123,6 +123,11 @@ first_tied bs rows size is none = is ∙ (none_tied size ∙ ap (map has_row) (s
 pub there_at : (bs : List Bool) (rows : List (Option Row)) → bs ≡ map has_row rows → (n : ℕ) → is_marked bs n ≡ true → is_some (row_at rows n) ≡ true
 there_at bs rows tied n on = sym (marked_there rows n) ∙ subst (λ cs. is_marked cs n ≡ true) tied on
 
+pub there_snoc : (rows : List (Option Row)) (row : Option Row) → rows_there (rows ++ row ∷ []) ≡ rows_there rows ++ rows_there (row ∷ [])
+there_snoc [] row = refl
+there_snoc (None ∷ rows) row = there_snoc rows row
+there_snoc (Some r ∷ rows) row = ap (λ more. named_row r ∷ more) (there_snoc rows row)
+
 -- ---- names
 
 get_set : (rows : List (Option Row)) (n m : ℕ) (r q : Row) → slice_get (set rows n (Some r)) m ≡ Some (Some q) →
@@ -176,3 +181,12 @@ rows_are inputs actions rows every =
   where
     trim : (m j : ℕ) → m ≡ 0 + j → m ≡ j
     trim m j is = omega (arith, is)
+
+-- the row of each action is the meaning's
+pub known_is : (inputs : InputsTree) (actions : List ActionTree) (rows : List (Option Row)) → AreAll inputs actions rows → (n : ℕ) →
+    n < length actions → row_at rows n ≡ table_of inputs actions (address n [])
+known_is inputs actions rows every n lt = go (row_at rows n) refl (every.there n (omega (arith, lt, every.size)))
+  where
+    go : (found : Option record_of.Row) → row_at rows n ≡ found → is_some (row_at rows n) ≡ true → row_at rows n ≡ table_of inputs actions (address n [])
+    go None is there = absurd (true≢false (sym (sym (ap is_some is) ∙ there)))
+    go (Some r) is there = is ∙ sym (every.meanings n r is)

@@ -4,3 +4,4 @@ pub mod Ends
 pub mod Counts
 pub mod BeforeLemmas
 pub mod NamesLemmas
+pub mod StatusLemmas

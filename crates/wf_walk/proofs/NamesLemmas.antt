@@ -1,4 +1,5 @@
 -- What the inputs ask for by name, tested call by call.
+use Rattle.std.specs.declared.alloc.Global.{Global}
 use Rattle.std.proofs.Common.{◌≡◌, ℕ, zero, suc, ◌+◌, ◌<◌, ◌≤◌, Bool, true, false, ◌&&◌, List, [], ◌∷◌, ◌++◌, length, Option, Some, None, slice_get, refl, sym, ap, ◌∙◌, arith, bytes_eq, if◌then◌else◌, Vec}
 use Rattle.std.specs.List.{list_all}
 use Rattle.wf_val.specs.Function.{function_of}
@@ -141,7 +142,7 @@ all_places f g n [] same = refl
 all_places f g n (a ∷ actions) same =
     rw (same n (omega arith) (omega arith), all_places f g (suc n) actions (λ m le lt. same m (omega (arith, le)) (omega (arith, lt))))
 
-pub names_same : (actions : List ActionTree) (table : List (Vec Bool)) → IsTable actions table →
+pub names_same : (actions : List ActionTree) (table : List (Vec Bool Global)) → IsTable actions table →
     list_all (λ n. inputs_marked actions (row_of table n) (slice_get actions n)) (places 0 actions) ≡ names_before actions
 names_same actions table is =
     all_places (λ n. inputs_marked actions (row_of table n) (slice_get actions n)) (λ n. uses_before actions n (slice_get actions n)) 0 actions

@@ -2,3 +2,4 @@ pub mod Seen
 pub mod Walked
 pub mod Calls
 pub mod Before
+pub mod Failing

@@ -87,8 +87,8 @@ fn table_of(alloc: Global, actions: &[Action]) -> Result<Vec<Vec<bool>>, AllocEr
     Ok(table)
 }
 
-// The text that is the first argument.
-fn literal_name<'a>(args: &'a [Expr]) -> Option<&'a Text>
+/// The name that a call has as its first argument, a literal text.
+pub fn literal_name<'a>(args: &'a [Expr]) -> Option<&'a Text>
     ensures { option_map (λ k. k.now) result ≡ literal_name (expr_trees (map expr_tree args.now)) }
 {
     match args.first() {
@@ -108,6 +108,7 @@ fn asked_name<'a>(function: Option<Fun>, args: &'a [Expr]) -> Option<&'a Text>
 }
 
 // The actions of a graph, some of which are marked.
+#[derive(Drop)]
 struct Marked<'a> {
     actions: &'a [Action],
     marks: &'a [bool],
@@ -127,13 +128,21 @@ impl<'a> Calls for Marked<'a> {
     }
 }
 
-// Whether the inputs of an action ask only for actions that come before it.
-fn inputs_marked(actions: &[Action], table: &[Vec<bool>], place: usize, action: &Action) -> bool
-    ensures { result ≡ inputs_marked (map action_tree actions.now) (row_of table.now place) (Some (action_tree action.now)) }
+// Whether the inputs of an action ask only for actions that are marked.
+fn inputs_marked(actions: &[Action], marks: &[bool], action: &Action) -> bool
+    ensures { result ≡ inputs_marked (map action_tree actions.now) marks.now (Some (action_tree action.now)) }
 {
-    match table.get(place) {
-        Some(marks) => tree_passes(&action.inputs, &Marked { actions, marks }),
-        None => tree_passes(&action.inputs, &Marked { actions, marks: &[] }),
+    tree_passes(&action.inputs, &Marked { actions, marks })
+}
+
+// Whether the inputs of the action of this number do, by its row of the table.
+fn place_marked(actions: &[Action], table: &[Vec<bool>], place: usize) -> bool
+    ensures { let trees = map action_tree actions.now in result ≡ inputs_marked trees (row_of table.now place) (slice_get trees place) }
+{
+    match (actions.get(place), table.get(place)) {
+        (None, _) => true,
+        (Some(action), Some(marks)) => inputs_marked(actions, marks, action),
+        (Some(action), None) => inputs_marked(actions, &[], action),
     }
 }
 
@@ -141,8 +150,8 @@ fn all_marked(actions: &[Action], table: &[Vec<bool>]) -> bool
     ensures { let trees = map action_tree actions.now in
         result ≡ list_all (λ n. inputs_marked trees (row_of table.now n) (slice_get trees n)) (places 0 trees) }
 {
-    for (place, action) in actions.iter().enumerate() {
-        if !inputs_marked(actions, table, place, action) {
+    for (place, _) in actions.iter().enumerate() {
+        if !place_marked(actions, table, place) {
             return false;
         }
     }

@@ -34,7 +34,8 @@ pub fn place_of(actions: &[Action], name: &Text) -> Option<usize>
     None
 }
 
-fn status_name(status: Status) -> &'static str
+/// The word that stands for a status in a record.
+pub fn status_name(status: Status) -> &'static str
     ensures { result.now ≡ status_name (status_tree status) }
 {
     match status {

@@ -13,11 +13,14 @@ mod before;
 mod calls;
 mod cycles;
 mod flat_look;
+mod status;
 mod step;
 mod topological;
-mod walk;
+mod walking;
 
 pub use action::{Action, After, Given, Row, Status};
-pub use before::names_before;
+pub use before::{literal_name, names_before};
 pub use calls::{Calls, tree_passes};
 pub use cycles::all_end;
+pub use flat_look::status_name;
+pub use walking::{Walked, walk};

@@ -1,3 +1,4 @@
+use Rattle.std.specs.declared.alloc.Global.{Global}
 use Rattle.std.proofs.Common.{◌≡◌, ◌<◌, true, false, List, Bool, Vec, Some, length, map, replicate, slice_get, sym, ap, ◌∙◌, arith, rules, length-set}
 use Rattle.std.proofs.lemmas.List.{length-map}
 use Rattle.wf_meaning.proofs.Marks.{marked_less, marked_more, first_size, first_count, first_ended, one_more}
@@ -42,9 +43,9 @@ pub loop-place-preserved : goal.loop-place-preserved
 loop-place-preserved c =
     let xs : List Action = c.args.actions.now in
     let bs : List Bool = c.loop-place.marks.items in
-    let table : List (Vec Bool) = c.loop-place.table.items in
+    let table : List (Vec Bool Global) = c.loop-place.table.items in
     let a : Action = c.index-actions-place.result in
-    let row : Vec Bool = c.in_ok-before.before in
+    let row : Vec Bool Global = c.in_ok-before.before in
     let within : c.in-Some.place < length bs = rw c.deref.ensures.value at c.in-Some.ensures.within in
     let off = rw c.deref.ensures.value at c.in-Some.ensures.unmarked in
     let ready = rw c.deref.ensures.value at c.in-Some.ensures.ready in
