@@ -4,6 +4,7 @@ use Rattle.std.specs.Prelude.{codes}
 use Rattle.wf_val.specs.ValueTree.{null, text, object, no_members, member_then}
 use Rattle.wf_layers.specs.Definition.{Succeeded, Failed, Skipped, TimedOut, Cancelled}
 use Rattle.wf_meaning.specs.Flat.{composed, skipped}
+use Rattle.wf_meaning.specs.Look.{untriggered}
 use Rattle.wf_meaning.specs.Meaning.{meaning, rows_of}
 use Rattle.wf_meaning.specs.Rounds.{all_end, depth_of, is_waiting}
 use Rattle.wf_meaning.specs.Status.{graph_status}
@@ -126,14 +127,14 @@ row-skipped : skipped ≡ record {
 }
 row-skipped = refl
 
-rows-four : rows_of four
+rows-four : rows_of (untriggered (codes "r")) four
     ≡ record { address = record { name = codes "A"; at = [] }; row = composed null }
     ∷ (record { address = record { name = codes "B"; at = [] }; row = composed null }
     ∷ (record { address = record { name = codes "C"; at = [] }; row = skipped }
     ∷ (record { address = record { name = codes "D"; at = [] }; row = skipped } ∷ [])))
 rows-four = refl
 
-record-single : meaning (record { digest = 1 ∷ []; actions = single }) (record { run = codes "r" }) ≡ record {
+record-single : meaning (record { digest = 1 ∷ []; actions = single }) (untriggered (codes "r")) ≡ record {
   run = codes "r";
   digest = 1 ∷ [];
   trigger = object (member_then (codes "name") null (member_then (codes "outputs") null no_members));

@@ -1,16 +1,18 @@
 -- Worked values of the definitions of this crate.
 use Rattle.std.specs.Prelude.{ℕ, zero, suc, Bool, List, [], ◌∷◌, map, Option, Some, slice_get, codes}
 use Rattle.std.specs.Option.{option_map}
+use Rattle.wf_template.specs.DataTree as inputs
 use Rattle.wf_val.specs.ValueTree.{null}
 use Rattle.wf_layers.specs.Definition.{Status, Succeeded, Failed, Skipped, TimedOut, Cancelled, Need}
 use Rattle.wf_layers.specs.Address.{Table}
 use Rattle.wf_layers.specs.Source.{all_met}
 use Rattle.wf_meaning.specs.Definition.{ActionTree}
 use Rattle.wf_meaning.specs.Flat.{source}
+use Rattle.wf_meaning.specs.Look.{untriggered}
 use Rattle.wf_meaning.specs.Record.{Row}
 
 abbrev pub action : List ℕ → List Need → ActionTree
-action name after = record { name = name; after = after; inputs = null }
+action name after = record { name = name; after = after; inputs = inputs.null }
 
 abbrev pub need : ℕ → List Status → Need
 need n listed = record { name = n; listed = listed }
@@ -80,4 +82,4 @@ statuses listed x = option_map ended (slice_get listed x.name)
 -- whether an entry that lists these is met, where the action that it names Succeeded, Failed, was Skipped, TimedOut or was Cancelled
 abbrev pub met_at : List Status → List Bool
 met_at listed =
-    map (λ status. all_met (source single) (need 0 listed ∷ []) [] (statuses (status ∷ []))) (Succeeded ∷ (Failed ∷ (Skipped ∷ (TimedOut ∷ (Cancelled ∷ [])))))
+    map (λ status. all_met (source (untriggered []) single) (need 0 listed ∷ []) [] (statuses (status ∷ []))) (Succeeded ∷ (Failed ∷ (Skipped ∷ (TimedOut ∷ (Cancelled ∷ [])))))
