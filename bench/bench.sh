@@ -19,7 +19,7 @@ export top folder program
 (cd "$top/crates/function_rows" && rt run <stdin) >"$folder/log" 2>&1 || { cat "$folder/log" >&2 && exit 1; }
 (cd "$top/crates/evaluation_rows" && rt run <stdin) >"$folder/log" 2>&1 || { cat "$folder/log" >&2 && exit 1; }
 python3 - <<'PROGRAM'
-import json, os, random, subprocess, time, urllib.parse
+import calendar, datetime, json, os, random, subprocess, time, urllib.parse
 
 top, folder, program = os.environ["top"], os.environ["folder"], os.environ["program"]
 
@@ -173,6 +173,41 @@ for (name, function, arguments, query, wanted), small in zip(of_items(10**5), of
     ours, theirs = time_of(function, arguments, wanted), least(["jq", "-c", query, file("arguments.json", arguments)])
     growth = ours / time_of(function, small[2], small[4])
     print("%-37s %6d %9.4f %9.4f %7.1f %7.1f" % (name, 10**5, ours, theirs, ours / theirs, growth))
+
+# The functions on time are timed on 100,000 rows, beside Python's datetime with the same JSON read and written.
+def written(args):
+    moment = datetime.datetime.strptime(args[0], "%Y-%m-%dT%H:%M:%SZ")
+    return moment.strftime("%a, %d %b %Y %H:%M:%S")
+
+
+def months_later(args):
+    moment = datetime.datetime.strptime(args[0], "%Y-%m-%dT%H:%M:%SZ")
+    month = moment.year * 12 + moment.month - 1 + args[1]
+    year, month = month // 12, month % 12 + 1
+    day = min(moment.day, calendar.monthrange(year, month)[1])
+    return moment.replace(year=year, month=month, day=day).strftime("%Y-%m-%dT%H:%M:%S") + ".0000000Z"
+
+
+moments = ["%04d-%02d-%02dT%02d:%02d:%02dZ" % (2000 + k % 7000, k % 12 + 1, k % 28 + 1, k % 24, k % 60, k * 7 % 60) for k in range(10**5)]
+timed = [
+    ("formatDateTime", [[text, "ddd, dd MMM yyyy HH:mm:ss"] for text in moments], written),
+    ("addToTime by months", [[text, k % 1000 - 500, "Month"] for k, text in enumerate(moments)], months_later),
+]
+print()
+print("%-37s %6s %9s %9s %7s" % ("function", "rows", "wflow s", "python s", "ratio"))
+for name, rows, own in timed:
+    lines = [json.dumps(args) for args in rows]
+    path = os.path.join(folder, "rows")
+    with open(path, "w") as out:
+        out.writelines(name.split()[0] + "\t" + line + "\n" for line in lines)
+    with open(path) as given:
+        gives = subprocess.run([program], stdin=given, capture_output=True, check=True, text=True).stdout.splitlines()
+    began = time.perf_counter()
+    values = [json.dumps(own(json.loads(line))) for line in lines]
+    theirs = time.perf_counter() - began
+    assert values == gives, name
+    ours = least([program], path)
+    print("%-37s %6d %9.4f %9.4f %7.2f" % (name, len(rows), ours, theirs, ours / theirs))
 
 program = os.path.join(top, "crates", "evaluation_rows", "out", "evaluation_rows")
 spaced = "@{" + " " * 38 + "1}"

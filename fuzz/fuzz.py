@@ -19,6 +19,8 @@ import subprocess
 import sys
 import tempfile
 
+import templates
+
 
 def value(rng, depth=0):
     kind = rng.randrange(8 if depth < 4 else 5)
@@ -36,11 +38,46 @@ def value(rng, depth=0):
     return {str(value(rng, 4)): value(rng, depth + 1) for _ in range(rng.randrange(4))}
 
 
+STATUSES = ["Succeeded", "Failed", "skipped", "TimedOut"]
+
+
+# An expression over the rows of some actions.
+def expression(rng, names, depth=0):
+    kind = rng.randrange(10 if depth < 3 else 4)
+    if kind < 2 or kind < 4 and not names:
+        return rng.choice(["1", "-2", "9223372036854775807", "'a'", "''", "'it''s'", "true", "FALSE", "null"])
+    if kind < 4:
+        name = rng.choice(names).replace("'", "''")
+        return rng.choice(["outputs('%s')", "body('%s')", "Actions('%s')", "actions('%s').status", "outputs('%s')?.a", "outputs('%s')[0]",
+                           "outputs( '%s' )?[0]", "body('%s')?['x y']", "actions('%s')['error']"]) % name
+    name, count = rng.choice([("add", 2), ("SUB", 2), ("mul", 2), ("if", 3), ("and", 2), ("Or", 2), ("coalesce", 2), ("equals", 2),
+                              ("concat", 2), ("string", 1), ("not", 1)])
+    count += rng.random() < 0.02
+    return "%s(%s)" % (name, ",".join(expression(rng, names, depth + 1) for _ in range(count)))
+
+
+# A value some of whose texts are templates.
+def templated(rng, names):
+    kind = rng.randrange(6)
+    if kind == 0:
+        return value(rng)
+    if kind == 1:
+        return {"a": templated(rng, names), "x y": templated(rng, names)}
+    if kind == 2:
+        return [templated(rng, names), value(rng, 4)]
+    if kind == 3:
+        return "%s@{%s}%s" % (rng.choice(["", "a", "@@", "é"]), expression(rng, names), rng.choice(["", "b", "@@{", "@"]))
+    return "@" + expression(rng, names)
+
+
 def action(rng, names):
-    made = {"type": rng.choice(["Compose", "compose", "COMPOSE"] if rng.random() < 0.95 else ["Http", "", 1]), "inputs": value(rng)}
-    if names and rng.random() < 0.7:
-        after = rng.sample(names, rng.randrange(min(4, len(names)) + 1))
-        made["runAfter"] = {name: ["Succeeded" if rng.random() < 0.99 else "Failed"] for name in after}
+    made = {"type": rng.choice(["Compose", "compose", "COMPOSE"] if rng.random() < 0.95 else ["Http", "", 1])}
+    after = rng.sample(names, rng.randrange(min(4, len(names)) + 1)) if names and rng.random() < 0.8 else []
+    if after:
+        listed = [["Succeeded"], ["Failed"], STATUSES, ["Succeeded", "SKIPPED"], []]
+        made["runAfter"] = {name: rng.choice(listed if rng.random() < 0.3 else listed[:1]) for name in after}
+    asked = after if rng.random() < 0.97 else names
+    made["inputs"] = templated(rng, asked) if rng.random() < 0.8 else value(rng)
     if rng.random() < 0.05:
         made[rng.choice(["runAfter", "trackedProperties", "x"])] = value(rng)
     return made
@@ -270,22 +307,8 @@ def is_name(name, most):
     return isinstance(name, str) and 1 <= len(name) <= most and not re.search("[\x00-\x1f\x7f]", name)
 
 
-def depth(value):
-    parts = value.values() if isinstance(value, dict) else value if isinstance(value, list) else None
-    return 0 if parts is None else 1 + max(map(depth, parts), default=0)
-
-
-def weight(value):
-    if isinstance(value, dict):
-        return 1 + sum(1 + len(name.encode()) + weight(part) for name, part in value.items())
-    if isinstance(value, list):
-        return 1 + sum(map(weight, value))
-    return 1 + len(value.encode()) if isinstance(value, str) else 1
-
-
-def is_literal(value):
-    parts = value.values() if isinstance(value, dict) else value if isinstance(value, list) else ()
-    return "@" not in value if isinstance(value, str) else all(map(is_literal, parts))
+def is_listed(status):
+    return any(is_word(status, word) for word in ("succeeded", "failed", "skipped", "timedout"))
 
 
 def judge_action(name, action, names):
@@ -294,9 +317,25 @@ def judge_action(name, action, names):
     after = action.get("runAfter", {})
     needs(isinstance(after, dict))
     for other, listed in after.items():
-        needs(other in names and isinstance(listed, list) and len(listed) == 1 and is_word(listed[0], "succeeded"))
-    needs("inputs" in action and is_literal(action["inputs"]))
-    needs(depth(action["inputs"]) <= 64 and weight(action["inputs"]) <= 2**20)
+        needs(other in names and isinstance(listed, list) and all(map(is_listed, listed)))
+    needs("inputs" in action)
+    try:
+        return templates.names_asked(action["inputs"])
+    except templates.Refused:
+        needs(False)
+
+
+# The actions in an order in which each stands after those that it waits for.
+def ordered(actions):
+    waiting = {name: set(action.get("runAfter", {})) for name, action in actions.items()}
+    order = []
+    while waiting:
+        ended = sorted(name for name, others in waiting.items() if not others & waiting.keys())
+        needs(ended)
+        order += ended
+        for name in ended:
+            del waiting[name]
+    return order
 
 
 def judge_definition(value):
@@ -305,14 +344,12 @@ def judge_definition(value):
         needs(value.get(name, {}) == {})
     actions = value.get("actions", {})
     needs(isinstance(actions, dict) and len(actions) <= 500)
-    for name, action in actions.items():
-        judge_action(name, action, actions)
-    waiting = {name: set(action.get("runAfter", {})) for name, action in actions.items()}
-    while waiting:
-        ended = [name for name, others in waiting.items() if not others & waiting.keys()]
-        needs(ended)
-        for name in ended:
-            del waiting[name]
+    asked = {name: judge_action(name, action, actions) for name, action in actions.items()}
+    before = {}
+    for name in ordered(actions):
+        needed = actions[name].get("runAfter", {})
+        before[name] = set(needed).union(*(before[other] for other in needed))
+        needs(asked[name] <= before[name])
     return value
 
 
@@ -322,19 +359,51 @@ def judge_inputs(value):
     return value
 
 
+def row_of(name, status, code, inputs, error):
+    return {"at": [], "attempts": 0, "code": code, "error": error, "inputs": inputs, "name": name, "outputs": inputs, "status": status,
+            "tracked": {}}
+
+
+# The rows of the actions, by their names.
+def rows_of(actions, run):
+    rows = {}
+
+    def view(name):
+        return {member: rows[name][member] for member in ("code", "error", "inputs", "name", "outputs", "status")}
+
+    for name in ordered(actions):
+        needed = actions[name].get("runAfter", {})
+        if not all(any(is_word(one, rows[other]["status"].lower()) for one in listed) for other, listed in needed.items()):
+            rows[name] = row_of(name, "Skipped", "ActionSkipped", None, None)
+            continue
+        try:
+            rows[name] = row_of(name, "Succeeded", "OK", templates.Evaluator(view, run, compact).tree(actions[name]["inputs"]), None)
+        except templates.Fault as fault:
+            rows[name] = row_of(name, "Failed", "InvalidTemplate", None, str(fault))
+    return rows
+
+
+# How the graph ended: by the judged actions, which are those that none waits for, and those that a judged Skipped one waits for.
+def status_of(actions, rows):
+    judged = set(actions).difference(*(action.get("runAfter", {}) for action in actions.values()))
+    while True:
+        more = judged.union(*(actions[name].get("runAfter", {}) for name in judged if rows[name]["status"] == "Skipped"))
+        if more == judged:
+            return "Failed" if any(rows[name]["status"] == "Failed" for name in judged) else "Succeeded"
+        judged = more
+
+
 # The text that a run of this definition and these inputs writes.
 def record(definition, inputs):
-    rows = [
-        {"at": [], "attempts": 0, "code": "OK", "error": None, "inputs": action["inputs"], "name": name,
-         "outputs": action["inputs"], "status": "Succeeded", "tracked": {}}
-        for name, action in sorted(definition.get("actions", {}).items())
-    ]
+    actions = definition.get("actions", {})
+    rows = rows_of(actions, inputs["run"])
     made = {
         "definition": hashlib.sha256(compact(definition).encode()).hexdigest(), "error": None, "form": 1, "outputs": {},
-        "parameters": {}, "response": None, "rows": rows, "run": inputs["run"], "status": "Succeeded",
-        "trigger": {"name": None, "outputs": None},
+        "parameters": {}, "response": None, "rows": [rows[name] for name in sorted(rows, key=str.encode)], "run": inputs["run"],
+        "status": status_of(actions, rows), "trigger": {"name": None, "outputs": None},
     }
-    return compact(made) + "\n# run %s steps %d peak %d\n" % (inputs["run"], 2 * len(rows), 1 if rows else 0)
+    ran = sum(row["status"] != "Skipped" for row in rows.values())
+    return compact(made) + "\n# run %s steps %d peak %d\n" % (inputs["run"], len(rows) + ran, 1 if ran else 0)
 
 
 # The status and the text that `run` owes on these files.

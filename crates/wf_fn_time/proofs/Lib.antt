@@ -4,6 +4,7 @@ pub mod PatternLemmas
 pub mod LawLemmas
 pub mod RoundTripLemmas
 pub mod RowValues
+pub mod NamesRows
 pub mod ReadingRows
 pub mod PatternRows
 pub mod FormattingRows

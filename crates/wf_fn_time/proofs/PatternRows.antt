@@ -51,6 +51,17 @@ evening = record {
   fraction = 1000000;
 }
 
+-- 0007-01-01T00:00:00Z
+abbrev first_years : Clock
+first_years = record {
+  day = record { year = 7; month = 1; day = 1 };
+  weekday = 1;
+  hour = 0;
+  minute = 0;
+  second = 0;
+  fraction = 0;
+}
+
 -- what a pattern prints; none where it is refused
 abbrev by : List ℕ → Clock → Option (List ℕ)
 by pattern c = option_map (printed c) (parts_of pattern)
@@ -58,6 +69,10 @@ by pattern c = option_map (printed c) (parts_of pattern)
 pattern-yyyy : by (codes "'a'yyyy") midnight ≡ Some (codes "a0907")
 unfolding chars encode
 pattern-yyyy = refl
+
+pattern-yy_of_the_first_years : by (codes "yy yyyy") first_years ≡ Some (codes "07 0007")
+unfolding chars encode
+pattern-yy_of_the_first_years = refl
 
 pattern-yy : by (codes "yy") midnight ≡ Some (codes "07")
 unfolding chars encode

@@ -74,6 +74,7 @@ impl Pattern {
         }
     }
 
+    /// Its parts in order.
     pub fn parts(&self) -> &[Part]
         ensures { result.now ≡ self.now }
     {

@@ -32,6 +32,7 @@ impl Ticks {
         }
     }
 
+    /// How many ticks it is after 0001-01-01T00:00:00 in UTC.
     pub fn get(self) -> u64
         ensures value { result ≡ self }
         ensures in_range { result ≤ 3155378975999999999 }

@@ -3,6 +3,8 @@ pub mod Waiting
 pub mod Marks
 pub mod Exact
 pub mod Instance
-pub mod Rows
+pub mod Before
+pub mod Local
+pub mod Walk
 pub mod Judged
 mod Worked

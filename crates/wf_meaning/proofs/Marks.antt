@@ -36,7 +36,7 @@ marked_more (false ∷ bs) zero lt off = refl
 marked_more (true ∷ bs) (suc n) lt off = ap (λ k. suc k) (marked_more bs n (omega (arith, lt)) off)
 marked_more (false ∷ bs) (suc n) lt off = marked_more bs n (omega (arith, lt)) off
 
-marked_before : (bs : List Bool) (n m : ℕ) → is_marked (set bs n true) m ≡ true → (m ≡ n) ⊎ (is_marked bs m ≡ true)
+pub marked_before : (bs : List Bool) (n m : ℕ) → is_marked (set bs n true) m ≡ true → (m ≡ n) ⊎ (is_marked bs m ≡ true)
 marked_before [] n m on = inr on
 marked_before (b ∷ bs) zero zero on = inl refl
 marked_before (b ∷ bs) zero (suc m) on = inr on

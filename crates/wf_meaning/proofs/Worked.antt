@@ -1,13 +1,21 @@
 -- Worked values of the definitions: what is met, when actions end, how a graph ends, and what is recorded.
-use Rattle.std.proofs.Common.{◌≡◌, [], ◌∷◌, true, false, map, refl}
+use Rattle.std.proofs.Common.{◌≡◌, ℕ, List, [], ◌∷◌, true, false, map, refl}
 use Rattle.std.specs.Prelude.{codes}
-use Rattle.wf_val.specs.ValueTree.{null, text, object, no_members, member_then}
+use Rattle.wf_val.specs.ValueTree.{null, boolean, text, object, members, no_members, member_then}
+use Rattle.wf_val.specs.declared.fault.EvalFault.{EvalFault}
+use Rattle.wf_val.specs.declared.function.Fun.{Fun}
+use Rattle.wf_json.specs.FaultText.{fault_text}
 use Rattle.wf_layers.specs.Definition.{Succeeded, Failed, Skipped, TimedOut, Cancelled}
-use Rattle.wf_meaning.specs.Flat.{composed, skipped}
-use Rattle.wf_meaning.specs.Meaning.{meaning, rows_of}
+use Rattle.wf_layers.specs.Address.{address}
+use Rattle.wf_meaning.specs.Definition.{ActionTree}
+use Rattle.wf_meaning.specs.Flat.{composed, faulted, skipped}
+use Rattle.wf_meaning.specs.Look.{untriggered, view_of}
+use Rattle.wf_meaning.specs.Meaning.{meaning, rows_of, table_of}
+use Rattle.wf_meaning.specs.Names.{is_before, names_before}
+use Rattle.wf_meaning.specs.Record.{Row}
 use Rattle.wf_meaning.specs.Rounds.{all_end, depth_of, is_waiting}
 use Rattle.wf_meaning.specs.Status.{graph_status}
-use Rattle.wf_meaning.specs.Worked.{apart, chain, four, joined, loop, met_at, single, statuses}
+use Rattle.wf_meaning.specs.Worked.{action, apart, asking, chain, failing, four, joined, loop, met_at, need, relay, renamed, single, statuses}
 
 -- ---- `runAfter` with each status, against an action that Succeeded, Failed, was Skipped, TimedOut or was Cancelled
 
@@ -126,14 +134,14 @@ row-skipped : skipped ≡ record {
 }
 row-skipped = refl
 
-rows-four : rows_of four
+rows-four : rows_of (untriggered (codes "r")) four
     ≡ record { address = record { name = codes "A"; at = [] }; row = composed null }
     ∷ (record { address = record { name = codes "B"; at = [] }; row = composed null }
     ∷ (record { address = record { name = codes "C"; at = [] }; row = skipped }
     ∷ (record { address = record { name = codes "D"; at = [] }; row = skipped } ∷ [])))
 rows-four = refl
 
-record-single : meaning (record { digest = 1 ∷ []; actions = single }) (record { run = codes "r" }) ≡ record {
+record-single : meaning (record { digest = 1 ∷ []; actions = single }) (untriggered (codes "r")) ≡ record {
   run = codes "r";
   digest = 1 ∷ [];
   trigger = object (member_then (codes "name") null (member_then (codes "outputs") null no_members));
@@ -146,3 +154,63 @@ record-single : meaning (record { digest = 1 ∷ []; actions = single }) (record
 }
 unfolding meaning
 record-single = refl
+
+-- ---- what inputs come to
+
+row-faulted : faulted (EvalFault.WrongType Fun.Not 1) ≡ record {
+  status = Failed;
+  code = codes "InvalidTemplate";
+  inputs = null;
+  outputs = null;
+  error = text (fault_text (EvalFault.WrongType Fun.Not 1));
+  tracked = object no_members;
+  attempts = 0;
+}
+row-faulted = refl
+
+-- B hands on what A gave out, and C what B did
+relay-rows : map (λ row. row.row.outputs) (rows_of (untriggered (codes "r")) relay) ≡ boolean true ∷ (boolean true ∷ (boolean true ∷ []))
+relay-rows = refl
+
+-- the first action fails, the second catches it, and the third waits for its success
+failing-rows : map (λ row. row.row.status) (rows_of (untriggered (codes "r")) failing) ≡ Failed ∷ (Succeeded ∷ (Skipped ∷ []))
+failing-rows = refl
+
+failing-status : graph_status failing (table_of (untriggered (codes "r")) failing) ≡ Failed
+failing-status = refl
+
+-- what `actions` gives
+view-skipped : view_of (codes "A") skipped ≡ object (members (
+    (codes "code", text (codes "ActionSkipped"))
+    ∷ ((codes "error", null)
+    ∷ ((codes "inputs", null)
+    ∷ ((codes "name", text (codes "A")) ∷ ((codes "outputs", null) ∷ ((codes "status", text (codes "Skipped")) ∷ [])))))))
+view-skipped = refl
+
+-- ---- which names are before
+
+before-chain : map (λ p. is_before chain p 2) (0 ∷ (1 ∷ (2 ∷ []))) ≡ true ∷ (true ∷ (false ∷ []))
+before-chain = refl
+
+before-apart : is_before apart 0 1 ≡ false
+before-apart = refl
+
+names-relay : names_before relay ≡ true
+names-relay = refl
+
+-- itself, one that doesn't come before, one that isn't there, and one in another letter case
+names-itself : names_before (asking (codes "A") [] ∷ []) ≡ false
+names-itself = refl
+
+names-apart : names_before (action (codes "A") [] ∷ (renamed (codes "B") (asking (codes "A") []) ∷ [])) ≡ false
+names-apart = refl
+
+names-absent : names_before (action (codes "A") [] ∷ (renamed (codes "B") (asking (codes "C") (need 0 (Succeeded ∷ []) ∷ [])) ∷ [])) ≡ false
+names-absent = refl
+
+names-case : names_before (action (codes "A") [] ∷ (renamed (codes "B") (asking (codes "a") (need 0 (Succeeded ∷ []) ∷ [])) ∷ [])) ≡ false
+names-case = refl
+
+-- a name may be asked for whatever status is listed
+names-failed : names_before (action (codes "A") [] ∷ (renamed (codes "B") (asking (codes "A") (need 0 (Failed ∷ []) ∷ [])) ∷ [])) ≡ true
+names-failed = refl

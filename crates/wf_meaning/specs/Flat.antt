@@ -1,9 +1,15 @@
 -- A definition without containers, as the laws of order see it: its graph of leaves, and the source of their rows.
-use Rattle.std.specs.Prelude.{ℕ, suc, Bool, true, false, List, [], ◌∷◌, Option, None, Some, slice_get, codes}
-use Rattle.wf_val.specs.ValueTree.{ValueTree, null, object, no_members}
-use Rattle.wf_layers.specs.Definition.{Succeeded, Skipped, Leaf, Graph, done, add}
+use Rattle.std.specs.Prelude.{ℕ, suc, Bool, true, false, List, [], ◌∷◌, Option, None, Some, Ok, Err, slice_get, codes}
+use Rattle.wf_val.specs.Arguments.{Answer}
+use Rattle.wf_val.specs.ValueTree.{ValueTree, null, text, object, no_members}
+use Rattle.wf_val.specs.declared.fault.EvalFault.{EvalFault}
+use Rattle.wf_layers.specs.Definition.{Succeeded, Failed, Skipped, Leaf, Graph, done, add}
+use Rattle.wf_layers.specs.Address.{Table}
 use Rattle.wf_layers.specs.Source.{Source}
-use Rattle.wf_meaning.specs.Definition.{ActionTree}
+use Rattle.wf_json.specs.FaultText.{fault_text}
+use Rattle.wf_eval.specs.TreeValue.{tree_value}
+use Rattle.wf_meaning.specs.Definition.{ActionTree, InputsTree}
+use Rattle.wf_meaning.specs.Look.{told_at}
 use Rattle.wf_meaning.specs.Record.{Row}
 
 -- the graph of actions numbered from n on
@@ -29,6 +35,18 @@ composed inputs = record {
   attempts = 0;
 }
 
+-- the row of an action whose inputs have no value
+abbrev pub faulted : EvalFault → Row
+faulted f = record {
+  status = Failed;
+  code = codes "InvalidTemplate";
+  inputs = null;
+  outputs = null;
+  error = text (fault_text f);
+  tracked = empty_object;
+  attempts = 0;
+}
+
 -- the row of an action that doesn't run
 abbrev pub skipped : Row
 skipped = record {
@@ -41,22 +59,23 @@ skipped = record {
   attempts = 0;
 }
 
-abbrev pub inputs_in : Option ActionTree → ValueTree
-inputs_in None = null
-inputs_in (Some action) = action.inputs
+abbrev pub ended : Answer → Row
+ended (Ok v) = composed v
+ended (Err f) = faulted f
 
--- what the action of this number takes in
-abbrev pub inputs_of : List ActionTree → ℕ → ValueTree
-inputs_of actions n = inputs_in (slice_get actions n)
+-- what the inputs of an action come to, from the rows that are known
+abbrev pub begun : InputsTree → List ActionTree → Table Row → Option ActionTree → Answer
+begun inputs actions known None = Ok null
+begun inputs actions known (Some action) = (tree_value (told_at inputs actions action.name known) action.inputs 0).0
 
 -- The source of the rows: each action is a Compose. It decides nothing, tests nothing, and keeps nothing of an older run.
-abbrev pub source : List ActionTree → Source Row ValueTree (Unit {0}) Bool
-source actions = record {
+abbrev pub source : InputsTree → List ActionTree → Source Row Answer (Unit {0}) Bool
+source inputs actions = record {
   status = λ row. row.status;
   skipped = skipped;
-  start = λ x known. inputs_of actions x.name;
-  tries = λ x inputs. 0;
-  finish = λ x inputs known. composed inputs;
+  start = λ x known. begun inputs actions known (slice_get actions x.name);
+  tries = λ x answer. 0;
+  finish = λ x answer known. ended answer;
   decide = λ x known. tt;
   taken = λ decision. 0;
   items = λ decision. 0;

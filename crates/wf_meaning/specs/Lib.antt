@@ -2,7 +2,9 @@ pub mod Definition
 pub mod Record
 pub mod Rounds
 pub mod Marks
+pub mod Look
 pub mod Flat
+pub mod Names
 pub mod Status
 pub mod Judged
 pub mod Meaning

@@ -1,16 +1,20 @@
 -- Worked values of the definitions of this crate.
-use Rattle.std.specs.Prelude.{ℕ, zero, suc, Bool, List, [], ◌∷◌, map, Option, Some, slice_get, codes}
+use Rattle.std.specs.Prelude.{ℕ, zero, suc, Bool, false, List, [], ◌∷◌, map, Option, Some, slice_get, codes}
 use Rattle.std.specs.Option.{option_map}
-use Rattle.wf_val.specs.ValueTree.{null}
+use Rattle.wf_template.specs.DataTree as inputs
+use Rattle.wf_template.specs.ExprTree.{ExprTree, literal, call, no_exprs, expr_then}
+use Rattle.wf_template.specs.TemplateTree.{whole}
+use Rattle.wf_val.specs.ValueTree.{ValueTree, null, boolean, text}
 use Rattle.wf_layers.specs.Definition.{Status, Succeeded, Failed, Skipped, TimedOut, Cancelled, Need}
 use Rattle.wf_layers.specs.Address.{Table}
 use Rattle.wf_layers.specs.Source.{all_met}
 use Rattle.wf_meaning.specs.Definition.{ActionTree}
 use Rattle.wf_meaning.specs.Flat.{source}
+use Rattle.wf_meaning.specs.Look.{untriggered}
 use Rattle.wf_meaning.specs.Record.{Row}
 
 abbrev pub action : List ℕ → List Need → ActionTree
-action name after = record { name = name; after = after; inputs = null }
+action name after = record { name = name; after = after; inputs = inputs.null }
 
 abbrev pub need : ℕ → List Status → Need
 need n listed = record { name = n; listed = listed }
@@ -80,4 +84,35 @@ statuses listed x = option_map ended (slice_get listed x.name)
 -- whether an entry that lists these is met, where the action that it names Succeeded, Failed, was Skipped, TimedOut or was Cancelled
 abbrev pub met_at : List Status → List Bool
 met_at listed =
-    map (λ status. all_met (source single) (need 0 listed ∷ []) [] (statuses (status ∷ []))) (Succeeded ∷ (Failed ∷ (Skipped ∷ (TimedOut ∷ (Cancelled ∷ [])))))
+    map (λ status. all_met (source (untriggered []) single) (need 0 listed ∷ []) [] (statuses (status ∷ []))) (Succeeded ∷ (Failed ∷ (Skipped ∷ (TimedOut ∷ (Cancelled ∷ [])))))
+
+-- an expression as the inputs of an action
+abbrev pub whole_of : ExprTree → inputs.DataTree
+whole_of e = inputs.text (whole e)
+
+-- a call with one argument
+abbrev pub call_of : List ℕ → ValueTree → ExprTree
+call_of name v = call name (expr_then (literal v) no_exprs)
+
+-- an action that asks for the outputs of one, whose own name is `A` where it isn't given another
+abbrev pub asking : List ℕ → List Need → ActionTree
+asking k after = record { name = codes "A"; after = after; inputs = whole_of (call_of (codes "outputs") (text k)) }
+
+abbrev pub renamed : List ℕ → ActionTree → ActionTree
+renamed name a = record a { name = name }
+
+abbrev pub with_inputs : ActionTree → inputs.DataTree → ActionTree
+with_inputs a t = record a { inputs = t }
+
+-- A has a value, B asks for the outputs of A, and C for those of B.
+abbrev pub relay : List ActionTree
+relay =
+    with_inputs (action (codes "A") []) (whole_of (call_of (codes "Not") (boolean false)))
+    ∷ (renamed (codes "B") (asking (codes "A") (need 0 (Succeeded ∷ []) ∷ []))
+    ∷ (renamed (codes "C") (asking (codes "B") (need 1 (Succeeded ∷ []) ∷ [])) ∷ []))
+
+-- A has no value, B waits for its failure, and C for its success.
+abbrev pub failing : List ActionTree
+failing =
+    with_inputs (action (codes "A") []) (whole_of (call_of (codes "not") null))
+    ∷ (action (codes "B") (need 0 (Failed ∷ []) ∷ []) ∷ (action (codes "C") (need 0 (Succeeded ∷ []) ∷ []) ∷ []))

@@ -10,7 +10,7 @@
 //! So far each action is a Compose that stands in no other. Further kinds of actions are further rows of the source and
 //! further kinds of the graph; what is said of a record stays.
 //!
-//! It has no code: each public function has an empty body, and its contract is a law. It judges no form of a definition,
+//! It has no code: each public function does nothing, and its contract is a law. It judges no form of a definition,
 //! reads no JSON and prints nothing.
 #![tactic(auto)]
 
@@ -18,21 +18,41 @@ ghost use Rattle.std.specs.Prelude.{◌≡◌, ◌⊎◌, ◌∷◌, ℕ, [], fa
 ghost use Rattle.wf_layers.specs.Definition.{Closed, Failed, IsBefore, IsDepth, Skipped, Succeeded};
 ghost use Rattle.wf_layers.specs.Address.{Table};
 ghost use Rattle.wf_layers.specs.Laws.{IsInstance};
-ghost use Rattle.wf_meaning.specs.Definition.{ActionTree};
+ghost use Rattle.wf_meaning.specs.Definition.{ActionTree, InputsTree};
 ghost use Rattle.wf_meaning.specs.Flat.{graph_of, source};
 ghost use Rattle.wf_meaning.specs.Judged.{AnyFailed};
-ghost use Rattle.wf_meaning.specs.Laws.{all_wait_for_success, composed_at};
+ghost use Rattle.wf_meaning.specs.Laws.{RowsFromBefore, StepsOfWalk};
+ghost use Rattle.wf_meaning.specs.Look.{untriggered};
 ghost use Rattle.wf_meaning.specs.Meaning.{rows_of, table_of};
+ghost use Rattle.wf_meaning.specs.Names.{names_before};
 ghost use Rattle.wf_meaning.specs.Record.{Row};
 ghost use Rattle.wf_meaning.specs.Rounds.{all_end, depth_of};
 ghost use Rattle.wf_meaning.specs.Status.{graph_status};
 ghost use Rattle.wf_meaning.specs.Worked.{astray, caught, cycle, four, missed, rows_with};
 
-/// A definition all of whose actions end meets the premises of the laws of order, so its meaning doesn't depend on the
-/// order in which its actions end.
+use wf_eval::values_are_local;
+
+/// A definition all of whose actions end, and whose inputs name only actions before them, meets the premises of the laws
+/// of order, so its meaning doesn't depend on the order in which its actions end.
 pub fn a_graph_that_ends_is_an_instance()
-    ensures { (actions : List ActionTree) → all_end actions ≡ true → IsInstance (graph_of actions) (source actions) (depth_of actions) }
-{}
+    ensures { (inputs : InputsTree) (actions : List ActionTree) → all_end actions ≡ true → names_before actions ≡ true → IsInstance (graph_of actions) (source inputs actions) (depth_of actions) }
+{
+    values_are_local();
+}
+
+/// And each row of its meaning is what the action comes to in any rows that are the meaning's of all actions before it.
+pub fn rows_come_from_before()
+    ensures { (inputs : InputsTree) (actions : List ActionTree) → all_end actions ≡ true → names_before actions ≡ true → RowsFromBefore inputs actions }
+{
+    values_are_local();
+}
+
+/// So a walk makes the meaning's rows that takes each action once all that it waits for have theirs.
+pub fn a_walk_makes_the_meanings_rows()
+    ensures { (inputs : InputsTree) (actions : List ActionTree) → all_end actions ≡ true → names_before actions ≡ true → StepsOfWalk inputs actions }
+{
+    values_are_local();
+}
 
 /// Where all actions end, no action waits for itself, at however many removes.
 pub fn no_action_waits_for_itself()
@@ -43,16 +63,6 @@ pub fn no_action_waits_for_itself()
 /// all that it waits for.
 pub fn all_end_where_there_are_depths()
     ensures { (actions : List ActionTree) (depth : ℕ → ℕ) → Closed (graph_of actions) (graph_of actions) → IsDepth (graph_of actions) depth → all_end actions ≡ true }
-{}
-
-/// Where each action waits for others to Succeed, all run: each has its Compose row.
-pub fn all_are_composed()
-    ensures { (actions : List ActionTree) → all_end actions ≡ true → all_wait_for_success actions ≡ true → rows_of actions ≡ map composed_at actions }
-{}
-
-/// And the graph Succeeded.
-pub fn the_graph_succeeds()
-    ensures { (actions : List ActionTree) → all_end actions ≡ true → all_wait_for_success actions ≡ true → graph_status actions (table_of actions) ≡ Succeeded }
 {}
 
 /// The judged actions are the least set that has each action which no `runAfter` names, and with a Skipped one those that its own
@@ -66,9 +76,9 @@ pub fn the_status_is_that_of_the_judged()
 
 /// Worked values: what runs and what is Skipped, what never ends, and when a graph Failed.
 pub fn worked_values()
-    ensures rows { map (λ row. row.row.status) (rows_of four) ≡ Succeeded ∷ (Succeeded ∷ (Skipped ∷ (Skipped ∷ []))) }
+    ensures rows { map (λ row. row.row.status) (rows_of (untriggered []) four) ≡ Succeeded ∷ (Succeeded ∷ (Skipped ∷ (Skipped ∷ []))) }
     // B Succeeded, to which Skipped ones that no other names hand on.
-    ensures skipped { graph_status four (table_of four) ≡ Succeeded }
+    ensures skipped { graph_status four (table_of (untriggered []) four) ≡ Succeeded }
     ensures ending { all_end four ≡ true }
     ensures cycle { all_end cycle ≡ false }
     ensures astray { all_end astray ≡ false }

@@ -3,7 +3,6 @@ pub mod Outcomes
 pub mod Following
 pub mod Written
 pub mod Places
-pub mod Succeeding
+pub mod Counted
 pub mod RunOutcomes
-pub mod MarkedNames
 mod Worked

@@ -2,10 +2,11 @@
 use Rattle.std.proofs.Common.{◌≡◌, ℕ, List, [], ◌∷◌, true, false, ◌&&◌, None, Some, Err, replicate, refl}
 use Rattle.std.specs.Prelude.{codes, if◌then◌else◌}
 use Rattle.wf_val.specs.ValueTree.{ValueTree, null, text, list, object, Member, members, trees}
+use Rattle.wf_layers.specs.Definition.{Succeeded, Failed, Skipped, TimedOut}
 use Rattle.wf_meaning.specs.Definition.{DefinitionTree}
 use Rattle.wf_top.specs.Commands.{command_of, run, run_definition}
 use Rattle.wf_top.specs.Form.{form_of, form_words, definition_of, inputs_of}
-use Rattle.wf_top.specs.Plain.{few_actions, is_few, is_literal_text, is_name, is_plain_action, is_printable, lists_success, need_of, plain_actions, run_name, success}
+use Rattle.wf_top.specs.Plain.{few_actions, is_few, is_name, is_plain_action, is_printable, listed_in, need_of, plain_actions, run_name}
 use Rattle.wf_top.specs.Plan.{Plan, Says, Reads, within}
 use Rattle.wf_top.specs.Served.{number}
 use Rattle.wf_top.specs.declared.form.FormFault.{FormFault}
@@ -112,23 +113,24 @@ printable-delete = refl
 printable-above : is_printable 128 ≡ true
 printable-above = refl
 
-literal-at : is_literal_text (codes "a@b") ≡ false
-literal-at = refl
+listed-four : listed_in (list (trees (text (codes "SUCCEEDED") ∷ (text (codes "failed") ∷ (text (codes "Skipped") ∷ (text (codes "timedout") ∷ []))))))
+    ≡ Some (Succeeded ∷ (Failed ∷ (Skipped ∷ (TimedOut ∷ []))))
+listed-four = refl
 
-literal-plain : is_literal_text (codes "{a}") ≡ true
-literal-plain = refl
+listed-twice : listed_in (list (trees (text (codes "Failed") ∷ (text (codes "Failed") ∷ [])))) ≡ Some (Failed ∷ (Failed ∷ []))
+listed-twice = refl
 
-lists-success : lists_success (list (trees (text (codes "SUCCEEDED") ∷ []))) ≡ true
-lists-success = refl
+listed-none : listed_in (list (trees [])) ≡ Some []
+listed-none = refl
 
-lists-failure : lists_success (list (trees (text (codes "Failed") ∷ []))) ≡ false
-lists-failure = refl
+listed-cancelled : listed_in (list (trees (text (codes "Cancelled") ∷ []))) ≡ None
+listed-cancelled = refl
 
-lists-two : lists_success (list (trees (text (codes "Succeeded") ∷ (text (codes "Succeeded") ∷ [])))) ≡ false
-lists-two = refl
+listed-null : listed_in (list (trees (null ∷ []))) ≡ None
+listed-null = refl
 
-lists-none : lists_success (list (trees [])) ≡ false
-lists-none = refl
+listed-text : listed_in (text (codes "Succeeded")) ≡ None
+listed-text = refl
 
 -- the actions A, B and C, and an entry of `runAfter` for one of them
 abbrev three : List Member
@@ -137,7 +139,7 @@ three = (codes "A", null) ∷ ((codes "B", null) ∷ ((codes "C", null) ∷ []))
 abbrev entry : List ℕ → Member
 entry name = (name, list (trees (text (codes "Succeeded") ∷ [])))
 
-need-second : need_of three (entry (codes "B")) ≡ Some (success 1)
+need-second : need_of three (entry (codes "B")) ≡ Some (record { name = 1; listed = Succeeded ∷ [] })
 need-second = refl
 
 need-case : need_of three (entry (codes "b")) ≡ None

@@ -6,5 +6,5 @@ pub mod Plan
 pub mod Ran
 pub mod Record
 pub mod Seen
-pub mod SeenAction
 pub mod Served
+pub mod Templates

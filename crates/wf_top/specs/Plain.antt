@@ -5,12 +5,15 @@ use Rattle.std.specs.List.{list_all}
 use Rattle.std.specs.Option.{option_map, option_map_or, option_and_then}
 use Rattle.std.specs.Str.{chars, str_eq_ignore_ascii_case}
 use Rattle.sha2.specs.Sha256.{sha256}
-use Rattle.wf_val.specs.ValueTree.{ValueTree, null, boolean, number, text, list, object, items, ValueTrees, no_values, value_then, MemberTrees, no_members, member_then, Member, pairs, fits}
-use Rattle.wf_val.specs.Get.{get, item, is_object}
+use Rattle.wf_val.specs.ValueTree.{ValueTree, text, list, object, items, Member, pairs}
+use Rattle.wf_val.specs.Get.{get, is_object}
 use Rattle.wf_json.specs.Json.{json}
-use Rattle.wf_layers.specs.Definition.{Succeeded, Need}
+use Rattle.wf_layers.specs.Definition.{Status, Succeeded, Failed, Skipped, TimedOut, Need}
+use Rattle.wf_meaning.specs.Look.{untriggered}
+use Rattle.wf_meaning.specs.Names.{names_before}
 use Rattle.wf_meaning.specs.Rounds.{all_end}
 use Rattle.wf_meaning.specs.Definition.{ActionTree, DefinitionTree, InputsTree}
+use Rattle.wf_top.specs.Templates.{plain_inputs}
 use Rattle.wf_top.specs.Limits.{actions_most, action_name_chars, run_name_chars}
 
 -- A byte of a text that isn't a control character: those are U+0000 to U+001F and U+007F, one byte each in UTF-8, where
@@ -41,53 +44,39 @@ abbrev pub is_word : List ℕ → Option ValueTree → Bool
 is_word word (Some (text s)) = str_eq_ignore_ascii_case s word
 is_word word t = false
 
--- A text without `@` stands for itself; one with it may hold an expression.
-abbrev pub is_literal_text : List ℕ → Bool
-is_literal_text s = list_all (λ b. not (b == 64)) s
-
--- each text in the value stands for itself
-abbrev mutual
-  pub is_literal : ValueTree → Bool
-  is_literal null = true
-  is_literal (boolean b) = true
-  is_literal (number n) = true
-  is_literal (text s) = is_literal_text s
-  is_literal (list ts) = are_literal ts
-  is_literal (object ms) = have_literals ms
-
-  pub are_literal : ValueTrees → Bool
-  are_literal no_values = true
-  are_literal (value_then t ts) = is_literal t && are_literal ts
-
-  pub have_literals : MemberTrees → Bool
-  have_literals no_members = true
-  have_literals (member_then k t ms) = is_literal t && have_literals ms
-
--- the `inputs` of a plain action
-abbrev pub plain_inputs : Option ValueTree → Option ValueTree
-plain_inputs None = None
-plain_inputs (Some t) = if fits t && is_literal t then Some t else None
-
 -- the place of a name among members, counted from 0
 abbrev pub place_in : List ℕ → List Member → Option ℕ
 place_in name [] = None
 place_in name (m ∷ ms) = if bytes_eq name m.0 then Some 0 else option_map suc (place_in name ms)
 
-abbrev pub is_one : ValueTree → Bool
-is_one (list ts) = length (items ts) == 1
-is_one t = false
+-- the statuses that `runAfter` may list
+abbrev pub status_named : List ℕ → Option Status
+status_named s =
+    if str_eq_ignore_ascii_case s (codes "Succeeded") then Some Succeeded
+    else if str_eq_ignore_ascii_case s (codes "Failed") then Some Failed
+    else if str_eq_ignore_ascii_case s (codes "Skipped") then Some Skipped
+    else if str_eq_ignore_ascii_case s (codes "TimedOut") then Some TimedOut
+    else None
 
--- the list of statuses `["Succeeded"]`
-abbrev pub lists_success : ValueTree → Bool
-lists_success t = is_one t && is_word (codes "Succeeded") (item 0 t)
+abbrev pub status_of : ValueTree → Option Status
+status_of (text s) = status_named s
+status_of t = None
 
--- to wait for the success of the action of this number
-abbrev pub success : ℕ → Need
-success n = record { name = n; listed = Succeeded ∷ [] }
+abbrev pub statuses_of : List ValueTree → Option (List Status)
+statuses_of [] = Some []
+statuses_of (t ∷ ts) = option_and_then (λ status. option_map (λ more. status ∷ more) (statuses_of ts)) (status_of t)
+
+-- the statuses that a list names, in any number
+abbrev pub listed_in : ValueTree → Option (List Status)
+listed_in (list ts) = statuses_of (items ts)
+listed_in t = None
+
+abbrev pub need_for : Option (List Status) → ℕ → Option Need
+need_for listed n = option_map (λ statuses. record { name = n; listed = statuses }) listed
 
 -- what an entry of `runAfter` waits for, which is one of these members
 abbrev pub need_of : List Member → Member → Option Need
-need_of all entry = if lists_success entry.1 then option_map success (place_in entry.0 all) else None
+need_of all entry = option_and_then (need_for (listed_in entry.1)) (place_in entry.0 all)
 
 -- what the entries of `runAfter` wait for, where each of them is plain
 abbrev pub needs_of : List Member → List Member → Option (List Need)
@@ -116,9 +105,9 @@ abbrev pub actions_of : List Member → List Member → Option (List ActionTree)
 actions_of all [] = Some []
 actions_of all (m ∷ ms) = option_and_then (λ action. option_map (λ more. action ∷ more) (actions_of all ms)) (action_of all m)
 
--- actions that all end, since no `runAfter` has a cycle
-abbrev pub acyclic_actions : List ActionTree → Option (List ActionTree)
-acyclic_actions actions = if all_end actions then Some actions else None
+-- actions that all end, since no `runAfter` has a cycle, and that ask only for rows of actions before them
+abbrev pub ordered_actions : List ActionTree → Option (List ActionTree)
+ordered_actions actions = if all_end actions && names_before actions then Some actions else None
 
 -- so many members may be actions
 abbrev pub is_few : List Member → Bool
@@ -126,7 +115,7 @@ is_few ms = nat_le (length ms) actions_most
 
 -- the actions that members are which are few enough
 abbrev pub few_actions : List Member → Option (List ActionTree)
-few_actions ms = if is_few ms then option_and_then acyclic_actions (actions_of ms ms) else None
+few_actions ms = if is_few ms then option_and_then ordered_actions (actions_of ms ms) else None
 
 -- the actions of a definition whose member `actions` this is
 abbrev pub plain_actions : Option ValueTree → Option (List ActionTree)
@@ -158,4 +147,4 @@ hands_in_no_more t =
 
 -- the plain inputs that a value is
 unfoldable pub plain_run : ValueTree → Option InputsTree
-plain_run t = if hands_in_no_more t then option_map (λ run. record { run = run }) (run_name (get (codes "run") t)) else None
+plain_run t = if hands_in_no_more t then option_map untriggered (run_name (get (codes "run") t)) else None

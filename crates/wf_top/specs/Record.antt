@@ -4,15 +4,9 @@ use Rattle.std.specs.List.{list_any}
 use Rattle.hex.specs.Hex.{encode_lower}
 use Rattle.wf_val.specs.ValueTree.{ValueTree, number, text, list, object, trees, members}
 use Rattle.wf_json.specs.Json.{json}
-use Rattle.wf_layers.specs.Definition.{Status, Succeeded, Failed, Skipped, TimedOut, Cancelled}
+use Rattle.wf_layers.specs.Definition.{Status, Skipped}
+use Rattle.wf_meaning.specs.Look.{status_name}
 use Rattle.wf_meaning.specs.Record.{RowTree, RecordTree}
-
-abbrev pub status_name : Status → List ℕ
-status_name Succeeded = codes "Succeeded"
-status_name Failed = codes "Failed"
-status_name Skipped = codes "Skipped"
-status_name TimedOut = codes "TimedOut"
-status_name Cancelled = codes "Cancelled"
 
 abbrev pub index_value : ℕ → ValueTree
 index_value n = number (pos n)

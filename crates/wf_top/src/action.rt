@@ -5,22 +5,15 @@ ghost use Rattle.wf_val.specs.Get.{name_of};
 ghost use Rattle.wf_val.specs.NameOrder.{IsInNameOrder};
 ghost use Rattle.wf_val.specs.Seen.{tree, member};
 ghost use Rattle.wf_top.specs.Plain.{action_of, actions_of, is_plain_action};
-ghost use Rattle.wf_top.specs.SeenAction.{action_tree};
+ghost use Rattle.wf_walk.specs.Seen.{action_tree};
 
 use crate::ACTION_NAME_LIMIT;
-use crate::after::places_after;
-use crate::plain::{is_name, is_word, plain_inputs};
+use crate::after::needs_in;
+use crate::plain::{is_name, is_word};
+use crate::templates::plain_inputs;
 use std::alloc::{AllocError, Global};
 use wf_val::{Text, Val};
-
-/// An action: its name, the places of the actions whose success it waits for, and its inputs as written. Actions stand in
-/// byte order of their names, and places are counted from 0.
-#[derive(Drop)]
-pub struct Action {
-    pub name: Text,
-    pub after: Vec<usize>,
-    pub inputs: Val,
-}
+use wf_walk::Action;
 
 // Whether a member is a Compose action that tracks nothing, its `runAfter` and its inputs apart.
 fn is_plain_action(name: &Text, value: &Val) -> bool
@@ -44,7 +37,7 @@ fn action_of(
     if !is_plain_action(name, value) {
         return Ok(None);
     }
-    let Some(after) = places_after(alloc, all, value.member("runAfter"))? else {
+    let Some(after) = needs_in(alloc, all, value.member("runAfter"))? else {
         return Ok(None);
     };
     match plain_inputs(alloc, value.member("inputs"))? {

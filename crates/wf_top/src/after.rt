@@ -4,11 +4,13 @@ ghost use Rattle.std.specs.Option.{option_map};
 ghost use Rattle.wf_val.specs.Get.{name_of};
 ghost use Rattle.wf_val.specs.NameOrder.{IsInNameOrder};
 ghost use Rattle.wf_val.specs.Seen.{tree, member};
-ghost use Rattle.wf_top.specs.Plain.{after_of, is_one, lists_success, need_of, needs_of, place_in, success};
+ghost use Rattle.wf_walk.specs.Seen.{need_tree, status_tree};
+ghost use Rattle.wf_top.specs.Plain.{after_of, listed_in, need_of, needs_of, place_in, status_named, status_of, statuses_of};
 
-use crate::plain::{is_word, members_in};
+use crate::plain::members_in;
 use std::alloc::{AllocError, Global};
 use wf_val::{Text, Val};
+use wf_walk::{After, Status};
 
 // The place of the name among the members.
 fn place_in(members: &[(Text, Val)], name: &Text) -> Option<usize>
@@ -21,33 +23,72 @@ fn place_in(members: &[(Text, Val)], name: &Text) -> Option<usize>
     }
 }
 
-// Whether a value is a list of one item.
-#[tactic(auto, using(wf_val::proofs::ValueTreeLemmas::listed))]
-fn is_one(value: &Val) -> bool
-    ensures { result ≡ is_one (tree value.now) }
+// The status of this name; letter case doesn't count in ASCII.
+fn status_named(name: &str) -> Option<Status>
+    ensures { option_map status_tree result ≡ status_named name.now }
 {
-    match value {
-        Val::List(items) => items.len() == 1,
-        _ => false,
+    if name.eq_ignore_ascii_case("Succeeded") {
+        Some(Status::Succeeded)
+    } else if name.eq_ignore_ascii_case("Failed") {
+        Some(Status::Failed)
+    } else if name.eq_ignore_ascii_case("Skipped") {
+        Some(Status::Skipped)
+    } else if name.eq_ignore_ascii_case("TimedOut") {
+        Some(Status::TimedOut)
+    } else {
+        None
     }
 }
 
-// Whether a value is the list of statuses `["Succeeded"]`.
-fn lists_success(value: &Val) -> bool
-    ensures { result ≡ lists_success (tree value.now) }
+fn status_of(value: &Val) -> Option<Status>
+    ensures { option_map status_tree result ≡ status_of (tree value.now) }
 {
-    is_one(value) && is_word(value.item(0), "Succeeded")
+    match value {
+        Val::Text(name) => status_named(name.as_str()),
+        _ => None,
+    }
 }
 
-// The place among the members of the action whose success an entry waits for.
-fn need_of(all: &[(Text, Val)], name: &Text, value: &Val) -> Option<usize>
-    requires { IsInNameOrder name_of (map member all.now) }
-    ensures { option_map success result ≡ need_of (map member all.now) (name.now, tree value.now) }
+fn statuses_of(alloc: Global, items: &[Val]) -> Result<Option<Vec<Status>>, AllocError>
+    ensures { IfOk result (λ found. option_map (λ statuses. map status_tree statuses.items) found ≡ statuses_of (map tree items.now)) }
 {
-    if lists_success(value) {
-        place_in(all, name)
-    } else {
-        None
+    let mut statuses = Vec::new(alloc);
+    for item in items {
+        match status_of(item) {
+            Some(status) => statuses.push(status)?,
+            None => return Ok(None),
+        }
+    }
+    Ok(Some(statuses))
+}
+
+// The statuses that a list names.
+#[tactic(auto, using(wf_val::proofs::ValueTreeLemmas::listed))]
+fn listed_in(alloc: Global, value: &Val) -> Result<Option<Vec<Status>>, AllocError>
+    ensures { IfOk result (λ found. option_map (λ statuses. map status_tree statuses.items) found ≡ listed_in (tree value.now)) }
+{
+    match value {
+        Val::List(items) => statuses_of(alloc, items.as_slice()),
+        _ => Ok(None),
+    }
+}
+
+// What an entry waits for: one of the actions, and the statuses that are listed for it.
+fn need_of(
+    alloc: Global,
+    all: &[(Text, Val)],
+    name: &Text,
+    value: &Val,
+) -> Result<Option<After>, AllocError>
+    requires { IsInNameOrder name_of (map member all.now) }
+    ensures { IfOk result (λ need. option_map need_tree need ≡ need_of (map member all.now) (name.now, tree value.now)) }
+{
+    let Some(place) = place_in(all, name) else {
+        return Ok(None);
+    };
+    match listed_in(alloc, value)? {
+        Some(listed) => Ok(Some(After { place, listed })),
+        None => Ok(None),
     }
 }
 
@@ -55,28 +96,28 @@ fn needs_of(
     alloc: Global,
     all: &[(Text, Val)],
     entries: &[(Text, Val)],
-) -> Result<Option<Vec<usize>>, AllocError>
+) -> Result<Option<Vec<After>>, AllocError>
     requires { IsInNameOrder name_of (map member all.now) }
-    ensures { IfOk result (λ found. option_map (λ places. map success places.items) found ≡ needs_of (map member all.now) (map member entries.now)) }
+    ensures { IfOk result (λ found. option_map (λ needs. map need_tree needs.items) found ≡ needs_of (map member all.now) (map member entries.now)) }
 {
-    let mut places = Vec::new(alloc);
+    let mut needs = Vec::new(alloc);
     for (name, value) in entries {
-        match need_of(all, name, value) {
-            Some(place) => places.push(place)?,
+        match need_of(alloc, all, name, value)? {
+            Some(need) => needs.push(need)?,
             None => return Ok(None),
         }
     }
-    Ok(Some(places))
+    Ok(Some(needs))
 }
 
-/// The places among all members of the actions whose success a `runAfter` waits for, or `None` where it isn't plain.
-pub fn places_after(
+/// What an action waits for by its `runAfter`, among all members, or `None` where it isn't plain.
+pub fn needs_in(
     alloc: Global,
     all: &[(Text, Val)],
     value: Option<&Val>,
-) -> Result<Option<Vec<usize>>, AllocError>
+) -> Result<Option<Vec<After>>, AllocError>
     requires { IsInNameOrder name_of (map member all.now) }
-    ensures { IfOk result (λ found. option_map (λ places. map success places.items) found ≡ after_of (map member all.now) (option_map (λ v. tree v.now) value.entry)) }
+    ensures { IfOk result (λ found. option_map (λ needs. map need_tree needs.items) found ≡ after_of (map member all.now) (option_map (λ v. tree v.now) value.entry)) }
 {
     match members_in(value) {
         Some(entries) => needs_of(alloc, all, entries),

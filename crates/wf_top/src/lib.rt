@@ -11,7 +11,6 @@
 mod action;
 mod after;
 mod commands;
-mod cycles;
 mod definition;
 mod form;
 mod inputs;
@@ -22,7 +21,7 @@ mod record;
 mod run;
 mod said;
 mod serve;
-mod topological;
+mod templates;
 mod words;
 
 pub use serve::serve_words;

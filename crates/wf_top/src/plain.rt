@@ -8,19 +8,19 @@ ghost use Rattle.wf_json.specs.Json.{json};
 ghost use Rattle.wf_val.specs.Get.{name_of};
 ghost use Rattle.wf_val.specs.NameOrder.{IsInNameOrder};
 ghost use Rattle.wf_val.specs.Seen.{tree, member};
-ghost use Rattle.wf_val.specs.ValueTree.{members, trees};
-ghost use Rattle.wf_top.specs.Plain.{are_literal, plain_definition, few_actions, have_literals, is_absent_or_empty, is_bare, is_literal, is_literal_text, is_name, is_printable, is_word, members_in, plain_actions, plain_inputs};
+ghost use Rattle.wf_top.specs.Plain.{few_actions, is_absent_or_empty, is_bare, is_name, is_printable, is_word, members_in, ordered_actions, plain_actions, plain_definition};
+ghost use Rattle.wf_meaning.specs.Names.{names_before};
 ghost use Rattle.wf_meaning.specs.Rounds.{all_end};
 ghost use Rattle.wf_top.specs.Seen.{definition_tree};
-ghost use Rattle.wf_top.specs.SeenAction.{action_tree};
+ghost use Rattle.wf_walk.specs.Seen.{action_tree};
 
 use crate::MOST_ACTIONS;
-use crate::action::{Action, actions_of};
-use crate::cycles::all_end;
+use crate::action::actions_of;
 use crate::definition::Definition;
 use sha2::{Digest as _, Sha256};
 use std::alloc::{AllocError, Global};
-use wf_val::{Digest, Fields, Text, Val, Vals};
+use wf_val::{Digest, Text, Val};
+use wf_walk::{Action, all_end, names_before};
 
 fn is_printable(byte: u8) -> bool
     ensures { result ≡ is_printable byte }
@@ -88,77 +88,34 @@ pub fn is_word(value: Option<&Val>, word: &str) -> bool
     }
 }
 
-// Whether a text stands for itself, having no `@`.
-fn is_literal_text(text: &str) -> bool
-    ensures { result ≡ is_literal_text text.now }
+// The actions, where all of them end and ask only for rows of actions before them.
+fn ordered(alloc: Global, actions: Vec<Action>) -> Result<Option<Vec<Action>>, AllocError>
+    ensures found { IfOk result (λ found. option_map (λ ordered. map action_tree ordered.items) found ≡ ordered_actions (map action_tree actions.items)) }
+    ensures ends { IfOk result (λ found. IfSome found (λ ordered. all_end (map action_tree ordered.items) ≡ true)) }
+    ensures before { IfOk result (λ found. IfSome found (λ ordered. names_before (map action_tree ordered.items) ≡ true)) }
 {
-    for byte in text.as_bytes() {
-        if *byte == b'@' {
-            return false;
-        }
+    if !all_end(alloc, &actions)? {
+        return Ok(None);
     }
-    true
+    if !names_before(alloc, &actions)? {
+        return Ok(None);
+    }
+    Ok(Some(actions))
 }
 
-// Whether each text in a value stands for itself.
-#[cycle(is_literal)]
-fn is_literal(value: &Val) -> bool
-    ensures { result ≡ is_literal (tree value.now) }
-{
-    match value {
-        Val::Null | Val::Bool(_) | Val::Int(_) => true,
-        Val::Text(text) => is_literal_text(text.as_str()),
-        Val::List(items) => are_literal(items),
-        Val::Obj(fields) => have_literals(fields),
-    }
-}
-
-#[cycle(is_literal)]
-fn are_literal(items: &Vals) -> bool
-    ensures { result ≡ are_literal (trees items.now) }
-{
-    for item in items.as_slice() {
-        if !is_literal(item) {
-            return false;
-        }
-    }
-    true
-}
-
-#[cycle(is_literal)]
-fn have_literals(fields: &Fields) -> bool
-    ensures { result ≡ have_literals (members fields.now) }
-{
-    for (_, value) in fields.as_slice() {
-        if !is_literal(value) {
-            return false;
-        }
-    }
-    true
-}
-
-/// The inputs of an action, where they fit and each text in them stands for itself.
-pub fn plain_inputs(alloc: Global, value: Option<&Val>) -> Result<Option<Val>, AllocError>
-    ensures { IfOk result (λ inputs. option_map tree inputs ≡ plain_inputs (option_map (λ v. tree v.now) value.entry)) }
-{
-    match value {
-        Some(inputs) if inputs.fits() && is_literal(inputs) => Ok(Some(inputs.copy(alloc)?)),
-        _ => Ok(None),
-    }
-}
-
-// The actions of these members, where there are few enough, and all of them end.
+// The actions of these members, where there are few enough, and they are in order.
 fn few_actions(alloc: Global, members: &[(Text, Val)]) -> Result<Option<Vec<Action>>, AllocError>
     requires { IsInNameOrder name_of (map member members.now) }
     ensures found { IfOk result (λ found. option_map (λ actions. map action_tree actions.items) found ≡ few_actions (map member members.now)) }
     ensures ends { IfOk result (λ found. IfSome found (λ actions. all_end (map action_tree actions.items) ≡ true)) }
+    ensures before { IfOk result (λ found. IfSome found (λ actions. names_before (map action_tree actions.items) ≡ true)) }
 {
     if MOST_ACTIONS < members.len() {
         return Ok(None);
     }
     match actions_of(alloc, members)? {
-        Some(actions) if all_end(alloc, &actions)? => Ok(Some(actions)),
-        _ => Ok(None),
+        Some(actions) => ordered(alloc, actions),
+        None => Ok(None),
     }
 }
 
@@ -166,6 +123,7 @@ fn few_actions(alloc: Global, members: &[(Text, Val)]) -> Result<Option<Vec<Acti
 fn plain_actions(alloc: Global, value: Option<&Val>) -> Result<Option<Vec<Action>>, AllocError>
     ensures found { IfOk result (λ found. option_map (λ actions. map action_tree actions.items) found ≡ plain_actions (option_map (λ v. tree v.now) value.entry)) }
     ensures ends { IfOk result (λ found. IfSome found (λ actions. all_end (map action_tree actions.items) ≡ true)) }
+    ensures before { IfOk result (λ found. IfSome found (λ actions. names_before (map action_tree actions.items) ≡ true)) }
 {
     match members_in(value) {
         Some(members) => few_actions(alloc, members),

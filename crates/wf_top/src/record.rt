@@ -3,49 +3,13 @@ ghost use Rattle.std.specs.Prelude.{◌≡◌, map, IfOk};
 ghost use Rattle.wf_val.specs.Get.{name_of};
 ghost use Rattle.wf_val.specs.NameOrder.{put_named};
 ghost use Rattle.wf_val.specs.Seen.{tree};
-ghost use Rattle.wf_top.specs.Record.{record_value, row_value, status_name};
-ghost use Rattle.wf_top.specs.Seen.{record_tree, row_tree, status_tree};
+ghost use Rattle.wf_top.specs.Record.{record_value, row_value};
+ghost use Rattle.wf_walk.specs.Seen.{named_row};
+ghost use Rattle.wf_top.specs.Seen.{record_tree};
 
 use std::alloc::{AllocError, Global};
 use wf_val::{Digest, Fields, Text, Val, Vals};
-
-/// How an action or a run ended.
-#[derive(Clone, Copy, Debug, PartialEq, Eq)]
-pub enum Status {
-    Succeeded,
-    Failed,
-    Skipped,
-    TimedOut,
-    Cancelled,
-}
-
-impl Status {
-    /// The word that stands for it in a record.
-    pub fn name(self) -> &'static str
-        ensures { result.now ≡ status_name (status_tree self) }
-    {
-        match self {
-            Status::Succeeded => "Succeeded",
-            Status::Failed => "Failed",
-            Status::Skipped => "Skipped",
-            Status::TimedOut => "TimedOut",
-            Status::Cancelled => "Cancelled",
-        }
-    }
-}
-
-/// What is known of an action that has ended.
-#[derive(Drop)]
-pub struct Row {
-    pub name: Text,
-    pub status: Status,
-    pub code: Text,
-    pub inputs: Val,
-    pub outputs: Val,
-    pub error: Val,
-    pub tracked: Val,
-    pub attempts: u32,
-}
+use wf_walk::{Row, Status, status_name};
 
 /// What a run leaves. Its rows are in the order of their addresses.
 #[derive(Drop)]
@@ -70,32 +34,31 @@ pub fn with(alloc: Global, fields: Fields, name: &str, value: Val) -> Result<Fie
     Ok(more)
 }
 
-impl Row {
-    fn into_val(self, alloc: Global) -> Result<Val, AllocError>
-        ensures { IfOk result (λ value. tree value ≡ row_value (row_tree self)) }
-    {
-        let fields = Fields::new(alloc);
-        let fields = with(alloc, fields, "at", Val::List(Vals::new(alloc)))?;
-        let fields = with(alloc, fields, "attempts", Val::Int(self.attempts as i64))?;
-        let fields = with(alloc, fields, "code", Val::Text(self.code))?;
-        let fields = with(alloc, fields, "error", self.error)?;
-        let fields = with(alloc, fields, "inputs", self.inputs)?;
-        let fields = with(alloc, fields, "name", Val::Text(self.name))?;
-        let fields = with(alloc, fields, "outputs", self.outputs)?;
-        let status = Text::of(alloc, self.status.name())?;
-        let fields = with(alloc, fields, "status", Val::Text(status))?;
-        let fields = with(alloc, fields, "tracked", self.tracked)?;
-        Ok(Val::Obj(fields))
-    }
+// A row as a value. No action tracks properties yet, and none is attempted more than once.
+fn row_into_val(alloc: Global, row: Row) -> Result<Val, AllocError>
+    ensures { IfOk result (λ value. tree value ≡ row_value (named_row row)) }
+{
+    let fields = Fields::new(alloc);
+    let fields = with(alloc, fields, "at", Val::List(Vals::new(alloc)))?;
+    let fields = with(alloc, fields, "attempts", Val::Int(0))?;
+    let fields = with(alloc, fields, "code", Val::Text(row.code))?;
+    let fields = with(alloc, fields, "error", row.error)?;
+    let fields = with(alloc, fields, "inputs", row.inputs)?;
+    let fields = with(alloc, fields, "name", Val::Text(row.name))?;
+    let fields = with(alloc, fields, "outputs", row.outputs)?;
+    let status = Text::of(alloc, status_name(row.status))?;
+    let fields = with(alloc, fields, "status", Val::Text(status))?;
+    let fields = with(alloc, fields, "tracked", Val::Obj(Fields::new(alloc)))?;
+    Ok(Val::Obj(fields))
 }
 
 // The rows as a list of values.
 fn rows_into_vals(alloc: Global, rows: Vec<Row>) -> Result<Vals, AllocError>
-    ensures { IfOk result (λ values. values ≡ map row_value (map row_tree rows.items)) }
+    ensures { IfOk result (λ values. values ≡ map row_value (map named_row rows.items)) }
 {
     let mut values = Vals::new(alloc);
     for row in rows {
-        values.push(row.into_val(alloc)?)?;
+        values.push(row_into_val(alloc, row)?)?;
     }
     Ok(values)
 }
@@ -115,7 +78,7 @@ impl Record { /// The record as a value.
         let rows = rows_into_vals(alloc, self.rows)?;
         let fields = with(alloc, fields, "rows", Val::List(rows))?;
         let fields = with(alloc, fields, "run", Val::Text(self.run))?;
-        let status = Text::of(alloc, self.status.name())?;
+        let status = Text::of(alloc, status_name(self.status))?;
         let fields = with(alloc, fields, "status", Val::Text(status))?;
         let fields = with(alloc, fields, "trigger", self.trigger)?;
         Ok(Val::Obj(fields))

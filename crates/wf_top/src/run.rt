@@ -2,44 +2,18 @@
 ghost use Rattle.std.specs.Prelude.{◌≡◌, ◌++◌, map, IfOk};
 ghost use Rattle.wf_val.specs.Seen.{tree};
 ghost use Rattle.wf_top.specs.Commands.{run_text};
-ghost use Rattle.wf_meaning.specs.Laws.{composed_at};
-ghost use Rattle.wf_meaning.specs.Meaning.{meaning, no_trigger};
+ghost use Rattle.wf_meaning.specs.Look.{no_trigger};
+ghost use Rattle.wf_meaning.specs.Meaning.{meaning};
 ghost use Rattle.wf_top.specs.Record.{is_skipped, peak_of, record_line, steps_of, summary_line};
-ghost use Rattle.wf_top.specs.Seen.{definition_tree, inputs_tree, record_tree, row_tree, status_tree};
-ghost use Rattle.wf_top.specs.SeenAction.{action_tree};
+ghost use Rattle.wf_top.specs.Seen.{definition_tree, inputs_tree, record_tree};
+ghost use Rattle.wf_walk.specs.Seen.{given_tree, named_row, status_tree};
 
-use crate::action::Action;
 use crate::definition::Definition;
 use crate::inputs::Inputs;
-use crate::record::{Record, Row, Status, with};
+use crate::record::{Record, with};
 use std::alloc::{AllocError, Global};
 use wf_val::{Fields, Text, Val};
-
-// The row of a Compose action, which takes its inputs in and gives them out.
-fn composed(alloc: Global, action: Action) -> Result<Row, AllocError>
-    ensures { IfOk result (λ row. row_tree row ≡ composed_at (action_tree action)) }
-{
-    Ok(Row {
-        name: action.name,
-        status: Status::Succeeded,
-        code: Text::of(alloc, "OK")?,
-        outputs: action.inputs.copy(alloc)?,
-        inputs: action.inputs,
-        error: Val::Null,
-        tracked: Val::Obj(Fields::new(alloc)),
-        attempts: 0,
-    })
-}
-
-fn rows_of(alloc: Global, actions: Vec<Action>) -> Result<Vec<Row>, AllocError>
-    ensures { IfOk result (λ rows. map row_tree rows.items ≡ map composed_at (map action_tree actions.items)) }
-{
-    let mut rows = Vec::new(alloc);
-    for action in actions {
-        rows.push(composed(alloc, action)?)?;
-    }
-    Ok(rows)
-}
+use wf_walk::{Given, Row, Status, walk};
 
 // The trigger of a run that none started.
 fn no_trigger(alloc: Global) -> Result<Val, AllocError>
@@ -50,22 +24,42 @@ fn no_trigger(alloc: Global) -> Result<Val, AllocError>
     Ok(Val::Obj(fields))
 }
 
-// The record that a run of the definition leaves. All actions end, and each waits for the success of others, so each
-// runs, and the run succeeds.
-fn record_of(alloc: Global, definition: Definition, inputs: Inputs) -> Result<Record, AllocError>
-    ensures { IfOk result (λ finished. record_tree finished ≡ meaning (definition_tree definition) (inputs_tree inputs)) }
+// What a run is handed whose inputs give it a name.
+fn given_of(alloc: Global, inputs: Inputs) -> Result<Given, AllocError>
+    ensures { IfOk result (λ given. given_tree given ≡ inputs_tree inputs) }
 {
-    Ok(Record {
+    Ok(Given {
         run: inputs.run,
-        digest: definition.digest,
+        seed: Text::of(alloc, "")?,
+        moment: 0,
         trigger: no_trigger(alloc)?,
+    })
+}
+
+// The record that a run of the definition leaves which is handed this.
+fn record_with(alloc: Global, definition: Definition, given: Given) -> Result<Record, AllocError>
+    ensures { IfOk result (λ finished. record_tree finished ≡ meaning (definition_tree definition) (given_tree given)) }
+{
+    let walked = walk(alloc, &given, &definition.actions)?;
+    Ok(Record {
+        run: given.run,
+        digest: definition.digest,
+        trigger: given.trigger,
         parameters: Val::Obj(Fields::new(alloc)),
-        status: Status::Succeeded,
+        status: walked.status,
         error: Val::Null,
         response: Val::Null,
         outputs: Val::Obj(Fields::new(alloc)),
-        rows: rows_of(alloc, definition.actions)?,
+        rows: walked.rows,
     })
+}
+
+// The record that a run of the definition leaves.
+fn record_of(alloc: Global, definition: Definition, inputs: Inputs) -> Result<Record, AllocError>
+    ensures { IfOk result (λ finished. record_tree finished ≡ meaning (definition_tree definition) (inputs_tree inputs)) }
+{
+    let given = given_of(alloc, inputs)?;
+    record_with(alloc, definition, given)
 }
 
 fn is_skipped(status: Status) -> bool
@@ -79,7 +73,7 @@ fn is_skipped(status: Status) -> bool
 
 // How many steps the rows took: two where the action ran, one where it was skipped.
 fn steps_of(rows: &[Row]) -> u64
-    ensures { result ≡ steps_of (map row_tree rows.now) }
+    ensures { result ≡ steps_of (map named_row rows.now) }
 {
     let mut steps = 0;
     for row in rows {
@@ -90,7 +84,7 @@ fn steps_of(rows: &[Row]) -> u64
 
 // The greatest number of actions that were running at a time.
 fn peak_of(rows: &[Row]) -> u64
-    ensures { result ≡ peak_of (map row_tree rows.now) }
+    ensures { result ≡ peak_of (map named_row rows.now) }
 {
     for row in rows {
         if !is_skipped(row.status) {

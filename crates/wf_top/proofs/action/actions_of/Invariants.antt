@@ -2,7 +2,7 @@ use Rattle.std.proofs.Common.{◌≡◌, ◌++◌, List, map, drop, option_map}
 use Rattle.wf_val.specs.Seen.{member}
 use Rattle.wf_meaning.specs.Definition.{ActionTree}
 use Rattle.wf_top.specs.Plain.{actions_of}
-use Rattle.wf_top.specs.SeenAction.{action_tree}
+use Rattle.wf_walk.specs.Seen.{action_tree}
 use Rattle.wf_top.proofs.action.actions_of.Given as goal
 
 -- what is found so far, and what is found in the rest, is what is found in all

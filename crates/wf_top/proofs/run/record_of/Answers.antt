@@ -1,16 +1,9 @@
+use Rattle.std.proofs.Common.{◌≡◌, subst, IfOk}
 use Rattle.wf_meaning.specs.Meaning.{meaning}
-use Rattle.wf_top.proofs.Succeeding.{rows_are, status_is}
+use Rattle.wf_top.specs.Seen.{definition_tree, record_tree}
 use Rattle.wf_top.proofs.run.record_of.Goals as goal
 
 pub returns : goal.returns
-unfolding meaning
 returns c =
-    let actions = c.args.definition.actions.items in
-    rw (
-      rows_are actions c.args.definition.ends,
-      status_is actions c.args.definition.ends,
-      c.in_ok-rows_of.ensures,
-      c.in_ok-no_trigger.ensures,
-      c.new.ensures,
-      c.new-2.ensures,
-    )
+    subst (λ i. IfOk c.record_with.result (λ finished. record_tree finished ≡ meaning (definition_tree c.args.definition) i))
+    c.in_ok-given.ensures c.record_with.ensures

@@ -1,0 +1,102 @@
+-- Which inputs of an action are plain: a tree whose texts are templates, and whose calls are of functions that are built.
+use Rattle.std.specs.Prelude.{ℕ, zero, suc, ◌+◌, Bool, true, false, ◌&&◌, List, [], ◌∷◌, Option, None, Some, is_some, if◌then◌else◌}
+use Rattle.std.specs.Option.{option_map, option_and_then}
+use Rattle.wf_val.specs.ValueTree.{ValueTree, null, boolean, number, text, list, object, ValueTrees, no_values, value_then, MemberTrees, no_members, member_then}
+use Rattle.wf_val.specs.Arity.{takes}
+use Rattle.wf_val.specs.Function.{function_of}
+use Rattle.wf_val.specs.NameOrder.{put_named}
+use Rattle.wf_val.specs.declared.function.Fun.{Fun}
+use Rattle.wf_template.specs.DataTree as inputs
+use Rattle.wf_template.specs.ExprTree.{ExprTrees, no_exprs, expr_then}
+use Rattle.wf_expr.specs.Text.{template_in}
+use Rattle.wf_eval.specs.Value.{literal_name}
+use Rattle.wf_walk.specs.Calls.{Test, tree_passes}
+
+-- The tree that a value is, where each text in it spells a template: items in their order, members in that of their names.
+abbrev mutual
+  pub data_of : ValueTree → Option inputs.DataTree
+  data_of null = Some inputs.null
+  data_of (boolean b) = Some (inputs.boolean b)
+  data_of (number n) = Some (inputs.number n)
+  data_of (text s) = option_map inputs.text (template_in s)
+  data_of (list ts) = option_map (λ ds. inputs.list (inputs.data_trees ds)) (items_of ts)
+  data_of (object ms) = option_map (λ ds. inputs.object (inputs.data_members ds)) (members_of ms [])
+
+  pub items_of : ValueTrees → Option (List inputs.DataTree)
+  items_of no_values = Some []
+  items_of (value_then t ts) = option_and_then (λ d. option_map (λ ds. d ∷ ds) (items_of ts)) (data_of t)
+
+  -- beside members that are there
+  pub members_of : MemberTrees → List inputs.DataMember → Option (List inputs.DataMember)
+  members_of no_members done = Some done
+  members_of (member_then k t ms) done = option_and_then (λ d. members_of ms (put_named inputs.name_of_data (k, d) done)) (data_of t)
+
+-- the functions that a plain definition may call
+abbrev pub is_plain_function : Fun → Bool
+is_plain_function Fun.If = true
+is_plain_function Fun.And = true
+is_plain_function Fun.Or = true
+is_plain_function Fun.Coalesce = true
+is_plain_function Fun.String = true
+is_plain_function Fun.Json = true
+is_plain_function Fun.Actions = true
+is_plain_function Fun.Outputs = true
+is_plain_function Fun.Body = true
+is_plain_function Fun.Workflow = true
+is_plain_function Fun.Add = true
+is_plain_function Fun.Sub = true
+is_plain_function Fun.Mul = true
+is_plain_function Fun.Div = true
+is_plain_function Fun.Mod = true
+is_plain_function Fun.Min = true
+is_plain_function Fun.Max = true
+is_plain_function Fun.Equals = true
+is_plain_function Fun.Greater = true
+is_plain_function Fun.GreaterOrEquals = true
+is_plain_function Fun.Less = true
+is_plain_function Fun.LessOrEquals = true
+is_plain_function Fun.Not = true
+is_plain_function Fun.Int = true
+is_plain_function Fun.Bool = true
+is_plain_function Fun.IsInt = true
+is_plain_function Fun.Concat = true
+is_plain_function Fun.Substring = true
+is_plain_function Fun.Slice = true
+is_plain_function Fun.Replace = true
+is_plain_function Fun.Split = true
+is_plain_function Fun.ToLower = true
+is_plain_function Fun.ToUpper = true
+is_plain_function Fun.Trim = true
+is_plain_function Fun.StartsWith = true
+is_plain_function Fun.EndsWith = true
+is_plain_function Fun.IndexOf = true
+is_plain_function Fun.LastIndexOf = true
+is_plain_function f = false
+
+abbrev pub arg_count : ExprTrees → ℕ
+arg_count no_exprs = 0
+arg_count (expr_then e es) = 1 + arg_count es
+
+-- a function that asks for an action asks for it by a literal name
+abbrev pub has_name : ExprTrees → Fun → Bool
+has_name es Fun.Actions = is_some (literal_name es)
+has_name es Fun.Outputs = is_some (literal_name es)
+has_name es Fun.Body = is_some (literal_name es)
+has_name es f = true
+
+abbrev pub is_plain_call_of : ExprTrees → Option Fun → Bool
+is_plain_call_of es None = false
+is_plain_call_of es (Some f) = is_plain_function f && takes f (arg_count es) && has_name es f
+
+-- a call of a function that is built, with a count of arguments that it takes
+abbrev pub is_plain_call : Test
+is_plain_call name es = is_plain_call_of es (function_of name)
+
+-- a tree whose calls are plain
+abbrev pub plain_data : inputs.DataTree → Option inputs.DataTree
+plain_data d = if tree_passes is_plain_call d then Some d else None
+
+-- the `inputs` of a plain action, which may not be absent
+abbrev pub plain_inputs : Option ValueTree → Option inputs.DataTree
+plain_inputs None = None
+plain_inputs (Some t) = option_and_then plain_data (data_of t)

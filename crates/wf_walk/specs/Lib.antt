@@ -1,0 +1,5 @@
+pub mod Seen
+pub mod Walked
+pub mod Calls
+pub mod Before
+pub mod Failing

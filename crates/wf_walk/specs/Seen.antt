@@ -1,0 +1,79 @@
+-- What the structs of the walk stand for.
+use Rattle.std.specs.Prelude.{ℕ, ◌≡◌, Bool, true, false, Ok, Err, List, [], ◌∷◌, Option, None, Some, map, slice_get}
+use Rattle.wf_val.specs.Arguments.{Answer, is_memory}
+use Rattle.wf_val.specs.Seen.{tree}
+use Rattle.wf_template.specs.DataSeen.{data_tree}
+use Rattle.wf_layers.specs.Address as layered
+use Rattle.wf_layers.specs.Definition as definition
+use Rattle.wf_meaning.specs.Definition.{ActionTree, InputsTree}
+use Rattle.wf_walk.specs.declared.action.Given.{Given}
+use Rattle.wf_meaning.specs.Flat.{empty_object}
+use Rattle.wf_meaning.specs.Record as record_of
+use Rattle.wf_walk.specs.declared.action.Action.{Action}
+use Rattle.wf_walk.specs.declared.action.After.{After}
+use Rattle.wf_walk.specs.declared.action.Row.{Row}
+use Rattle.wf_walk.specs.declared.action.Status.{Status}
+use Rattle.wf_walk.specs.declared.action.Status.TheVariants.{Succeeded, Failed, Skipped, TimedOut, Cancelled}
+
+abbrev pub status_tree : Status → definition.Status
+status_tree Succeeded = definition.Succeeded
+status_tree Failed = definition.Failed
+status_tree Skipped = definition.Skipped
+status_tree TimedOut = definition.TimedOut
+status_tree Cancelled = definition.Cancelled
+
+abbrev pub need_tree : After → definition.Need
+need_tree a = record { name = a.place; listed = map status_tree a.listed.items }
+
+abbrev pub action_tree : Action → ActionTree
+action_tree a = record { name = a.name; after = map need_tree a.after.items; inputs = data_tree a.inputs }
+
+abbrev pub row_tree : Row → record_of.Row
+row_tree r = record {
+  status = status_tree r.status;
+  code = r.code;
+  inputs = tree r.inputs;
+  outputs = tree r.outputs;
+  error = tree r.error;
+  tracked = empty_object;
+  attempts = 0;
+}
+
+-- the row at its address
+abbrev pub named_row : Row → record_of.RowTree
+named_row r = record { address = record { name = r.name; at = [] }; row = row_tree r }
+
+-- the rows that are there, at their addresses
+abbrev pub rows_there : List (Option Row) → List record_of.RowTree
+rows_there [] = []
+rows_there (None ∷ rows) = rows_there rows
+rows_there (Some r ∷ rows) = named_row r ∷ rows_there rows
+
+abbrev pub has_row : Option Row → Bool
+has_row None = false
+has_row (Some r) = true
+
+-- an evaluation came to this answer, unless memory ran out
+abbrev pub ComesTo : Answer → Answer → Type 0
+ComesTo (Ok v) a = a ≡ Ok v
+ComesTo (Err f) a = is_memory f ≡ false → a ≡ Err f
+
+-- the row of the action with this number, where it has ended
+abbrev pub known_row : Option (Option Row) → Option record_of.Row
+known_row None = None
+known_row (Some None) = None
+known_row (Some (Some r)) = Some (row_tree r)
+
+abbrev pub row_at : List (Option Row) → ℕ → Option record_of.Row
+row_at rows n = known_row (slice_get rows n)
+
+abbrev pub known_at : List (Option Row) → ℕ → List ℕ → Option record_of.Row
+known_at rows n [] = row_at rows n
+known_at rows n (i ∷ is) = None
+
+-- the rows that are there, as a table
+abbrev pub known_of : List (Option Row) → layered.Table record_of.Row
+known_of rows x = known_at rows x.name x.at
+
+abbrev pub given_tree : Given → InputsTree
+given_tree g = record { run = g.run; seed = g.seed; moment = g.moment; trigger = tree g.trigger }

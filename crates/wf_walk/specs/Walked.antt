@@ -1,0 +1,29 @@
+-- What a walk keeps and comes to.
+use Rattle.std.specs.Prelude.{◌≡◌, ℕ, ◌<◌, Bool, true, ◌&&◌, List, [], ◌∷◌, Option, Some, is_some, length, slice_get}
+use Rattle.wf_layers.specs.Address.{Table, address}
+use Rattle.wf_layers.specs.Definition.{Need}
+use Rattle.wf_meaning.specs.Definition.{ActionTree, InputsTree}
+use Rattle.wf_meaning.specs.Laws.{AreMeanings, AreClosed}
+use Rattle.wf_meaning.specs.Record as record_of
+use Rattle.wf_walk.specs.Seen.{known_of, row_at}
+use Rattle.wf_walk.specs.declared.action.Row.{Row}
+
+-- each action that is waited for has a row
+abbrev pub all_there : List Need → Table record_of.Row → Bool
+all_there [] known = true
+all_there (need ∷ needs) known = is_some (known (address need.name [])) && all_there needs known
+
+-- rows that are there are the meaning's, and what they waited for has rows too
+abbrev pub AreRight : InputsTree → List ActionTree → List (Option Row) → Type 0
+AreRight inputs actions rows = AreMeanings inputs actions (known_of rows) × AreClosed actions (known_of rows)
+
+-- a row bears the name of its action
+abbrev pub AreNamed : List ActionTree → List (Option Row) → Type 0
+AreNamed actions rows = (n : ℕ) (a : ActionTree) (r : Row) → slice_get actions n ≡ Some a → slice_get rows n ≡ Some (Some r) → r.name ≡ a.name
+
+-- all rows are there, and are the meaning's
+pub record AreAll (inputs : InputsTree) (actions : List ActionTree) (rows : List (Option Row)) : Type 0 where
+  pub size : length rows ≡ length actions
+  pub meanings : AreMeanings inputs actions (known_of rows)
+  pub there : (n : ℕ) → n < length rows → is_some (row_at rows n) ≡ true
+  pub named : AreNamed actions rows

@@ -1,0 +1,302 @@
+"""Templates, and the values of some of their functions, decided apart from the program: the judge of fuzz.py stands on this.
+
+A text is read by the grammar of docs/EXPRESSIONS.md; what its calls give is written here from docs/FUNCTIONS.md for the functions of
+`KNOWN`. Of another function that the program has built the judge knows only how many arguments it takes: `Unknown` is raised where its
+value is asked for."""
+import re
+
+BLANKS = re.compile("[ \t\r\n]*")
+NAME = re.compile("[A-Za-z][A-Za-z0-9_]*")
+MEMBER = re.compile("[A-Za-z_$][A-Za-z0-9_$]*")
+NUMBER = re.compile("-?[0-9]+")
+QUOTED = re.compile("'((?:[^']|'')*)'", re.DOTALL)
+LEAST, MOST = -(2**63), 2**63 - 1
+LONGEST, OPEN_AT_MOST = 8192, 64
+DEEP, HEAVY = 64, 2**20
+# the functions that a definition may call: their names as they are printed, and how many arguments they take
+BUILT = {name.lower(): (name, least, most) for name, least, most in [
+    ("if", 3, 3), ("and", 1, None), ("or", 1, None), ("coalesce", 1, None), ("string", 1, 1), ("json", 1, 1), ("actions", 1, 1),
+    ("outputs", 1, 1), ("body", 1, 1), ("workflow", 0, 0), ("add", 2, 2), ("sub", 2, 2), ("mul", 2, 2), ("div", 2, 2), ("mod", 2, 2),
+    ("min", 1, None), ("max", 1, None), ("equals", 2, 2), ("greater", 2, 2), ("greaterOrEquals", 2, 2), ("less", 2, 2),
+    ("lessOrEquals", 2, 2), ("not", 1, 1), ("int", 1, 1), ("bool", 1, 1), ("isInt", 1, 1), ("concat", 1, None), ("substring", 2, 3),
+    ("slice", 2, 3), ("replace", 3, 3), ("split", 2, 2), ("toLower", 1, 1), ("toUpper", 1, 1), ("trim", 1, 1), ("startsWith", 2, 2),
+    ("endsWith", 2, 2), ("indexOf", 2, 2), ("lastIndexOf", 2, 2)]}
+NAMING = ("actions", "outputs", "body")
+
+
+class Refused(Exception):
+    """A text is no template, or a call in it isn't built."""
+
+
+class Fault(Exception):
+    """A value isn't there; the words are the fault as it is printed."""
+
+
+class Unknown(Exception):
+    """This judge doesn't know what the function gives."""
+
+
+# An expression from a place of a text on: ("lit", value), ("call", name, parts), ("member", base, name, soft), ("index", base, key, soft).
+class Reader:
+    def __init__(self, text, place):
+        self.text, self.place, self.open = text, place, 0
+
+    def take(self, pattern):
+        found = pattern.match(self.text, self.place)
+        if not found:
+            raise Refused
+        self.place = found.end()
+        return found
+
+    def blanks(self):
+        self.place = BLANKS.match(self.text, self.place).end()
+
+    def next(self, word):
+        if not self.text.startswith(word, self.place):
+            return False
+        self.place += len(word)
+        return True
+
+    def opened(self):
+        self.open += 1
+        if self.open > OPEN_AT_MOST:
+            raise Refused
+
+    def closed(self, word):
+        if not self.next(word):
+            raise Refused
+        self.open -= 1
+
+    def expression(self):
+        self.blanks()
+        made = self.primary()
+        while True:
+            before = self.place
+            self.blanks()
+            soft = self.next("?")
+            if self.next("."):
+                self.blanks()
+                made = ("member", made, self.take(MEMBER).group(), soft)
+            elif self.next("["):
+                self.opened()
+                key = self.expression()
+                self.closed("]")
+                made = ("index", made, key, soft)
+            else:
+                if soft:
+                    self.place = before
+                    raise Refused
+                return made
+
+    def primary(self):
+        if self.text.startswith("'", self.place):
+            return ("lit", self.take(QUOTED).group(1).replace("''", "'"))
+        if NUMBER.match(self.text, self.place):
+            number = int(self.take(NUMBER).group())
+            if not LEAST <= number <= MOST:
+                raise Refused
+            return ("lit", number)
+        name = self.take(NAME).group()
+        after = self.place
+        self.blanks()
+        if self.next("("):
+            self.opened()
+            return ("call", name, self.parts())
+        self.place = after
+        words = {"true": True, "false": False, "null": None}
+        if name.lower() not in words:
+            raise Refused
+        return ("lit", words[name.lower()])
+
+    def parts(self):
+        self.blanks()
+        parts = []
+        if not self.text.startswith(")", self.place):
+            parts.append(self.expression())
+            while self.next(","):
+                parts.append(self.expression())
+        self.closed(")")
+        return parts
+
+
+# A text as ("plain", text), ("whole", expression) or ("parts", pieces), a piece being a text or an expression.
+def template(text):
+    if re.match("@[^@{]", text, re.DOTALL) or text == "@":
+        reader = Reader(text, 1)
+        made = reader.expression()
+        if reader.place != len(text) or len(text) - 1 > LONGEST:
+            raise Refused
+        return ("whole", made)
+    pieces, letters, place, any_part = [], "", 0, False
+    while place < len(text):
+        if place == 0 and text.startswith("@@"):
+            letters, place = "@", 2
+        elif place and text.startswith("@@{", place):
+            letters, place = letters + "@{", place + 3
+        elif text.startswith("@{", place):
+            reader = Reader(text, place + 2)
+            part = reader.expression()
+            if reader.place - place - 2 > LONGEST or not reader.next("}"):
+                raise Refused
+            pieces += [letters, part] if letters else [part]
+            letters, place, any_part = "", reader.place, True
+        else:
+            letters, place = letters + text[place], place + 1
+    if not any_part:
+        return ("plain", letters)
+    return ("parts", pieces + [letters] if letters else pieces)
+
+
+# All calls in an expression.
+def calls(made):
+    if made[0] == "call":
+        yield made
+        for part in made[2]:
+            yield from calls(part)
+    elif made[0] != "lit":
+        yield from calls(made[1])
+        if made[0] == "index":
+            yield from calls(made[2])
+
+
+def expressions(value):
+    if isinstance(value, str):
+        kind, held = template(value)
+        yield from [held] if kind == "whole" else [part for part in held if not isinstance(part, str)] if kind == "parts" else []
+    for part in value.values() if isinstance(value, dict) else value if isinstance(value, list) else ():
+        yield from expressions(part)
+
+
+# The names of actions that a value of a definition asks for; refused where a text in it is no template, or a call isn't built.
+def names_asked(value):
+    names = set()
+    for made in expressions(value):
+        for _, name, parts in calls(made):
+            if name.lower() not in BUILT:
+                raise Refused
+            _, least, most = BUILT[name.lower()]
+            if len(parts) < least or most is not None and len(parts) > most:
+                raise Refused
+            if name.lower() in NAMING:
+                if parts[0][0] != "lit" or not isinstance(parts[0][1], str):
+                    raise Refused
+                names.add(parts[0][1])
+    return names
+
+
+def depth(value):
+    parts = value.values() if isinstance(value, dict) else value if isinstance(value, list) else None
+    return 0 if parts is None else 1 + max(map(depth, parts), default=0)
+
+
+def weight(value):
+    if isinstance(value, dict):
+        return 1 + sum(1 + len(name.encode()) + weight(part) for name, part in value.items())
+    if isinstance(value, list):
+        return 1 + sum(map(weight, value))
+    return 1 + len(value.encode()) if isinstance(value, str) else 1
+
+
+def fitting(value):
+    if depth(value) > DEEP or weight(value) > HEAVY:
+        raise Fault("TooBig %d %d" % (depth(value), weight(value)))
+    return value
+
+
+def is_whole(value):
+    return isinstance(value, int) and not isinstance(value, bool)
+
+
+# The value of an expression, where `view` gives what is known of an action, `run` is the run's name and `compact` the JSON text of a value.
+class Evaluator:
+    def __init__(self, view, run, compact):
+        self.view, self.run, self.compact = view, run, compact
+
+    def text(self, value):
+        return value if isinstance(value, str) else "" if value is None else self.compact(value)
+
+    def tree(self, value):
+        if isinstance(value, str):
+            return self.template(template(value))
+        if isinstance(value, list):
+            return fitting([self.tree(part) for part in value])
+        if isinstance(value, dict):
+            return fitting({name: self.tree(part) for name, part in sorted(value.items())})
+        return value
+
+    def template(self, made):
+        kind, held = made
+        if kind == "whole":
+            return self.value(held)
+        if kind == "plain":
+            return fitting(held)
+        return fitting("".join(part if isinstance(part, str) else self.text(self.value(part)) for part in held))
+
+    def value(self, made):
+        if made[0] == "lit":
+            return fitting(made[1])
+        if made[0] == "call":
+            return fitting(self.call(made[1].lower(), made[2]))
+        base, soft = self.value(made[1]), made[3]
+        key = made[2] if made[0] == "member" else self.value(made[2])
+        if isinstance(key, str) and isinstance(base, dict) and key in base:
+            return base[key]
+        if is_whole(key) and isinstance(base, list) and 0 <= key < len(base):
+            return base[key]
+        if not isinstance(key, str) and not is_whole(key):
+            raise Fault("WrongType index 2")
+        if soft:
+            return None
+        raise Fault("NoMember " + self.compact(key if isinstance(key, str) else str(key)))
+
+    def whole_numbers(self, name, values):
+        for place, value in enumerate(values):
+            if not is_whole(value):
+                raise Fault("WrongType %s %d" % (name, place + 1))
+        return values
+
+    def call(self, name, parts):
+        if name == "if":
+            test = self.value(parts[0])
+            if not isinstance(test, bool):
+                raise Fault("WrongType if 1")
+            return self.value(parts[1] if test else parts[2])
+        if name in ("and", "or"):
+            for place, part in enumerate(parts):
+                truth = self.value(part)
+                if not isinstance(truth, bool):
+                    raise Fault("WrongType %s %d" % (name, place + 1))
+                if truth == (name == "or"):
+                    return truth
+            return name == "and"
+        if name == "coalesce":
+            found = (self.value(part) for part in parts)
+            return next((value for value in found if value is not None), None)
+        if name in NAMING:
+            view = self.view(parts[0][1])
+            outputs = view["outputs"]
+            body = outputs.get("body") if isinstance(outputs, dict) else None
+            return {"actions": view, "outputs": outputs, "body": body}[name]
+        if name == "workflow":
+            return {"name": "workflow", "run": {"name": self.run}}
+        return self.strict(name, [self.value(part) for part in parts])
+
+    def strict(self, name, values):
+        if name == "concat":
+            return "".join(map(self.text, values))
+        if name == "string":
+            return self.text(values[0])
+        if name == "equals":
+            numbers = all(isinstance(value, int) for value in values)
+            return values[0] == values[1] if numbers else self.compact(values[0]) == self.compact(values[1])
+        if name in ("add", "sub", "mul"):
+            left, right = self.whole_numbers(name, values)
+            made = {"add": left + right, "sub": left - right, "mul": left * right}[name]
+            if not LEAST <= made <= MOST:
+                raise Fault("Range " + name)
+            return made
+        if name == "not":
+            if not isinstance(values[0], bool):
+                raise Fault("WrongType not 1")
+            return not values[0]
+        raise Unknown(name)
