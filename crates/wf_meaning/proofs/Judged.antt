@@ -10,7 +10,7 @@ use Rattle.wf_meaning.specs.Judged.{AnyFailed, HasFailed, IsJudged, WasSkipped, 
 use Rattle.wf_meaning.specs.Record.{Row}
 use Rattle.wf_meaning.specs.Rounds.{all_end, depth_of, depth_within, greatest, greatest_of, is_waiting, places, waits_for}
 use Rattle.wf_meaning.specs.Status.{any_named, fails, graph_status, is_named, judge, judge_row}
-use Rattle.wf_meaning.proofs.Marks.{is_there, is_within}
+use Rattle.wf_meaning.proofs.Marks.{is_there}
 use Rattle.wf_meaning.proofs.Waiting.{deeper, ends, or_none}
 use Rattle.wf_meaning.proofs.Instance.{waited_there}
 

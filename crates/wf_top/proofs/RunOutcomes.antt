@@ -7,7 +7,7 @@ use Rattle.wf_outside.specs.Outside.{Held, IsCalm}
 use Rattle.wf_meaning.specs.Definition.{DefinitionTree, InputsTree}
 use Rattle.wf_top.specs.Form.{definition_of, fault_line, form_of, inputs_of}
 use Rattle.wf_top.specs.Plan.{Plan, Reads, MaySay, MayGive, said_by, within}
-use Rattle.wf_top.specs.Commands.{command_of, judged_definition, judged_inputs, plan, plan_of, run, run_definition, run_text, word}
+use Rattle.wf_top.specs.Commands.{command_of, judged_definition, judged_inputs, plan, plan_of, run, run_text, word}
 use Rattle.wf_top.specs.Ran.{Gives, Holds, IsWhole, PassesAll, Ran, RefusedDefinition, RefusedInputs}
 use Rattle.wf_top.specs.Served.{Comes, Outcome, IsSaid, Misused, Serves, Speaks, Spent, Unread, Writes, number, said_of, say, status_of, text_of}
 use Rattle.wf_top.specs.declared.form.FormFault.{FormFault}
