@@ -1,7 +1,8 @@
 #!/bin/sh
 # Times `wflow run` beside `jq -c .` on the same definition, and prints the ratio of the two. Then times the parsing of
 # texts as templates, which no command does yet, beside reading their bytes alone, with the ratio of these two, and beside
-# `jq -c .` on the same text as JSON. Then times functions on long texts beside Python's own.
+# `jq -c .` on the same text as JSON. Then times functions on long texts beside Python's own, and what templates come to, in the looks
+# of rows, beside `jq -c .` on the same rows.
 #
 #   bench/bench.sh
 #
@@ -16,8 +17,9 @@ program=$("$top/bin/program")
 export top folder program
 (cd "$top/crates/template_rows" && rt run -- parse <stdin) >"$folder/log" 2>&1 || { cat "$folder/log" >&2 && exit 1; }
 (cd "$top/crates/function_rows" && rt run <stdin) >"$folder/log" 2>&1 || { cat "$folder/log" >&2 && exit 1; }
+(cd "$top/crates/evaluation_rows" && rt run <stdin) >"$folder/log" 2>&1 || { cat "$folder/log" >&2 && exit 1; }
 python3 - <<'PROGRAM'
-import json, os, subprocess, time, urllib.parse
+import calendar, datetime, json, os, random, subprocess, time, urllib.parse
 
 top, folder, program = os.environ["top"], os.environ["folder"], os.environ["program"]
 
@@ -132,4 +134,98 @@ for name, function, arguments, own in calls:
     print("%-34s %9d %9.4f %9s %7s %5d MiB  %s" % (
         name, len(row), ours, "%.4f" % min(theirs) if own else "-", "%.1f" % (ours / min(theirs)) if own else "-",
         memory([program], once), gives if len(gives) < 30 else "%d bytes" % len(gives)))
+
+# The functions on lists and objects are timed in the same way, beside jq's whole run on the same arguments. The growth is that
+# from a tenth of the items on.
+def of_items(count):
+    given = random.Random(7)
+    some, others = ([given.randrange(10 * count) for _ in range(count)] for _ in range(2))
+    texts = ["%09d" % given.randrange(10**9) for _ in range(count)]
+    one, other = ({"k%07d" % key: mark for key in keys[:count // 2]} for mark, keys in enumerate((some, others)))
+    there = set(others)
+    return [
+        ("union of two lists of numbers", "union", [some, others], "(.[0] + .[1]) | unique", list(dict.fromkeys(some + others))),
+        ("intersection of the two", "intersection", [some, others], "map(unique) | add | group_by(.) | map(select(length > 1) | .[0])",
+            [item for item in dict.fromkeys(some) if item in there]),
+        ("union of two objects of half of them", "union", [one, other], ".[0] + .[1]", dict(sorted({**one, **other}.items()))),
+        ("sort of texts", "sort", [texts], ".[0] | sort", sorted(texts)),
+        ("range", "range", [0, count], "[range(.[0]; .[0] + .[1])]", list(range(count))),
+        ("chunk of a list by 7", "chunk", [some, 7], ".[0] as $items | [range(0; $items | length; 7) as $at | $items[$at:$at + 7]]",
+            [some[at:at + 7] for at in range(0, count, 7)]),
+    ]
+
+
+def time_of(function, arguments, wanted):
+    row = function + "\t" + json.dumps(arguments) + "\n"
+    once, often = os.path.join(folder, "once"), os.path.join(folder, "often")
+    for path, times in ((once, 1), (often, 11)):
+        with open(path, "w") as out:
+            out.write(row * times)
+    with open(once) as given:
+        gives = subprocess.run([program], stdin=given, capture_output=True, check=True, text=True).stdout.strip()
+    assert gives == json.dumps(wanted, separators=(",", ":")), function
+    return (least([program], often) - least([program], once)) / 10
+
+
+print()
+print("%-37s %6s %9s %9s %7s %7s" % ("function", "items", "wflow s", "jq s", "ratio", "growth"))
+for (name, function, arguments, query, wanted), small in zip(of_items(10**5), of_items(10**4)):
+    ours, theirs = time_of(function, arguments, wanted), least(["jq", "-c", query, file("arguments.json", arguments)])
+    growth = ours / time_of(function, small[2], small[4])
+    print("%-37s %6d %9.4f %9.4f %7.1f %7.1f" % (name, 10**5, ours, theirs, ours / theirs, growth))
+
+# The functions on time are timed on 100,000 rows, beside Python's datetime with the same JSON read and written.
+def written(args):
+    moment = datetime.datetime.strptime(args[0], "%Y-%m-%dT%H:%M:%SZ")
+    return moment.strftime("%a, %d %b %Y %H:%M:%S")
+
+
+def months_later(args):
+    moment = datetime.datetime.strptime(args[0], "%Y-%m-%dT%H:%M:%SZ")
+    month = moment.year * 12 + moment.month - 1 + args[1]
+    year, month = month // 12, month % 12 + 1
+    day = min(moment.day, calendar.monthrange(year, month)[1])
+    return moment.replace(year=year, month=month, day=day).strftime("%Y-%m-%dT%H:%M:%S") + ".0000000Z"
+
+
+moments = ["%04d-%02d-%02dT%02d:%02d:%02dZ" % (2000 + k % 7000, k % 12 + 1, k % 28 + 1, k % 24, k % 60, k * 7 % 60) for k in range(10**5)]
+timed = [
+    ("formatDateTime", [[text, "ddd, dd MMM yyyy HH:mm:ss"] for text in moments], written),
+    ("addToTime by months", [[text, k % 1000 - 500, "Month"] for k, text in enumerate(moments)], months_later),
+]
+print()
+print("%-37s %6s %9s %9s %7s" % ("function", "rows", "wflow s", "python s", "ratio"))
+for name, rows, own in timed:
+    lines = [json.dumps(args) for args in rows]
+    path = os.path.join(folder, "rows")
+    with open(path, "w") as out:
+        out.writelines(name.split()[0] + "\t" + line + "\n" for line in lines)
+    with open(path) as given:
+        gives = subprocess.run([program], stdin=given, capture_output=True, check=True, text=True).stdout.splitlines()
+    began = time.perf_counter()
+    values = [json.dumps(own(json.loads(line))) for line in lines]
+    theirs = time.perf_counter() - began
+    assert values == gives, name
+    ours = least([program], path)
+    print("%-37s %6d %9.4f %9.4f %7.2f" % (name, len(rows), ours, theirs, ours / theirs))
+
+program = os.path.join(top, "crates", "evaluation_rows", "out", "evaluation_rows")
+spaced = "@{" + " " * 38 + "1}"
+evaluated = [
+    ("`@add(item(),1)`, 100,000 times", [{"look": {"items": [1]}}] + [{"text": "@add(item(),1)"}] * 100000),
+    ("one `concat` of 4,000 arguments", [{"text": "@concat(" + ",".join("1" * 4000) + ")"}]),
+    ("2,700 accesses in a row, 1,000 times", [{"text": ["@json('{}')", 2700, "?.a"]}] * 1000),
+    ("4 MiB of 100,000 parts", [{"text": spaced * 100000}]),
+]
+print()
+print("%-34s %9s %9s %9s %7s %9s  %s" % ("rows", "bytes", "ours s", "jq s", "ratio", "memory", "the last comes to"))
+for name, rows in evaluated:
+    path = os.path.join(folder, "rows")
+    with open(path, "w") as out:
+        out.writelines(json.dumps(row) + "\n" for row in rows)
+    with open(path) as given:
+        last = subprocess.run([program], stdin=given, capture_output=True, check=True, text=True).stdout.splitlines()[-1]
+    ours, theirs = least([program], path), least(["jq", "-c", ".", path])
+    print("%-34s %9d %9.3f %9.3f %7.1f %5d MiB  %s" % (
+        name, os.path.getsize(path), ours, theirs, ours / theirs, memory([program], path), last[:40]))
 PROGRAM

@@ -11,6 +11,7 @@
 mod lists;
 mod numbers;
 mod texts;
+mod times;
 mod urls;
 
 use std::alloc::{AllocError, Global};
@@ -55,6 +56,9 @@ fn given(alloc: Global, call: &Call) -> Option<Result<Val, EvalFault>> {
         return Some(answer);
     }
     if let Some(answer) = lists::given(alloc, call.function, &call.args) {
+        return Some(answer);
+    }
+    if let Some(answer) = times::given(alloc, call.function, &call.args) {
         return Some(answer);
     }
     urls::given(alloc, call.function, &call.args)

@@ -15,15 +15,18 @@ use Rattle.wf_val.specs.declared.fault.EvalFault.{EvalFault}
 use Rattle.wf_template.specs.ExprTree.{ExprTree, ExprTrees, literal, call, member, index, no_exprs, expr_then}
 use Rattle.wf_template.specs.TemplateTree.{TemplateTree, plain, whole, parts}
 use Rattle.wf_template.specs.DataTree as inputs
+use Rattle.wf_eval.specs.declared.draw.Draw.{Draw}
 use Rattle.wf_eval.specs.declared.way.Way.{Way}
 use Rattle.wf_eval.specs.Accesses.{found, member_row, index_row}
+use Rattle.wf_eval.specs.Draws.{draw_of, made}
 use Rattle.wf_eval.specs.Looked.{named_by, told_row}
 use Rattle.wf_eval.specs.Outcomes.{Outcome, Run, go_on, then_run, turned, all_after}
 use Rattle.wf_eval.specs.Rows.{fitted, strict_row, as_text, joined_row}
 use Rattle.wf_eval.specs.TemplateValue.{text_answer, joined, piece_runs, template_value}
-use Rattle.wf_eval.specs.Told.{Told}
+use Rattle.wf_eval.specs.Timed.{timed_row}
+use Rattle.wf_eval.specs.Told.{Told, next_word}
 use Rattle.wf_eval.specs.TreeValue.{list_answer, object_answer, members_after, tree_value, tree_runs, member_runs}
-use Rattle.wf_eval.specs.Value.{chosen, if_run, stop, at_end, or_go_on, early, literal_name, called, called_by, value, runs}
+use Rattle.wf_eval.specs.Value.{chosen, if_run, stop, at_end, or_go_on, early, literal_name, drawn, called, called_by, value, runs}
 use Rattle.wf_eval.specs.Ways.{way_of}
 
 -- ---- tests
@@ -169,6 +172,10 @@ early-fits f (r ∷ rs) fit i n =
     then_run-good (r n) (λ t m. or_go_on (stop f i t) (λ k. early f rs (suc i) k) m) (fit.0 n)
     (λ t h. stop-good f i t h (λ k. early f rs (suc i) k) (early-fits f rs fit.1 (suc i)))
 
+drawn-fits : (l : Told) (d : Result Draw EvalFault) → IsFitting (drawn l d)
+drawn-fits l (Ok d) n = fitted-good (Ok (made d (next_word l n)))
+drawn-fits l (Err f) n = fault-good f
+
 called-fits : (l : Told) (f : Fun) (es : ExprTrees) (rs : List Run) → AreFitting rs → (w : Way) → IsFitting (called l f es rs w)
 called-fits l f es rs fit Way.Chosen n = if_run-fits rs fit n
 called-fits l f es rs fit Way.Early n = early-fits f rs fit 0 n
@@ -176,6 +183,9 @@ called-fits l f es rs fit Way.Joined n =
     given-good (all_after rs [] n).0 joined_row (λ ts. fitted-good (strict_row Fun.Concat (map as_text ts)))
 called-fits l f es rs fit Way.Named n = fitted-good (named_by l f (literal_name es))
 called-fits l f es rs fit Way.Told n = fitted-good (told_row l f)
+called-fits l f es rs fit Way.Timed n =
+    given-good (all_after rs [] n).0 (λ ts. fitted (timed_row f l.moment ts)) (λ ts. fitted-good (timed_row f l.moment ts))
+called-fits l f es rs fit Way.Drawn n = drawn-fits l (given (all_after rs [] n).0 (draw_of f)) (all_after rs [] n).1
 called-fits l f es rs fit Way.Strict n =
     given-good (all_after rs [] n).0 (λ ts. fitted (strict_row f ts)) (λ ts. fitted-good (strict_row f ts))
 

@@ -1,18 +1,21 @@
 -- Words are only ever drawn, and a fault is handed on.
-use Rattle.std.proofs.Common.{ℕ, suc, ◌≤◌, true, false, List, [], ◌∷◌, ◌++◌, Option, Some, None, Result, Ok, Err, refl, le_refl, le_trans}
+use Rattle.std.proofs.Common.{ℕ, suc, ◌+◌, ◌-◌, ◌^◌, ◌≤◌, arith, Bool, true, false, List, [], ◌∷◌, ◌++◌, Option, Some, None, Result, Ok, Err, refl, le_refl, le_trans}
 use Rattle.wf_val.specs.ValueTree.{ValueTree, boolean}
-use Rattle.wf_val.specs.Arguments.{Answer}
+use Rattle.std.specs.Prelude.{nat_lt, if◌then◌else◌}
+use Rattle.wf_val.specs.Arguments.{Answer, given}
 use Rattle.wf_val.specs.Function.{function_of}
 use Rattle.wf_val.specs.declared.function.Fun.{Fun}
 use Rattle.wf_val.specs.declared.fault.EvalFault.{EvalFault}
 use Rattle.wf_template.specs.ExprTree.{ExprTree, ExprTrees, literal, call, member, index, no_exprs, expr_then}
+use Rattle.wf_eval.specs.declared.draw.Draw.{Draw}
 use Rattle.wf_eval.specs.declared.way.Way.{Way}
-use Rattle.wf_eval.specs.Told.{Told}
+use Rattle.wf_eval.specs.Draws.{draw_of}
+use Rattle.wf_eval.specs.Told.{Told, raised}
 use Rattle.wf_eval.specs.Ways.{way_of}
 use Rattle.wf_eval.specs.Accesses.{index_row}
 use Rattle.wf_eval.specs.Meets.{MeetsFault}
 use Rattle.wf_eval.specs.Outcomes.{Outcome, Run, go_on, then_run, turned, all_after}
-use Rattle.wf_eval.specs.Value.{chosen, if_run, stop, or_go_on, early, called, called_by, value, runs}
+use Rattle.wf_eval.specs.Value.{chosen, if_run, stop, or_go_on, early, drawn, drawn_run, called, called_by, value, runs}
 
 abbrev pub IsGrowing : Run → Type 0
 IsGrowing r = (n : ℕ) → n ≤ (r n).1
@@ -57,12 +60,30 @@ early-grows f (r ∷ rs) grow i n =
     then_run-grows n (r n) (λ t m. or_go_on (stop f i t) (λ k. early f rs (suc i) k) m) (grow.0 n)
     (λ t m. or_go_on-grows (stop f i t) (λ k. early f rs (suc i) k) (early-grows f rs grow.1 (suc i)) m)
 
+pub raised-grows : (n : ℕ) → n ≤ raised n
+raised-grows n = go (nat_lt n (2 ^ 64 - 1))
+  where
+    go : (b : Bool) → n ≤ (if b then n + 1 else n)
+    go true = omega arith
+    go false = le_refl n
+
+pub drawn-grows : (l : Told) (d : Result Draw EvalFault) → IsGrowing (drawn l d)
+drawn-grows l (Ok d) n = raised-grows n
+drawn-grows l (Err f) n = le_refl n
+
+pub drawn_run-grows : (l : Told) (f : Fun) (rs : List Run) → AreGrowing rs → IsGrowing (drawn_run l f rs)
+drawn_run-grows l f rs grow n =
+    let all = all_after rs [] n in
+    le_trans (all_after-grows rs grow [] n) (drawn-grows l (given all.0 (draw_of f)) all.1)
+
 pub called-grows : (l : Told) (f : Fun) (es : ExprTrees) (rs : List Run) → AreGrowing rs → (w : Way) → IsGrowing (called l f es rs w)
 called-grows l f es rs grow Way.Chosen n = if_run-grows rs grow n
 called-grows l f es rs grow Way.Early n = early-grows f rs grow 0 n
 called-grows l f es rs grow Way.Joined n = all_after-grows rs grow [] n
 called-grows l f es rs grow Way.Named n = le_refl n
 called-grows l f es rs grow Way.Told n = le_refl n
+called-grows l f es rs grow Way.Timed n = all_after-grows rs grow [] n
+called-grows l f es rs grow Way.Drawn n = drawn_run-grows l f rs grow n
 called-grows l f es rs grow Way.Strict n = all_after-grows rs grow [] n
 
 pub called_by-grows : (l : Told) (name : List ℕ) (es : ExprTrees) (rs : List Run) → AreGrowing rs → (f : Option Fun) →
@@ -115,3 +136,13 @@ pub handed_if : (l : Told) (e first second : ExprTree) (es : ExprTrees) (n : ℕ
 handed_if l e first second es n f k met =
     handed (value l e n) (chosen (value l first) (value l second))
     (chosen-grows (value l first) (value l second) (value-grows l first) (value-grows l second)) f k met
+
+-- a fault among the arguments of what draws a word
+pub handed_draw : (l : Told) (g : Fun) (rs : List Run) (n : ℕ) (f : EvalFault) (k : ℕ) → MeetsFault f (all_after rs [] n) k →
+    MeetsFault f (drawn_run l g rs n) k
+handed_draw l g rs n f k met = record {
+  fault = λ not. rw (met.fault not) refl;
+  words = λ not. rw (met.fault not) (met.words not);
+  memory = λ yes. le_trans (met.memory yes)
+      (drawn-grows l (given (all_after rs [] n).0 (draw_of g)) (all_after rs [] n).1);
+}

@@ -8,4 +8,5 @@ mod TreeLoops
 mod CondLoops
 mod Fitting
 mod Local
+mod MomentsAndWords
 mod Worked

@@ -1,23 +1,28 @@
 -- Two looks that tell the same where an expression asks give it one value, and draw the same words.
-use Rattle.std.proofs.Common.{◌≡◌, ℕ, List, [], ◌∷◌, ◌++◌, Option, Some, None, Ok, option_map, refl, ap, ◌∙◌}
+use Rattle.std.proofs.Common.{◌≡◌, ℕ, List, [], ◌∷◌, ◌++◌, Option, Some, None, Ok, option_map, Result, Err, refl, sym, ap, ◌∙◌}
+use Rattle.wf_val.specs.Arguments.{given}
 use Rattle.wf_val.specs.Function.{function_of, function_name}
+use Rattle.wf_val.specs.declared.fault.EvalFault.{EvalFault}
 use Rattle.wf_val.specs.declared.function.Fun.{Fun}
 use Rattle.wf_template.specs.ExprTree.{ExprTree, ExprTrees, literal, call, member, index, no_exprs, expr_then}
 use Rattle.wf_template.specs.TemplateTree.{PieceTree, letters, part, TemplateTree, plain, whole, parts}
 use Rattle.wf_template.specs.DataTree as inputs
 use Rattle.wf_template.specs.CondTree.{CondTree, holds, all_of, any_of, not_of, compare_by, CondTrees, no_conds, cond_then}
+use Rattle.wf_eval.specs.declared.draw.Draw.{Draw}
 use Rattle.wf_eval.specs.declared.way.Way.{Way}
-use Rattle.wf_eval.specs.Told.{Told}
+use Rattle.wf_eval.specs.Draws.{draw_of, made}
+use Rattle.wf_eval.specs.Timed.{timed_row}
+use Rattle.wf_eval.specs.Told.{Told, word_of, raised}
 use Rattle.wf_eval.specs.Ways.{way_of}
-use Rattle.wf_eval.specs.Outcomes.{Run, then_run, turned, all_after}
+use Rattle.wf_eval.specs.Outcomes.{Run, then_run, turned, all_after, strictly}
 use Rattle.wf_eval.specs.Accesses.{member_row, index_row}
 use Rattle.wf_eval.specs.Looked.{or_no_value, over_view, part_in, as_number, outputs_in, body_in, workflow_value, named_row, named_by, told_row}
 use Rattle.wf_eval.specs.Rows.{fitted}
-use Rattle.wf_eval.specs.Value.{early, called, called_by, value, runs, literal_name}
+use Rattle.wf_eval.specs.Value.{early, drawn, drawn_run, called, called_by, value, runs, literal_name}
 use Rattle.wf_eval.specs.TemplateValue.{piece_value, piece_runs, joined, text_answer, template_value}
 use Rattle.wf_eval.specs.TreeValue.{members_after, list_answer, object_answer, tree_value, tree_runs, member_runs}
 use Rattle.wf_eval.specs.Truth.{negated, compared, truth, truth_of, truths_of}
-use Rattle.wf_eval.specs.Uses.{Use, names, asks, named_use, used_by, used_by_name, uses, all_uses, piece_use, piece_uses, template_uses, tree_uses, trees_uses, members_uses, cond_uses, conds_uses, Agree, AgreeAt}
+use Rattle.wf_eval.specs.Uses.{Use, names, asks, asks_words, named_use, used_by, used_by_name, uses, all_uses, piece_use, piece_uses, template_uses, tree_uses, trees_uses, members_uses, cond_uses, conds_uses, Agree, AgreeAt}
 
 pub agree-front : (l m : Told) (us vs : List Use) → AgreeAt l m (us ++ vs) → AgreeAt l m us
 agree-front l m [] vs a = tt
@@ -51,10 +56,28 @@ named_by-local : (l m : Told) (f : Fun) (k : Option (List ℕ)) → AgreeAt l m 
 named_by-local l m f None a = refl
 named_by-local l m f (Some k) a = named_row-local l m f k a.0
 
+-- the same of the seed and the place of its words
+abbrev drawn_from : List ℕ → List ℕ → Result Draw EvalFault → Run
+drawn_from seed place (Ok d) n = (fitted (Ok (made d (word_of seed place n))), raised n)
+drawn_from seed place (Err f) n = (Err f, n)
+
+drawn_is : (l : Told) (d : Result Draw EvalFault) (n : ℕ) → drawn l d n ≡ drawn_from l.seed l.place d n
+drawn_is l (Ok d) n = refl
+drawn_is l (Err f) n = refl
+
+drawn-local : (l m : Told) (d : Result Draw EvalFault) (n : ℕ) → Agree l m asks_words → drawn l d n ≡ drawn m d n
+drawn-local l m d n a =
+    drawn_is l d n ∙ (ap (λ s. drawn_from s l.place d n) a.0 ∙ (ap (λ p. drawn_from m.seed p d n) a.1 ∙ sym (drawn_is m d n)))
+
+drawn_run-local : (l m : Told) (f : Fun) (rs : List Run) → Agree l m asks_words → drawn_run l f rs ≡ drawn_run m f rs
+drawn_run-local l m f rs a = λ i n. drawn-local l m (given (all_after rs [] n).0 (draw_of f)) (all_after rs [] n).1 a i
+
 called-local : (l m : Told) (f : Fun) (es : ExprTrees) (rs : List Run) (w : Way) → AgreeAt l m (used_by es f w) →
     called l f es rs w ≡ called m f es rs w
 called-local l m f es rs Way.Named a = ap (λ o n. (fitted o, n)) (named_by-local l m f (literal_name es) a)
 called-local l m f es rs Way.Told a = ap (λ o n. (fitted o, n)) (told_row-local l m f a.0)
+called-local l m f es rs Way.Timed a = ap (λ t. strictly (λ ts. fitted (timed_row f t ts)) rs) a.0
+called-local l m f es rs Way.Drawn a = drawn_run-local l m f rs a.0
 called-local l m f es rs w a = refl
 
 called_by-local : (l m : Told) (name : List ℕ) (es : ExprTrees) (rs : List Run) (f : Option Fun) → AgreeAt l m (used_by_name es f) →

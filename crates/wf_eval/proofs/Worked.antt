@@ -275,6 +275,146 @@ lastIndexOf-is_its_own = refl
 slice-is_its_own : here (of (codes "slice") (int 1 ∷ int 1 ∷ [])) ≡ (Err (EvalFault.WrongType Fun.Slice 1), 7)
 slice-is_its_own = refl
 
+length-is_its_own : here (of (codes "length") (truth ∷ [])) ≡ (Err (EvalFault.WrongType Fun.Length 1), 7)
+length-is_its_own = refl
+
+empty-is_its_own : here (of (codes "empty") (truth ∷ [])) ≡ (Err (EvalFault.WrongType Fun.Empty 1), 7)
+empty-is_its_own = refl
+
+contains-is_its_own :
+    here (of (codes "contains") (truth ∷ truth ∷ []))
+    ≡ (Err (EvalFault.WrongType Fun.Contains 1), 7)
+contains-is_its_own = refl
+
+first-is_its_own : here (of (codes "first") (truth ∷ [])) ≡ (Err (EvalFault.WrongType Fun.First 1), 7)
+first-is_its_own = refl
+
+last-is_its_own : here (of (codes "last") (truth ∷ [])) ≡ (Err (EvalFault.WrongType Fun.Last 1), 7)
+last-is_its_own = refl
+
+take-is_its_own : here (of (codes "take") (truth ∷ truth ∷ [])) ≡ (Err (EvalFault.WrongType Fun.Take 1), 7)
+take-is_its_own = refl
+
+skip-is_its_own : here (of (codes "skip") (truth ∷ truth ∷ [])) ≡ (Err (EvalFault.WrongType Fun.Skip 1), 7)
+skip-is_its_own = refl
+
+join-is_its_own : here (of (codes "join") (truth ∷ truth ∷ [])) ≡ (Err (EvalFault.WrongType Fun.Join 1), 7)
+join-is_its_own = refl
+
+union-is_its_own : here (of (codes "union") (truth ∷ truth ∷ [])) ≡ (Err (EvalFault.WrongType Fun.Union 1), 7)
+union-is_its_own = refl
+
+intersection-is_its_own :
+    here (of (codes "intersection") (truth ∷ truth ∷ []))
+    ≡ (Err (EvalFault.WrongType Fun.Intersection 1), 7)
+intersection-is_its_own = refl
+
+range-is_its_own : here (of (codes "range") (truth ∷ truth ∷ [])) ≡ (Err (EvalFault.WrongType Fun.Range 1), 7)
+range-is_its_own = refl
+
+chunk-is_its_own : here (of (codes "chunk") (truth ∷ truth ∷ [])) ≡ (Err (EvalFault.WrongType Fun.Chunk 1), 7)
+chunk-is_its_own = refl
+
+sort-is_its_own : here (of (codes "sort") (truth ∷ [])) ≡ (Err (EvalFault.WrongType Fun.Sort 1), 7)
+sort-is_its_own = refl
+
+reverse-is_its_own : here (of (codes "reverse") (truth ∷ [])) ≡ (Err (EvalFault.WrongType Fun.Reverse 1), 7)
+reverse-is_its_own = refl
+
+addProperty-is_its_own :
+    here (of (codes "addProperty") (truth ∷ truth ∷ truth ∷ []))
+    ≡ (Err (EvalFault.WrongType Fun.AddProperty 1), 7)
+addProperty-is_its_own = refl
+
+setProperty-is_its_own :
+    here (of (codes "setProperty") (truth ∷ truth ∷ truth ∷ []))
+    ≡ (Err (EvalFault.WrongType Fun.SetProperty 1), 7)
+setProperty-is_its_own = refl
+
+removeProperty-is_its_own :
+    here (of (codes "removeProperty") (truth ∷ truth ∷ []))
+    ≡ (Err (EvalFault.WrongType Fun.RemoveProperty 1), 7)
+removeProperty-is_its_own = refl
+
+uriComponent-is_its_own :
+    here (of (codes "uriComponent") (truth ∷ []))
+    ≡ (Err (EvalFault.WrongType Fun.UriComponent 1), 7)
+uriComponent-is_its_own = refl
+
+encodeUriComponent-is_its_own :
+    here (of (codes "encodeUriComponent") (truth ∷ []))
+    ≡ (Err (EvalFault.WrongType Fun.EncodeUriComponent 1), 7)
+encodeUriComponent-is_its_own = refl
+
+uriComponentToString-is_its_own :
+    here (of (codes "uriComponentToString") (truth ∷ []))
+    ≡ (Err (EvalFault.WrongType Fun.UriComponentToString 1), 7)
+uriComponentToString-is_its_own = refl
+
+decodeUriComponent-is_its_own :
+    here (of (codes "decodeUriComponent") (truth ∷ []))
+    ≡ (Err (EvalFault.WrongType Fun.DecodeUriComponent 1), 7)
+decodeUriComponent-is_its_own = refl
+
+uriScheme-is_its_own : here (of (codes "uriScheme") (truth ∷ [])) ≡ (Err (EvalFault.WrongType Fun.UriScheme 1), 7)
+uriScheme-is_its_own = refl
+
+uriHost-is_its_own : here (of (codes "uriHost") (truth ∷ [])) ≡ (Err (EvalFault.WrongType Fun.UriHost 1), 7)
+uriHost-is_its_own = refl
+
+uriPath-is_its_own : here (of (codes "uriPath") (truth ∷ [])) ≡ (Err (EvalFault.WrongType Fun.UriPath 1), 7)
+uriPath-is_its_own = refl
+
+uriQuery-is_its_own : here (of (codes "uriQuery") (truth ∷ [])) ≡ (Err (EvalFault.WrongType Fun.UriQuery 1), 7)
+uriQuery-is_its_own = refl
+
+uriPathAndQuery-is_its_own :
+    here (of (codes "uriPathAndQuery") (truth ∷ []))
+    ≡ (Err (EvalFault.WrongType Fun.UriPathAndQuery 1), 7)
+uriPathAndQuery-is_its_own = refl
+
+uriPort-is_its_own : here (of (codes "uriPort") (truth ∷ [])) ≡ (Err (EvalFault.WrongType Fun.UriPort 1), 7)
+uriPort-is_its_own = refl
+
+base64-is_its_own : here (of (codes "base64") (truth ∷ [])) ≡ (Err (EvalFault.WrongType Fun.Base64 1), 7)
+base64-is_its_own = refl
+
+base64ToString-is_its_own :
+    here (of (codes "base64ToString") (truth ∷ []))
+    ≡ (Err (EvalFault.WrongType Fun.Base64ToString 1), 7)
+base64ToString-is_its_own = refl
+
+decodeBase64-is_its_own :
+    here (of (codes "decodeBase64") (truth ∷ []))
+    ≡ (Err (EvalFault.WrongType Fun.DecodeBase64 1), 7)
+decodeBase64-is_its_own = refl
+
+dataUri-is_its_own : here (of (codes "dataUri") (truth ∷ [])) ≡ (Err (EvalFault.WrongType Fun.DataUri 1), 7)
+dataUri-is_its_own = refl
+
+dataUriToString-is_its_own :
+    here (of (codes "dataUriToString") (truth ∷ []))
+    ≡ (Err (EvalFault.WrongType Fun.DataUriToString 1), 7)
+dataUriToString-is_its_own = refl
+
+createArray-is_its_own :
+    here (of (codes "createArray") (truth ∷ nothing ∷ []))
+    ≡ (Ok (list (trees (boolean true ∷ null ∷ []))), 7)
+createArray-is_its_own = refl
+
+array-is_its_own : here (of (codes "array") (nothing ∷ [])) ≡ (Ok (list (trees (null ∷ []))), 7)
+array-is_its_own = refl
+
+join-texts :
+    here (of (codes "join") ((of (codes "createArray") (truth ∷ nothing ∷ word (codes "x") ∷ [])) ∷ word (codes "-") ∷ []))
+    ≡ (Ok (text (codes "true--x")), 7)
+join-texts = refl
+
+join-no_text :
+    here (of (codes "join") ((of (codes "createArray") ([])) ∷ truth ∷ []))
+    ≡ (Err (EvalFault.WrongType Fun.Join 2), 7)
+join-no_text = refl
+
 concat-none : here (of (codes "concat") ([])) ≡ (Err (EvalFault.WrongType Fun.Concat 1), 7)
 concat-none = refl
 
@@ -284,14 +424,11 @@ concat-list = refl
 concat-leftmost : here (of (codes "concat") (rest_by_zero ∷ by_zero ∷ [])) ≡ (Err (EvalFault.Range Fun.Mod), 7)
 concat-leftmost = refl
 
-unbuilt : here (of (codes "guid") ([])) ≡ (Err (EvalFault.NoValue (codes "guid")), 7)
-unbuilt = refl
+guid-arguments_first : here (of (codes "guid") (by_zero ∷ [])) ≡ (Err (EvalFault.Range Fun.Div), 7)
+guid-arguments_first = refl
 
-unbuilt-arguments_first : here (of (codes "guid") (by_zero ∷ [])) ≡ (Err (EvalFault.Range Fun.Div), 7)
-unbuilt-arguments_first = refl
-
-unbuilt-counted : here (of (codes "guid") (int 1 ∷ int 2 ∷ [])) ≡ (Err (EvalFault.WrongType Fun.Guid 3), 7)
-unbuilt-counted = refl
+guid-counted : here (of (codes "guid") (int 1 ∷ int 2 ∷ [])) ≡ (Err (EvalFault.WrongType Fun.Guid 3), 7)
+guid-counted = refl
 
 unknown-arguments_first : here (of (codes "foo") (by_zero ∷ [])) ≡ (Err (EvalFault.Range Fun.Div), 7)
 unknown-arguments_first = refl

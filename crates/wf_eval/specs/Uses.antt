@@ -11,10 +11,12 @@ use Rattle.wf_eval.specs.Told.{Told}
 use Rattle.wf_eval.specs.Value.{literal_name}
 use Rattle.wf_eval.specs.Ways.{way_of}
 
--- a naming function with its name, or a function of the look alone
+-- a naming function with its name, a function of the look alone, the moment, or the seed and the place of words
 pub data Use : Type 0 where
   names : Fun → List ℕ → Use
   asks : Fun → Use
+  asks_moment : Use
+  asks_words : Use
 
 abbrev pub named_use : Fun → Option (List ℕ) → List Use
 named_use f None = []
@@ -24,6 +26,8 @@ named_use f (Some k) = names f k ∷ []
 abbrev pub used_by : ExprTrees → Fun → Way → List Use
 used_by es f Way.Named = named_use f (literal_name es)
 used_by es f Way.Told = asks f ∷ []
+used_by es f Way.Timed = asks_moment ∷ []
+used_by es f Way.Drawn = asks_words ∷ []
 used_by es f w = []
 
 abbrev pub used_by_name : ExprTrees → Option Fun → List Use
@@ -103,6 +107,8 @@ Agree l m (asks Fun.TriggerOutputs) = l.trigger ≡ m.trigger
 Agree l m (asks Fun.TriggerBody) = l.trigger ≡ m.trigger
 Agree l m (asks Fun.Workflow) = l.run_name ≡ m.run_name
 Agree l m (asks f) = Unit {0}
+Agree l m asks_moment = l.moment ≡ m.moment
+Agree l m asks_words = (l.seed ≡ m.seed) × (l.place ≡ m.place)
 
 -- where all of these are asked for
 abbrev pub AgreeAt : Told → Told → List Use → Type 0

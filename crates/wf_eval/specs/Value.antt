@@ -1,18 +1,21 @@
 -- THE VALUE OF AN EXPRESSION in a look (Workflow Definition Language, "Expressions"): its value, or the first fault from left to
 -- right, and the number of words drawn. Each value fits, or is `TooBig`.
-use Rattle.std.specs.Prelude.{ℕ, suc, true, false, List, [], ◌∷◌, length, Option, Some, None, Ok, Err}
-use Rattle.wf_val.specs.Arguments.{Answer, wrong_type, bounded}
+use Rattle.std.specs.Prelude.{ℕ, suc, true, false, List, [], ◌∷◌, length, Option, Some, None, Result, Ok, Err}
+use Rattle.wf_val.specs.Arguments.{Answer, given, wrong_type, bounded}
 use Rattle.wf_val.specs.Function.{function_of}
 use Rattle.wf_val.specs.ValueTree.{ValueTree, null, boolean, text}
 use Rattle.wf_val.specs.declared.fault.EvalFault.{EvalFault}
 use Rattle.wf_val.specs.declared.function.Fun.{Fun}
 use Rattle.wf_template.specs.ExprTree.{ExprTree, ExprTrees, literal, call, member, index, no_exprs, expr_then}
+use Rattle.wf_eval.specs.declared.draw.Draw.{Draw}
 use Rattle.wf_eval.specs.declared.way.Way.{Way}
 use Rattle.wf_eval.specs.Accesses.{member_row, index_row}
+use Rattle.wf_eval.specs.Draws.{draw_of, made}
 use Rattle.wf_eval.specs.Looked.{named_by, told_row}
-use Rattle.wf_eval.specs.Outcomes.{Run, then_run, turned, strictly}
+use Rattle.wf_eval.specs.Outcomes.{Run, then_run, turned, all_after, strictly}
 use Rattle.wf_eval.specs.Rows.{fitted, strict_row, joined_row}
-use Rattle.wf_eval.specs.Told.{Told}
+use Rattle.wf_eval.specs.Timed.{timed_row}
+use Rattle.wf_eval.specs.Told.{Told, raised, next_word}
 use Rattle.wf_eval.specs.Ways.{way_of}
 
 -- ---- functions that leave an argument without a value
@@ -52,6 +55,17 @@ abbrev pub early : Fun → List Run → ℕ → Run
 early f [] i n = (Ok (at_end f), n)
 early f (r ∷ rs) i n = then_run (r n) (λ t m. or_go_on (stop f i t) (λ k. early f rs (suc i) k) m)
 
+-- ---- functions that draw a word
+
+-- what is made of the next word, where there is something to make; else none is drawn
+abbrev pub drawn : Told → Result Draw EvalFault → Run
+drawn l (Ok d) n = (fitted (Ok (made d (next_word l n))), raised n)
+drawn l (Err f) n = (Err f, n)
+
+-- the arguments come first, and so do the words that they draw
+abbrev pub drawn_run : Told → Fun → List Run → Run
+drawn_run l f rs n = let all = all_after rs [] n in drawn l (given all.0 (draw_of f)) all.1
+
 -- ---- calls
 
 -- the name that a naming function has as its literal
@@ -66,6 +80,8 @@ called l f es rs Way.Early n = early f rs 0 n
 called l f es rs Way.Joined n = strictly joined_row rs n
 called l f es rs Way.Named n = (fitted (named_by l f (literal_name es)), n)
 called l f es rs Way.Told n = (fitted (told_row l f), n)
+called l f es rs Way.Timed n = strictly (λ ts. fitted (timed_row f l.moment ts)) rs n
+called l f es rs Way.Drawn n = drawn_run l f rs n
 called l f es rs Way.Strict n = strictly (λ ts. fitted (strict_row f ts)) rs n
 
 -- a call by name, which is without letter case; of no function the arguments still come first

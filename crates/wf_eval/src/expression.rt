@@ -9,14 +9,16 @@ ghost use Rattle.wf_eval.specs.Meets.{Meets};
 ghost use Rattle.wf_eval.specs.Outcomes.{all_after, strictly};
 ghost use Rattle.wf_eval.specs.Rows.{fitted, joined_row};
 ghost use Rattle.wf_eval.specs.Seen.{args_tree, accessed_run};
-ghost use Rattle.wf_eval.specs.Value.{value, runs, called, called_by, if_run, early, stop, at_end};
+ghost use Rattle.wf_eval.specs.Value.{value, runs, called, called_by, if_run, early, stop, at_end, drawn, drawn_run};
 ghost use Rattle.wf_eval.specs.Ways.{way_of};
 
 use crate::accesses::{index_of, member_of};
+use crate::draw::{Draw, draw_of, made};
 use crate::look::Look;
 use crate::measured::{Measured, as_text};
 use crate::named::{named_by, told_row};
 use crate::rows::strict_row;
+use crate::timed::timed_row;
 use crate::way::{Way, way_of};
 use std::alloc::Global;
 use wf_template::{Access, Expr, Start, chain_of};
@@ -124,11 +126,26 @@ fn eval_known<L: Look>(
         Way::Joined => eval_joined(alloc, args, look),
         Way::Named => fitted(named_by(alloc, look, function, args)),
         Way::Told => fitted(told_row(alloc, look, function)),
+        Way::Timed => {
+            let values = eval_all(alloc, args, look)?;
+            fitted(timed_row(alloc, function, look.moment(), &values))
+        }
+        Way::Drawn => eval_drawn(alloc, function, args, look),
         Way::Strict => {
             let values = eval_all(alloc, args, look)?;
             fitted(strict_row(alloc, function, &values))
         }
     }
+}
+
+// What is made of the next word.
+fn drawn<L: Look>(alloc: Global, draw: Draw, look: &mut L) -> Result<Val, EvalFault>
+    ensures value { Meets (seen result) (drawn (L.told look.old) (Ok draw) (L.drawn look.old)) (L.drawn look.new) }
+    ensures same { L.told look.new ≡ L.told look.old }
+    ensures held { L.held look.new ≡ L.held look.old }
+{
+    let word = look.word();
+    bounded(made(alloc, draw, &word)?)
 }
 
 // A value, where it fits.
@@ -155,6 +172,26 @@ fn eval_all<L: Look>(alloc: Global, args: &[Expr], look: &mut L) -> Result<Vals,
         values.push(eval_expr(alloc, arg, look)?)?;
     }
     Ok(values)
+}
+
+// What is made of the next word, which is drawn once the values of all pass.
+#[cycle(eval)]
+fn eval_drawn<L: Look>(
+    alloc: Global,
+    function: Fun,
+    args: &[Expr],
+    look: &mut L,
+) -> Result<Val, EvalFault>
+    ensures value { let l = L.told look.old in
+        Meets (seen result)
+        (drawn_run l function (runs l (args_tree args.now)) (L.drawn look.old))
+        (L.drawn look.new) }
+    ensures same { L.told look.new ≡ L.told look.old }
+    ensures held { L.held look.new ≡ L.held look.old }
+{
+    let values = eval_all(alloc, args, look)?;
+    let draw = draw_of(function, &values)?;
+    drawn(alloc, draw, look)
 }
 
 // The texts of all in a row, which is `concat`. No value is kept once its text is there, and no more text than fits.

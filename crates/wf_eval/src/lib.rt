@@ -20,6 +20,7 @@
 
 mod accesses;
 mod cond;
+mod draw;
 mod expression;
 mod laws;
 mod look;
@@ -27,6 +28,7 @@ mod measured;
 mod named;
 mod rows;
 mod template;
+mod timed;
 mod tree;
 mod way;
 mod word;

@@ -41,7 +41,7 @@ joined-behind p x ps h =
     ap (λ l. joined p (x ∷ l)) h.are ∙ ap (λ l. x ++ l) (append_assoc p h.first (flat_map (λ y. p ++ y) h.others))
     ∙ ap (λ l. x ++ (p ++ joined p l)) (sym h.are)
 
-joined-onto : (p : List ℕ) (b : ℕ) (ps : List (List ℕ)) → Some_pieces ps → joined p (onto_first b ps) ≡ b ∷ joined p ps
+pub joined-onto : (p : List ℕ) (b : ℕ) (ps : List (List ℕ)) → Some_pieces ps → joined p (onto_first b ps) ≡ b ∷ joined p ps
 joined-onto p b ps h = ap (λ l. joined p (onto_first b l)) h.are ∙ ap (λ l. b ∷ joined p l) (sym h.are)
 
 -- a text that begins with the separator is the separator and what is behind it

@@ -5,7 +5,9 @@ use Rattle.wf_template.specs.ChainSeen.{start_tree, chain_tree}
 use Rattle.wf_template.specs.ExprCounts.{expr_count}
 use Rattle.wf_template.specs.ExprSeen.{expr_tree}
 use Rattle.wf_template.proofs.ChainLemmas.{key_count, base_le_built}
-use Rattle.wf_eval.proofs.Grow.{value-grows}
+use Rattle.wf_eval.specs.Seen.{args_tree}
+use Rattle.wf_eval.specs.Value.{runs}
+use Rattle.wf_eval.proofs.Grow.{value-grows, handed_draw}
 use Rattle.wf_eval.proofs.Chains.{fault_of_start, fault_of_access, start_value, access_value, through, keys_count, keys_count-snoc, keys_le_built}
 use Rattle.wf_eval.proofs.JoinedLemmas.{fault_texts, memory_texts, texts_end, some-argument}
 use Rattle.wf_eval.proofs.Loops.{count-item, fault_all, memory_all, fault_early, early_stops, early_goes_on, early_ends, fault_if, if-few}
@@ -55,6 +57,13 @@ eval_all-returns-in_err-push-clause-values g t c =
     let p = err_from_is_err_and c.from_residual-in_err-push.result c.from_residual-in_err-push.ensures.1 in
     rw (p.1, p.2) (memory_all _ _ _ _ _ _ _ _ _ c.loop-arg-test.true c.arg-item.is c.loop-arg.invariant.same c.loop-arg.invariant.so_far
     c.in_ok-eval_expr.ensures.value.1)
+
+pub eval_drawn-returns-in_err-values-clause-value : goal.eval_drawn-returns-in_err-values-clause-value
+eval_drawn-returns-in_err-values-clause-value g t c =
+    let p = err_from_is_err_and c.from_residual.result c.from_residual.ensures.1 in
+    let l = g.L.Look.told c.args.look.now in
+    rw (p.1, p.2) (handed_draw l c.args.function (runs l (args_tree c.args.args.now)) (g.L.Look.drawn c.args.look.now) _ _
+    c.in_err-values.ensures.values)
 
 pub eval_early-returns-in_err-value-clause-value : goal.eval_early-returns-in_err-value-clause-value
 eval_early-returns-in_err-value-clause-value g t c =

@@ -55,19 +55,22 @@ invariant-eval_early-loop-arg g l = record {
 }
 
 abbrev pub decreases-eval_expr : goal.decreases-eval_expr
-decreases-eval_expr g l = 8 * expr_count (expr_tree l.e.now) + 5
+decreases-eval_expr g l = 8 * expr_count (expr_tree l.e.now) + 6
 
 abbrev pub decreases-eval_start : goal.decreases-eval_start
-decreases-eval_start g l = 8 * expr_count (start_tree l.start) + 4
+decreases-eval_start g l = 8 * expr_count (start_tree l.start) + 5
 
 abbrev pub decreases-eval_access : goal.decreases-eval_access
 decreases-eval_access g l = 8 * key_count l.access + 4
 
 abbrev pub decreases-eval_call : goal.decreases-eval_call
-decreases-eval_call g l = 8 * exprs_count (args_tree l.args.now) + 3
+decreases-eval_call g l = 8 * exprs_count (args_tree l.args.now) + 4
 
 abbrev pub decreases-eval_known : goal.decreases-eval_known
-decreases-eval_known g l = 8 * exprs_count (args_tree l.args.now) + 2
+decreases-eval_known g l = 8 * exprs_count (args_tree l.args.now) + 3
+
+abbrev pub decreases-eval_drawn : goal.decreases-eval_drawn
+decreases-eval_drawn g l = 8 * exprs_count (args_tree l.args.now) + 2
 
 abbrev pub decreases-eval_all : goal.decreases-eval_all
 decreases-eval_all g l = 8 * exprs_count (args_tree l.args.now) + 1

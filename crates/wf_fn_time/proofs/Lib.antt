@@ -1,0 +1,13 @@
+pub mod CalendarLemmas
+pub mod ReadingLemmas
+pub mod PatternLemmas
+pub mod LawLemmas
+pub mod RoundTripLemmas
+pub mod RowValues
+pub mod NamesRows
+pub mod ReadingRows
+pub mod PatternRows
+pub mod FormattingRows
+pub mod PlacesRows
+pub mod MovingRows
+pub mod DifferenceRows

@@ -1,0 +1,13 @@
+pub mod Calendar
+pub mod Moments
+pub mod Reading
+pub mod Clock
+pub mod Names
+pub mod Pattern
+pub mod Printing
+pub mod Times
+pub mod Formatting
+pub mod Places
+pub mod Moving
+pub mod Difference
+pub mod Laws
