@@ -4,8 +4,9 @@
 //!
 //! - `look`: an object, which is what the rows behind it see until the next look. It may have `parameters`,
 //!   `variables`, `views`, `results`, `named` (items by the names of loops) and `indexes`, each an object of values by
-//!   name; `items`, a list with the nearest first; `trigger` and `own`, each a value; and the texts `run`, `seed` and
-//!   `place`. What it lacks isn't there. The line `look` answers it.
+//!   name; `items`, a list with the nearest first; `trigger` and `own`, each a value; `moment`, in ticks of 100 ns since
+//!   0001-01-01T00:00:00; and the texts `run`, `seed` and `place`. What it lacks isn't there, or 0. The line `look`
+//!   answers it.
 //! - `text`: a template, as a text or as a list of texts in which a number says how often the text behind it stands.
 //! - `tree`: a value whose texts are templates.
 //! - `condition`: a condition.

@@ -1,5 +1,5 @@
 //! A look made from data.
-ghost use Rattle.std.specs.Prelude.{◌≡◌, [], pos, IfOk, option_map};
+ghost use Rattle.std.specs.Prelude.{◌≡◌, [], IfOk, option_map};
 ghost use Rattle.wf_val.specs.Seen.{tree};
 ghost use Rattle.evaluation_rows.specs.Table.{as_index};
 
@@ -19,6 +19,7 @@ pub(crate) struct Table {
     pub(crate) named: Fields,
     pub(crate) indexes: Fields,
     pub(crate) own: Option<Val>,
+    pub(crate) moment: i64,
     pub(crate) run: Text,
     pub(crate) seed: Text,
     pub(crate) place: Text,
@@ -47,6 +48,13 @@ fn text_in(alloc: Global, data: &mut Fields, name: &str) -> Result<Text, AllocEr
     }
 }
 
+fn number_in(alloc: Global, data: &mut Fields, name: &str) -> Result<i64, AllocError> {
+    match data.remove(&Text::of(alloc, name)?) {
+        Some(Val::Int(number)) => Ok(number),
+        _ => Ok(0),
+    }
+}
+
 // The trigger of a run that was started by none.
 fn no_trigger(alloc: Global) -> Result<Val, AllocError> {
     let mut members = Fields::new(alloc);
@@ -68,6 +76,7 @@ impl Table {
             named: Fields::new(alloc),
             indexes: Fields::new(alloc),
             own: None,
+            moment: 0,
             run: Text::from_string(String::new(alloc)),
             seed: Text::from_string(String::new(alloc)),
             place: Text::from_string(String::new(alloc)),
@@ -90,6 +99,7 @@ impl Table {
     fn take_single(&mut self, alloc: Global, data: &mut Fields) -> Result<(), AllocError> {
         self.items = list_in(alloc, data, "items")?;
         self.own = data.remove(&Text::of(alloc, "own")?);
+        self.moment = number_in(alloc, data, "moment")?;
         self.run = text_in(alloc, data, "run")?;
         self.seed = text_in(alloc, data, "seed")?;
         self.place = text_in(alloc, data, "place")?;
@@ -149,7 +159,7 @@ impl Look for Table {
       item_of = λ k. value_of k s.named;
       index_of = λ k. as_index (value_of k s.indexes);
       own = option_map tree s.own;
-      moment = pos 0;
+      moment = s.moment;
       run_name = s.run;
       seed = s.seed;
       place = s.place;
@@ -199,7 +209,7 @@ impl Look for Table {
     }
 
     fn moment(&self) -> i64 {
-        0
+        self.moment
     }
 
     fn run_name(&self) -> &Text {
