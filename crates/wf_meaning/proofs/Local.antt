@@ -7,7 +7,7 @@ use Rattle.wf_layers.specs.Address.{Table, address, SeenIn}
 use Rattle.wf_layers.specs.Source.{Sound, Agrees}
 use Rattle.wf_layers.specs.Laws.{IsInstance}
 use Rattle.wf_layers.proofs.Basics.{two, same_self, and_in}
-use Rattle.wf_eval.specs.Uses.{Use, names, asks, tree_uses, Agree, AgreeAt}
+use Rattle.wf_eval.specs.Uses.{Use, names, asks, asks_moment, asks_words, tree_uses, Agree, AgreeAt}
 use Rattle.wf_eval.specs.Told.{Told}
 use Rattle.wf_eval.specs.TreeValue.{tree_value}
 use Rattle.wf_template.specs.DataTree.{DataTree}
@@ -52,6 +52,8 @@ module _ (values : ValuesAreLocal) (inputs : InputsTree) (actions : List ActionT
     agree_one (asks Fun.TriggerBody) e = refl
     agree_one (asks Fun.Workflow) e = refl
     agree_one (asks f) e = tt
+    agree_one asks_moment e = refl
+    agree_one asks_words e = (refl, refl)
 
     agree_all : (us : List Use) → list_all (use_before actions n) us ≡ true → AgreeAt (told_at inputs actions name t) (told_at inputs actions name u) us
     agree_all [] e = tt

@@ -1,18 +1,15 @@
 -- Worked values of the definitions: what is met, when actions end, how a graph ends, and what is recorded.
-use Rattle.std.proofs.Common.{◌≡◌, ℕ, List, [], ◌∷◌, true, false, map, refl}
+use Rattle.std.proofs.Common.{◌≡◌, [], ◌∷◌, true, false, map, refl}
 use Rattle.std.specs.Prelude.{codes}
 use Rattle.wf_val.specs.ValueTree.{null, boolean, text, object, members, no_members, member_then}
 use Rattle.wf_val.specs.declared.fault.EvalFault.{EvalFault}
 use Rattle.wf_val.specs.declared.function.Fun.{Fun}
 use Rattle.wf_json.specs.FaultText.{fault_text}
 use Rattle.wf_layers.specs.Definition.{Succeeded, Failed, Skipped, TimedOut, Cancelled}
-use Rattle.wf_layers.specs.Address.{address}
-use Rattle.wf_meaning.specs.Definition.{ActionTree}
 use Rattle.wf_meaning.specs.Flat.{composed, faulted, skipped}
 use Rattle.wf_meaning.specs.Look.{untriggered, view_of}
 use Rattle.wf_meaning.specs.Meaning.{meaning, rows_of, table_of}
 use Rattle.wf_meaning.specs.Names.{is_before, names_before}
-use Rattle.wf_meaning.specs.Record.{Row}
 use Rattle.wf_meaning.specs.Rounds.{all_end, depth_of, is_waiting}
 use Rattle.wf_meaning.specs.Status.{graph_status}
 use Rattle.wf_meaning.specs.Worked.{action, apart, asking, chain, failing, four, joined, loop, met_at, need, relay, renamed, single, statuses}

@@ -1,16 +1,15 @@
 -- The table of what comes before what, row by row.
 use Rattle.std.specs.declared.alloc.Global.{Global}
-use Rattle.std.proofs.Common.{◌≡◌, ◌⊎◌, ◌+◌, ℕ, zero, suc, ◌<◌, ◌≤◌, Bool, true, false, ◌||◌, ◌&&◌, List, [], ◌∷◌, length, set, replicate, Option, Some, None, is_some, slice_get, inl, inr, ⊎_elim, refl, sym, ap, ◌∙◌, subst, arith, nat_eq, eqb-true, eq-eqb, Vec, true≢false}
+use Rattle.std.proofs.Common.{◌≡◌, ◌+◌, ℕ, zero, suc, ◌<◌, Bool, true, false, ◌||◌, List, [], ◌∷◌, length, set, replicate, Option, Some, None, is_some, slice_get, ⊎_elim, refl, sym, ap, ◌∙◌, subst, arith, nat_eq, eqb-true, eq-eqb, Vec, true≢false}
 use Rattle.std.specs.List.{list_all, list_any}
-use Rattle.wf_layers.specs.Definition.{Need, Names}
+use Rattle.wf_layers.specs.Definition.{Need}
 use Rattle.wf_layers.proofs.Basics.{two, and_in}
 use Rattle.wf_meaning.specs.Definition.{ActionTree}
 use Rattle.wf_meaning.specs.Marks.{is_marked, is_ready}
 use Rattle.wf_meaning.specs.Names.{any_need, before_within, is_before}
 use Rattle.wf_meaning.specs.Rounds.{waits_for, is_waiting, all_end}
-use Rattle.wf_meaning.proofs.Marks.{marked_before, is_within}
 use Rattle.wf_meaning.proofs.Waiting.{or_none, ends}
-use Rattle.wf_walk.specs.Before.{row_of, with_mark, joined_from, with_before, all_before, are_marked, IsTable}
+use Rattle.wf_walk.specs.Before.{row_of, with_mark, joined_from, with_before, all_before, are_marked}
 
 -- ---- marks
 

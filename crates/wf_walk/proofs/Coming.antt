@@ -1,7 +1,7 @@
 -- What an evaluation that meets an outcome comes to.
-use Rattle.std.proofs.Common.{◌≡◌, ℕ, Ok, Err}
+use Rattle.std.proofs.Common.{ℕ, Ok, Err}
 use Rattle.wf_val.specs.Arguments.{Answer}
-use Rattle.wf_eval.specs.Meets.{Meets, MeetsFault}
+use Rattle.wf_eval.specs.Meets.{Meets}
 use Rattle.wf_eval.specs.Outcomes.{Outcome}
 use Rattle.wf_walk.specs.Seen.{ComesTo}
 

@@ -1,5 +1,5 @@
 -- Where all actions end and no action that isn't marked is ready, all are marked.
-use Rattle.std.proofs.Common.{◌≡◌, ℕ, ◌<◌, true, Bool, List, length, sym, ◌∙◌, arith, eqb-true}
+use Rattle.std.proofs.Common.{◌≡◌, ℕ, ◌<◌, true, Bool, List, length, sym, ◌∙◌, eqb-true}
 use Rattle.wf_meaning.specs.Definition.{ActionTree}
 use Rattle.wf_meaning.specs.Marks.{is_marked}
 use Rattle.wf_meaning.specs.Rounds.{all_end}

@@ -1,13 +1,13 @@
 -- What the inputs ask for by name, tested call by call.
 use Rattle.std.specs.declared.alloc.Global.{Global}
-use Rattle.std.proofs.Common.{◌≡◌, ℕ, zero, suc, ◌+◌, ◌<◌, ◌≤◌, Bool, true, false, ◌&&◌, List, [], ◌∷◌, ◌++◌, length, Option, Some, None, slice_get, refl, sym, ap, ◌∙◌, arith, bytes_eq, if◌then◌else◌, Vec}
+use Rattle.std.proofs.Common.{◌≡◌, ℕ, suc, ◌+◌, ◌<◌, ◌≤◌, Bool, true, false, ◌&&◌, List, [], ◌∷◌, ◌++◌, length, Option, Some, None, slice_get, refl, sym, ap, ◌∙◌, arith, bytes_eq, if◌then◌else◌, Vec}
 use Rattle.std.specs.List.{list_all}
 use Rattle.wf_val.specs.Function.{function_of}
 use Rattle.wf_val.specs.declared.function.Fun.{Fun}
 use Rattle.wf_template.specs.ExprTree.{ExprTree, ExprTrees, literal, call, member, index, no_exprs, expr_then}
 use Rattle.wf_template.specs.TemplateTree.{PieceTree, letters, part, TemplateTree, plain, whole, parts}
 use Rattle.wf_template.specs.DataTree as inputs
-use Rattle.wf_eval.specs.Uses.{Use, names, used_by, used_by_name, named_use, uses, all_uses, piece_use, piece_uses, template_uses, tree_uses, trees_uses, members_uses}
+use Rattle.wf_eval.specs.Uses.{names, used_by, used_by_name, named_use, uses, all_uses, piece_use, piece_uses, template_uses, tree_uses, trees_uses, members_uses}
 use Rattle.wf_eval.specs.Value.{literal_name}
 use Rattle.wf_eval.specs.Ways.{way_of}
 use Rattle.wf_meaning.specs.Definition.{ActionTree}

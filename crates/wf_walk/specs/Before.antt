@@ -1,6 +1,6 @@
 -- A table of which actions come before which.
 use Rattle.std.specs.declared.alloc.Global.{Global}
-use Rattle.std.specs.Prelude.{◌≡◌, ℕ, suc, ◌<◌, Bool, true, false, ◌||◌, List, [], ◌∷◌, Option, None, Some, Vec, if◌then◌else◌, length, set, nat_eq, slice_get}
+use Rattle.std.specs.Prelude.{◌≡◌, ℕ, suc, ◌<◌, Bool, true, ◌||◌, List, [], ◌∷◌, Option, None, Some, Vec, if◌then◌else◌, length, set, nat_eq, slice_get}
 use Rattle.std.specs.List.{list_any}
 use Rattle.wf_layers.specs.Definition.{Need}
 use Rattle.wf_meaning.specs.Definition.{ActionTree}

@@ -64,7 +64,11 @@ fn view_of(alloc: Global, name: &Text, row: &Row) -> Result<Val, AllocError>
     Ok(Val::Obj(fields))
 }
 
-fn view_in(alloc: Global, name: &Text, found: Option<&Option<Row>>) -> Result<Option<Val>, AllocError>
+fn view_in(
+    alloc: Global,
+    name: &Text,
+    found: Option<&Option<Row>>,
+) -> Result<Option<Val>, AllocError>
     ensures { IfOk result (λ v. option_map tree v ≡ option_map (view_of name.now) (known_row (option_map (λ r. r.now) found.entry))) }
 {
     match found {

@@ -55,7 +55,11 @@ fn is_failing(rows: &[Option<Row>], place: usize, fails: &[bool], action: &Actio
 }
 
 // Which actions fail the graph, where they are judged.
-fn fails_of(alloc: Global, actions: &[Action], rows: &[Option<Row>]) -> Result<Vec<bool>, AllocError>
+fn fails_of(
+    alloc: Global,
+    actions: &[Action],
+    rows: &[Option<Row>],
+) -> Result<Vec<bool>, AllocError>
     requires { all_end (map action_tree actions.now) ≡ true }
     ensures { IfOk result (λ fails. AreFails (map action_tree actions.now) (known_of rows.now) fails.items) }
 {
@@ -115,7 +119,11 @@ fn status_of(failed: bool) -> Status
 }
 
 /// The status of a graph: Failed where an action that no `runAfter` names failed, or was Skipped after one that failed.
-pub fn graph_status(alloc: Global, actions: &[Action], rows: &[Option<Row>]) -> Result<Status, AllocError>
+pub fn graph_status(
+    alloc: Global,
+    actions: &[Action],
+    rows: &[Option<Row>],
+) -> Result<Status, AllocError>
     requires { all_end (map action_tree actions.now) ≡ true }
     ensures { IfOk result (λ status. status_tree status ≡ graph_status (map action_tree actions.now) (known_of rows.now)) }
 {

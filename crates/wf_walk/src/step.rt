@@ -5,10 +5,8 @@ ghost use Rattle.wf_layers.specs.Address.{address};
 ghost use Rattle.wf_layers.specs.Source.{is_listed};
 ghost use Rattle.wf_meaning.specs.Meaning.{is_met, needs_met, row_in};
 ghost use Rattle.wf_meaning.specs.Flat.{skipped, composed, faulted, ended};
-
 ghost use Rattle.wf_walk.specs.Seen.{action_tree, given_tree, known_of, known_row, need_tree, row_tree, status_tree};
 ghost use Rattle.std.specs.Prelude.{option_map};
-
 ghost use Rattle.wf_val.specs.Arguments.{Answer};
 ghost use Rattle.wf_walk.specs.Seen.{ComesTo, named_row};
 ghost use Rattle.wf_val.specs.Arguments.{seen};
@@ -115,7 +113,13 @@ fn row_of(alloc: Global, name: &Text, come_to: Result<Val, EvalFault>) -> Result
 
 /// The row of an action, from the rows of those that have ended.
 #[tactic(auto, using(crate::proofs::Coming::comes_to))]
-pub fn row_in(alloc: Global, given: &Given, actions: &[Action], rows: &[Option<Row>], action: &Action) -> Result<Row, AllocError>
+pub fn row_in(
+    alloc: Global,
+    given: &Given,
+    actions: &[Action],
+    rows: &[Option<Row>],
+    action: &Action,
+) -> Result<Row, AllocError>
     ensures row { IfOk result (λ row. row_tree row ≡ row_in (given_tree given.now) (map action_tree actions.now) (known_of rows.now) (action_tree action.now)) }
     ensures name { IfOk result (λ row. row.name ≡ action.now.name) }
 {
@@ -132,5 +136,9 @@ pub fn row_in(alloc: Global, given: &Given, actions: &[Action], rows: &[Option<R
         trigger: &given.trigger,
         drawn: 0,
     };
-    row_of(alloc, &action.name, eval_tree(alloc, &action.inputs, &mut look))
+    row_of(
+        alloc,
+        &action.name,
+        eval_tree(alloc, &action.inputs, &mut look),
+    )
 }

@@ -1,4 +1,4 @@
-use Rattle.std.proofs.Common.{◌≡◌, map, rules}
+use Rattle.std.proofs.Common.{◌≡◌, map}
 use Rattle.wf_meaning.specs.Meaning.{meaning, rows_of, table_of}
 use Rattle.wf_meaning.specs.Status.{graph_status}
 use Rattle.wf_walk.specs.Seen.{action_tree, given_tree, named_row, status_tree}

@@ -1,4 +1,4 @@
-use Rattle.std.proofs.Common.{◌≡◌, false, List, Bool, length, map, replicate, ap}
+use Rattle.std.proofs.Common.{◌≡◌, false, length, map, replicate, ap}
 use Rattle.wf_walk.specs.Before.{all_before}
 use Rattle.wf_walk.specs.Seen.{need_tree}
 use Rattle.wf_walk.proofs.before.before_of.Goals as goal

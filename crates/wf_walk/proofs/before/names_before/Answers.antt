@@ -1,4 +1,4 @@
-use Rattle.std.proofs.Common.{map, ◌∙◌, rules, ◌≡◌, List, Vec, Bool}
+use Rattle.std.proofs.Common.{map, ◌∙◌}
 use Rattle.wf_walk.specs.Seen.{action_tree}
 use Rattle.wf_walk.proofs.NamesLemmas.{names_same}
 use Rattle.wf_walk.proofs.before.names_before.Goals as goal

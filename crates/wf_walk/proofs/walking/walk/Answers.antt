@@ -1,4 +1,4 @@
-use Rattle.std.proofs.Common.{◌≡◌, map, ◌∙◌}
+use Rattle.std.proofs.Common.{map, ◌∙◌}
 use Rattle.wf_meaning.specs.Meaning.{table_of}
 use Rattle.wf_walk.specs.Seen.{action_tree, given_tree, known_of}
 use Rattle.wf_walk.proofs.Kept.{rows_are, known_is}
