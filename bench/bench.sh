@@ -13,15 +13,15 @@ top=$(CDPATH='' cd -P -- "$(dirname -- "$0")/.." && pwd -P)
 command -v jq >/dev/null || { apt-get update -qq && apt-get install -y -qq jq; } >&2
 folder=$(mktemp -d)
 trap 'rm -rf "$folder"' EXIT
-program=$("$top/bin/program")
-export top folder program
+wflow=$("$top/bin/program")
+export top folder wflow
 (cd "$top/crates/template_rows" && rt run -- parse <stdin) >"$folder/log" 2>&1 || { cat "$folder/log" >&2 && exit 1; }
 (cd "$top/crates/function_rows" && rt run <stdin) >"$folder/log" 2>&1 || { cat "$folder/log" >&2 && exit 1; }
 (cd "$top/crates/evaluation_rows" && rt run <stdin) >"$folder/log" 2>&1 || { cat "$folder/log" >&2 && exit 1; }
 python3 - <<'PROGRAM'
 import calendar, datetime, json, os, random, subprocess, time, urllib.parse
 
-top, folder, program = os.environ["top"], os.environ["folder"], os.environ["program"]
+top, folder, program = os.environ["top"], os.environ["folder"], os.environ["wflow"]
 
 
 def file(name, value):
