@@ -114,9 +114,8 @@ calls = [
     ("encodeUriComponent of letters", "encodeUriComponent", ["a" * million], lambda text: urllib.parse.quote(text, safe="")),
     ("encodeUriComponent of blanks", "encodeUriComponent", [" " * 340000], lambda text: urllib.parse.quote(text, safe="")),
 ]
-print()
-print("%-34s %9s %9s %9s %7s %9s  %s" % ("function", "bytes", "wflow s", "python s", "ratio", "memory", "gives"))
-for name, function, arguments, own in calls:
+# The row of a call, a file that has it once, what it gives, and its time: that of eleven rows less that of one, a tenth of it.
+def timed(function, arguments):
     row = function + "\t" + json.dumps(arguments) + "\n"
     once, often = os.path.join(folder, "once"), os.path.join(folder, "often")
     for path, times in ((once, 1), (often, 11)):
@@ -124,7 +123,13 @@ for name, function, arguments, own in calls:
             out.write(row * times)
     with open(once) as given:
         gives = subprocess.run([program], stdin=given, capture_output=True, check=True, text=True).stdout.strip()
-    ours = (least([program], often) - least([program], once)) / 10
+    return row, once, gives, (least([program], often) - least([program], once)) / 10
+
+
+print()
+print("%-34s %9s %9s %9s %7s %9s  %s" % ("function", "bytes", "wflow s", "python s", "ratio", "memory", "gives"))
+for name, function, arguments, own in calls:
+    row, once, gives, ours = timed(function, arguments)
     theirs = []
     for _ in range(5):
         began = time.perf_counter()
@@ -156,15 +161,9 @@ def of_items(count):
 
 
 def time_of(function, arguments, wanted):
-    row = function + "\t" + json.dumps(arguments) + "\n"
-    once, often = os.path.join(folder, "once"), os.path.join(folder, "often")
-    for path, times in ((once, 1), (often, 11)):
-        with open(path, "w") as out:
-            out.write(row * times)
-    with open(once) as given:
-        gives = subprocess.run([program], stdin=given, capture_output=True, check=True, text=True).stdout.strip()
+    _, _, gives, ours = timed(function, arguments)
     assert gives == json.dumps(wanted, separators=(",", ":")), function
-    return (least([program], often) - least([program], once)) / 10
+    return ours
 
 
 print()
