@@ -1,5 +1,5 @@
 -- Where there are two parts or more, there isn't just one.
-use Rattle.std.proofs.Common.{◌≡◌, ◌≤◌, ℕ, List, [], ◌∷◌, length, map, Some, false, refl, ap, arith}
+use Rattle.std.proofs.Common.{◌≡◌, ◌≤◌, ℕ, List, [], ◌∷◌, length, map, Some, false, ap, arith}
 use Rattle.wf_val.specs.Seen.{tree, member}
 use Rattle.wf_val.specs.ValueTree.{ValueTree, list, trees, Member, members}
 use Rattle.wf_val.specs.declared.val.Val.{Val}

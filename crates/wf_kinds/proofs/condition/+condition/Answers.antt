@@ -1,4 +1,4 @@
-use Rattle.std.proofs.Common.{◌≡◌, ◌+◌, List, map, get_or, ap, arith}
+use Rattle.std.proofs.Common.{◌≡◌, List, map, get_or, ap, arith}
 use Rattle.wf_val.specs.Seen.{tree}
 use Rattle.wf_val.specs.ValueTree.{node_count, trees, trees_count}
 use Rattle.wf_val.specs.declared.val.Val.{Val}
