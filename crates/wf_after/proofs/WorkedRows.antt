@@ -20,20 +20,24 @@ first name = (name, object (members []))
 none : bad_run_after [] ≡ []
 none = refl
 
-in_a_row : bad_run_after (first (codes "A") ∷ action (codes "B") (then (codes "A") ∷ []) ∷ action (codes "C") (then (codes "A") ∷ then (codes "B") ∷ []) ∷ []) ≡ []
+in_a_row : bad_run_after (first (codes "A") ∷ action (codes "B") (then (codes "A") ∷ []) ∷ action (codes "C") (then (codes "A")
+    ∷ then (codes "B") ∷ []) ∷ []) ≡ []
 in_a_row = refl
 
 -- two that wait for each other; C comes behind them and is on no circle
-two_in_a_circle : bad_run_after (action (codes "A") (then (codes "B") ∷ []) ∷ action (codes "B") (then (codes "A") ∷ []) ∷ action (codes "C") (then (codes "B") ∷ []) ∷ [])
+two_in_a_circle : bad_run_after (action (codes "A") (then (codes "B") ∷ []) ∷ action (codes "B") (then (codes "A") ∷ [])
+    ∷ action (codes "C") (then (codes "B") ∷ []) ∷ [])
     ≡ codes "/A" ∷ codes "/B" ∷ []
 two_in_a_circle = refl
 
-three_in_a_circle : bad_run_after (action (codes "A") (then (codes "C") ∷ []) ∷ action (codes "B") (then (codes "A") ∷ []) ∷ action (codes "C") (then (codes "B") ∷ []) ∷ first (codes "D") ∷ [])
+three_in_a_circle : bad_run_after (action (codes "A") (then (codes "C") ∷ []) ∷ action (codes "B") (then (codes "A") ∷ [])
+    ∷ action (codes "C") (then (codes "B") ∷ []) ∷ first (codes "D") ∷ [])
     ≡ codes "/A" ∷ codes "/B" ∷ codes "/C" ∷ []
 three_in_a_circle = refl
 
 -- what comes before a circle isn't on it either
-before_a_circle : bad_run_after (first (codes "A") ∷ action (codes "B") (then (codes "A") ∷ then (codes "C") ∷ []) ∷ action (codes "C") (then (codes "B") ∷ []) ∷ [])
+before_a_circle : bad_run_after (first (codes "A") ∷ action (codes "B") (then (codes "A") ∷ then (codes "C") ∷ [])
+    ∷ action (codes "C") (then (codes "B") ∷ []) ∷ [])
     ≡ codes "/B" ∷ codes "/C" ∷ []
 before_a_circle = refl
 
@@ -48,17 +52,20 @@ another_case : bad_run_after (first (codes "A") ∷ action (codes "B") (then (co
 another_case = refl
 
 -- the four statuses, whatever the case of their letters, one twice, or none at all
-statuses : bad_run_after (first (codes "A") ∷ action (codes "B") (on (codes "A") (codes "succeeded" ∷ codes "FAILED" ∷ codes "Skipped" ∷ codes "TimedOut" ∷ codes "Failed" ∷ []) ∷ []) ∷ action (codes "C") (on (codes "A") [] ∷ []) ∷ []) ≡ []
+statuses : bad_run_after (first (codes "A") ∷ action (codes "B") (on (codes "A") (codes "succeeded" ∷ codes "FAILED" ∷ codes "Skipped"
+    ∷ codes "TimedOut" ∷ codes "Failed" ∷ []) ∷ []) ∷ action (codes "C") (on (codes "A") [] ∷ []) ∷ []) ≡ []
 statuses = refl
 
-cancelled : bad_run_after (first (codes "A") ∷ action (codes "B") (on (codes "A") (codes "Succeeded" ∷ codes "Cancelled" ∷ []) ∷ []) ∷ []) ≡ codes "/B" ∷ []
+cancelled : bad_run_after (first (codes "A") ∷ action (codes "B") (on (codes "A") (codes "Succeeded" ∷ codes "Cancelled" ∷ []) ∷ [])
+    ∷ []) ≡ codes "/B" ∷ []
 cancelled = refl
 
 no_status : bad_run_after (first (codes "A") ∷ action (codes "B") (on (codes "A") (codes "Succeeded " ∷ []) ∷ []) ∷ []) ≡ codes "/B" ∷ []
 no_status = refl
 
 -- an entry without a status makes a circle all the same
-without_a_status : bad_run_after (action (codes "A") (on (codes "B") [] ∷ []) ∷ action (codes "B") (on (codes "A") [] ∷ []) ∷ []) ≡ codes "/A" ∷ codes "/B" ∷ []
+without_a_status : bad_run_after (action (codes "A") (on (codes "B") [] ∷ []) ∷ action (codes "B") (on (codes "A") [] ∷ []) ∷ [])
+    ≡ codes "/A" ∷ codes "/B" ∷ []
 without_a_status = refl
 
 -- a slash and a tilde in a name

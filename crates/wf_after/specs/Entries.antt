@@ -1,6 +1,7 @@
 -- What the entries of an action's `runAfter` may say (Workflow Definition Language, "Control the workflow action execution order").
 -- A graph is the members of an object: actions by their names.
-use Rattle.std.specs.Prelude.{ℕ, suc, List, [], ◌∷◌, Bool, false, not, ◌||◌, if◌then◌else◌, Option, Some, None, is_none, option_map, bytes_eq, codes}
+use Rattle.std.specs.Prelude.{ℕ, suc, List, [], ◌∷◌, Bool, false, not, ◌||◌, if◌then◌else◌, Option, Some, None, is_none, option_map}
+use Rattle.std.specs.Prelude.{bytes_eq, codes}
 use Rattle.std.specs.List.{list_all, list_any}
 use Rattle.std.specs.Str.{str_eq_ignore_ascii_case}
 use Rattle.wf_val.specs.ValueTree.{ValueTree, text, list, object, items, pairs, Member}

@@ -7,7 +7,8 @@ ghost use Rattle.wf_after.specs.Waits.{nodes, paths_in};
 
 /// An action of a graph waits for itself exactly where a path leads from it to itself, along the entries of `runAfter`.
 pub fn who_waits_for_itself()
-    ensures { (graph : List Member) (place : ℕ) → (at (paths_in graph) place place ≡ true) ↔ IsPath (edge_of (nodes graph graph)) place place }
+    ensures { (graph : List Member) (place : ℕ) → (at (paths_in graph) place place ≡ true)
+        ↔ IsPath (edge_of (nodes graph graph)) place place }
 {
     wf_paths::paths_are_exact();
 }
