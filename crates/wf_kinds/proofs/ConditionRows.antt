@@ -37,7 +37,14 @@ list-accepted : map is_condition (
     object_of ((codes "and", list_of []) ∷ []) ∷
     object_of ((codes "or", list_of []) ∷ []) ∷
     object_of ((codes "and", list_of (text (codes "@x") ∷ [])) ∷ []) ∷
-    object_of ((codes "or", list_of (text (codes "@x") ∷ object_of ((codes "and", list_of (text (codes "@y") ∷ object_of ((codes "or", list_of []) ∷ []) ∷ [])) ∷ []) ∷ [])) ∷ []) ∷
+    object_of ((
+      codes "or",
+      list_of (text (codes "@x") ∷ object_of ((
+        codes "and",
+        list_of (text (codes "@y") ∷
+            object_of ((codes "or", list_of []) ∷ []) ∷ []),
+      ) ∷ []) ∷ []),
+    ) ∷ []) ∷
     [])
     ≡ true ∷ true ∷ true ∷ true ∷ []
 list-accepted = refl
@@ -60,7 +67,14 @@ list-refused = refl
 -- `not` takes one condition
 negation-accepted : map is_condition (
     object_of ((codes "not", text (codes "@x")) ∷ []) ∷
-    object_of ((codes "not", object_of ((codes "not", object_of ((codes "equals", list_of (number (pos 1) ∷ number (pos 2) ∷ [])) ∷ [])) ∷ [])) ∷ []) ∷
+    object_of ((
+      codes "not",
+      object_of ((
+        codes "not",
+        object_of ((codes "equals", list_of (number (pos 1) ∷ number (pos 2) ∷ [])) ∷
+            []),
+      ) ∷ []),
+    ) ∷ []) ∷
     object_of ((codes "not", object_of ((codes "and", list_of []) ∷ [])) ∷ []) ∷
     [])
     ≡ true ∷ true ∷ true ∷ []
@@ -123,7 +137,8 @@ members-refused = refl
 comparisons-named : map comparison_named (
     codes "equals" ∷ codes "greater" ∷ codes "greaterOrEquals" ∷ codes "less" ∷
     codes "lessOrEquals" ∷ codes "contains" ∷ codes "startsWith" ∷ codes "endsWith" ∷ [])
-    ≡ map Some (Fun.Equals ∷ Fun.Greater ∷ Fun.GreaterOrEquals ∷ Fun.Less ∷ Fun.LessOrEquals ∷ Fun.Contains ∷ Fun.StartsWith ∷ Fun.EndsWith ∷ [])
+    ≡ map Some (Fun.Equals ∷ Fun.Greater ∷ Fun.GreaterOrEquals ∷ Fun.Less ∷ Fun.LessOrEquals ∷ Fun.Contains ∷ Fun.StartsWith ∷
+    Fun.EndsWith ∷ [])
 comparisons-named = refl
 
 comparisons-unknown : map comparison_named (codes "Equals" ∷ codes "and" ∷ codes "not" ∷ codes "concat" ∷ [] ∷ [])

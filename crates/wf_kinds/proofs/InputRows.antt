@@ -73,10 +73,22 @@ connector-refused = refl
 
 -- a policy where one is there; one further inside is none
 policy-accepted : map action_has_members (
-    given (codes "Http") (object_of ((codes "retryPolicy", object_of ((codes "count", number (pos 1)) ∷ (codes "interval", text (codes "PT1S")) ∷ (codes "type", text (codes "fixed")) ∷ [])) ∷ [])) ∷
-    given (codes "Http") (object_of ((codes "retryPolicy", object_of ((codes "count", number (pos 90)) ∷ (codes "interval", text (codes "PT1S")) ∷ (codes "type", text (codes "fixed")) ∷ [])) ∷ [])) ∷
+    given (codes "Http") (object_of ((
+      codes "retryPolicy",
+      object_of ((codes "count", number (pos 1)) ∷
+          (codes "interval", text (codes "PT1S")) ∷ (codes "type", text (codes "fixed")) ∷ []),
+    ) ∷ [])) ∷
+    given (codes "Http") (object_of ((
+      codes "retryPolicy",
+      object_of ((codes "count", number (pos 90)) ∷
+          (codes "interval", text (codes "PT1S")) ∷ (codes "type", text (codes "fixed")) ∷ []),
+    ) ∷ [])) ∷
     given (codes "Http") (object_of ((codes "retryPolicy", object_of ((codes "type", text (codes "NONE")) ∷ [])) ∷ [])) ∷
-    given (codes "Http") (object_of ((codes "retryPolicy", object_of ((codes "count", number (negsuc 0)) ∷ (codes "type", text (codes "default")) ∷ [])) ∷ [])) ∷
+    given (codes "Http") (object_of ((
+      codes "retryPolicy",
+      object_of ((codes "count", number (negsuc 0)) ∷
+          (codes "type", text (codes "default")) ∷ []),
+    ) ∷ [])) ∷
     given (codes "Http") (object_of ((codes "body", object_of ((codes "retryPolicy", number (pos 5)) ∷ [])) ∷ [])) ∷
     [])
     ≡ true ∷ true ∷ true ∷ true ∷ true ∷ []
@@ -84,11 +96,31 @@ unfolding action_has_members type_of
 policy-accepted = refl
 
 policy-refused : map action_has_members (
-    given (codes "Http") (object_of ((codes "retryPolicy", object_of ((codes "count", number (pos 0)) ∷ (codes "interval", text (codes "PT1S")) ∷ (codes "type", text (codes "fixed")) ∷ [])) ∷ [])) ∷
-    given (codes "Http") (object_of ((codes "retryPolicy", object_of ((codes "count", number (pos 91)) ∷ (codes "interval", text (codes "PT1S")) ∷ (codes "type", text (codes "fixed")) ∷ [])) ∷ [])) ∷
-    given (codes "Http") (object_of ((codes "retryPolicy", object_of ((codes "count", text (codes "4")) ∷ (codes "interval", text (codes "PT1S")) ∷ (codes "type", text (codes "fixed")) ∷ [])) ∷ [])) ∷
-    given (codes "Http") (object_of ((codes "retryPolicy", object_of ((codes "count", number (pos 4)) ∷ (codes "interval", text (codes "1S")) ∷ (codes "type", text (codes "fixed")) ∷ [])) ∷ [])) ∷
-    given (codes "Http") (object_of ((codes "retryPolicy", object_of ((codes "count", number (pos 4)) ∷ (codes "interval", text (codes "PT1S")) ∷ (codes "minimumInterval", null) ∷ (codes "type", text (codes "fixed")) ∷ [])) ∷ [])) ∷
+    given (codes "Http") (object_of ((
+      codes "retryPolicy",
+      object_of ((codes "count", number (pos 0)) ∷
+          (codes "interval", text (codes "PT1S")) ∷ (codes "type", text (codes "fixed")) ∷ []),
+    ) ∷ [])) ∷
+    given (codes "Http") (object_of ((
+      codes "retryPolicy",
+      object_of ((codes "count", number (pos 91)) ∷
+          (codes "interval", text (codes "PT1S")) ∷ (codes "type", text (codes "fixed")) ∷ []),
+    ) ∷ [])) ∷
+    given (codes "Http") (object_of ((
+      codes "retryPolicy",
+      object_of ((codes "count", text (codes "4")) ∷
+          (codes "interval", text (codes "PT1S")) ∷ (codes "type", text (codes "fixed")) ∷ []),
+    ) ∷ [])) ∷
+    given (codes "Http") (object_of ((
+      codes "retryPolicy",
+      object_of ((codes "count", number (pos 4)) ∷
+          (codes "interval", text (codes "1S")) ∷ (codes "type", text (codes "fixed")) ∷ []),
+    ) ∷ [])) ∷
+    given (codes "Http") (object_of ((
+      codes "retryPolicy",
+      object_of ((codes "count", number (pos 4)) ∷
+          (codes "interval", text (codes "PT1S")) ∷ (codes "minimumInterval", null) ∷ (codes "type", text (codes "fixed")) ∷ []),
+    ) ∷ [])) ∷
     given (codes "Http") (object_of ((codes "retryPolicy", null) ∷ [])) ∷
     given (codes "Http") (object_of ((codes "retryPolicy", text (codes "none")) ∷ [])) ∷
     given (codes "Http") (object_of ((codes "retryPolicy", object_of []) ∷ [])) ∷
@@ -156,7 +188,8 @@ terminate-refused = refl
 
 select-accepted : map action_has_members (
     given (codes "Select") (object_of ((codes "from", list_of []) ∷ (codes "select", null) ∷ [])) ∷
-    given (codes "Select") (object_of ((codes "from", text (codes "@x")) ∷ (codes "other", number (pos 1)) ∷ (codes "select", object_of ((codes "a", text (codes "@item()")) ∷ [])) ∷ [])) ∷
+    given (codes "Select") (object_of ((codes "from", text (codes "@x")) ∷ (codes "other", number (pos 1)) ∷
+    (codes "select", object_of ((codes "a", text (codes "@item()")) ∷ [])) ∷ [])) ∷
     [])
     ≡ true ∷ true ∷ []
 unfolding action_has_members type_of
@@ -187,7 +220,8 @@ query-refused : map action_has_members (
     given (codes "Query") (object_of ((codes "from", list_of []) ∷ [])) ∷
     given (codes "Query") (object_of ((codes "where", text (codes "@x")) ∷ [])) ∷
     given (codes "Query") (object_of ((codes "from", list_of []) ∷ (codes "where", null) ∷ [])) ∷
-    given (codes "Query") (object_of ((codes "from", list_of []) ∷ (codes "where", object_of ((codes "equals", list_of (number (pos 1) ∷ number (pos 1) ∷ [])) ∷ [])) ∷ [])) ∷
+    given (codes "Query") (object_of ((codes "from", list_of []) ∷
+    (codes "where", object_of ((codes "equals", list_of (number (pos 1) ∷ number (pos 1) ∷ [])) ∷ [])) ∷ [])) ∷
     given (codes "Query") (object_of ((codes "from", list_of []) ∷ (codes "where", boolean true) ∷ [])) ∷
     [])
     ≡ false ∷ false ∷ false ∷ false ∷ false ∷ false ∷ []
@@ -235,12 +269,36 @@ parse_json-refused = refl
 
 -- one variable, with a name and a type
 initialize-accepted : map action_has_members (
-    given (codes "InitializeVariable") (object_of ((codes "variables", list_of (object_of ((codes "name", text []) ∷ (codes "type", text (codes "boolean")) ∷ []) ∷ [])) ∷ [])) ∷
-    given (codes "InitializeVariable") (object_of ((codes "variables", list_of (object_of ((codes "name", text (codes "@x")) ∷ (codes "type", text (codes "INTEGER")) ∷ []) ∷ [])) ∷ [])) ∷
-    given (codes "InitializeVariable") (object_of ((codes "variables", list_of (object_of ((codes "name", text (codes "v")) ∷ (codes "type", text (codes "String")) ∷ []) ∷ [])) ∷ [])) ∷
-    given (codes "InitializeVariable") (object_of ((codes "variables", list_of (object_of ((codes "name", text (codes "v")) ∷ (codes "type", text (codes "array")) ∷ []) ∷ [])) ∷ [])) ∷
-    given (codes "InitializeVariable") (object_of ((codes "variables", list_of (object_of ((codes "name", text (codes "v")) ∷ (codes "type", text (codes "object")) ∷ []) ∷ [])) ∷ [])) ∷
-    given (codes "InitializeVariable") (object_of ((codes "variables", list_of (object_of ((codes "name", text (codes "v")) ∷ (codes "type", text (codes "integer")) ∷ (codes "value", text (codes "@x")) ∷ []) ∷ [])) ∷ [])) ∷
+    given (codes "InitializeVariable") (object_of ((
+      codes "variables",
+      list_of (object_of ((codes "name", text []) ∷
+          (codes "type", text (codes "boolean")) ∷ []) ∷ []),
+    ) ∷ [])) ∷
+    given (codes "InitializeVariable") (object_of ((
+      codes "variables",
+      list_of (object_of ((codes "name", text (codes "@x")) ∷
+          (codes "type", text (codes "INTEGER")) ∷ []) ∷ []),
+    ) ∷ [])) ∷
+    given (codes "InitializeVariable") (object_of ((
+      codes "variables",
+      list_of (object_of ((codes "name", text (codes "v")) ∷
+          (codes "type", text (codes "String")) ∷ []) ∷ []),
+    ) ∷ [])) ∷
+    given (codes "InitializeVariable") (object_of ((
+      codes "variables",
+      list_of (object_of ((codes "name", text (codes "v")) ∷
+          (codes "type", text (codes "array")) ∷ []) ∷ []),
+    ) ∷ [])) ∷
+    given (codes "InitializeVariable") (object_of ((
+      codes "variables",
+      list_of (object_of ((codes "name", text (codes "v")) ∷
+          (codes "type", text (codes "object")) ∷ []) ∷ []),
+    ) ∷ [])) ∷
+    given (codes "InitializeVariable") (object_of ((
+      codes "variables",
+      list_of (object_of ((codes "name", text (codes "v")) ∷
+          (codes "type", text (codes "integer")) ∷ (codes "value", text (codes "@x")) ∷ []) ∷ []),
+    ) ∷ [])) ∷
     [])
     ≡ true ∷ true ∷ true ∷ true ∷ true ∷ true ∷ []
 unfolding action_has_members type_of
@@ -251,16 +309,53 @@ initialize-refused : map action_has_members (
     given (codes "InitializeVariable") (object_of []) ∷
     given (codes "InitializeVariable") (object_of ((codes "variables", null) ∷ [])) ∷
     given (codes "InitializeVariable") (object_of ((codes "variables", list_of []) ∷ [])) ∷
-    given (codes "InitializeVariable") (object_of ((codes "variables", list_of (object_of ((codes "name", text (codes "v")) ∷ (codes "type", text (codes "integer")) ∷ []) ∷ object_of ((codes "name", text (codes "w")) ∷ (codes "type", text (codes "integer")) ∷ []) ∷ [])) ∷ [])) ∷
-    given (codes "InitializeVariable") (object_of ((codes "variables", object_of ((codes "name", text (codes "v")) ∷ (codes "type", text (codes "integer")) ∷ [])) ∷ [])) ∷
+    given (codes "InitializeVariable") (object_of ((
+      codes "variables",
+      list_of (object_of ((codes "name", text (codes "v")) ∷
+          (codes "type", text (codes "integer")) ∷ []) ∷ object_of ((codes "name", text (codes "w")) ∷
+          (codes "type", text (codes "integer")) ∷ []) ∷ []),
+    ) ∷ [])) ∷
+    given (codes "InitializeVariable") (object_of ((
+      codes "variables",
+      object_of ((codes "name", text (codes "v")) ∷
+          (codes "type", text (codes "integer")) ∷ []),
+    ) ∷ [])) ∷
     given (codes "InitializeVariable") (object_of ((codes "variables", list_of (text (codes "v") ∷ [])) ∷ [])) ∷
-    given (codes "InitializeVariable") (object_of ((codes "variables", list_of (object_of ((codes "type", text (codes "integer")) ∷ []) ∷ [])) ∷ [])) ∷
-    given (codes "InitializeVariable") (object_of ((codes "variables", list_of (object_of ((codes "name", number (pos 5)) ∷ (codes "type", text (codes "integer")) ∷ []) ∷ [])) ∷ [])) ∷
-    given (codes "InitializeVariable") (object_of ((codes "variables", list_of (object_of ((codes "name", text (codes "v")) ∷ []) ∷ [])) ∷ [])) ∷
-    given (codes "InitializeVariable") (object_of ((codes "variables", list_of (object_of ((codes "name", text (codes "v")) ∷ (codes "type", null) ∷ []) ∷ [])) ∷ [])) ∷
-    given (codes "InitializeVariable") (object_of ((codes "variables", list_of (object_of ((codes "name", text (codes "v")) ∷ (codes "type", text (codes "float")) ∷ []) ∷ [])) ∷ [])) ∷
-    given (codes "InitializeVariable") (object_of ((codes "variables", list_of (object_of ((codes "name", text (codes "v")) ∷ (codes "type", text (codes "int")) ∷ []) ∷ [])) ∷ [])) ∷
-    given (codes "InitializeVariable") (object_of ((codes "variables", list_of (object_of ((codes "name", text (codes "v")) ∷ (codes "type", text (codes " integer")) ∷ []) ∷ [])) ∷ [])) ∷
+    given (codes "InitializeVariable") (object_of ((
+      codes "variables",
+      list_of (object_of ((codes "type", text (codes "integer")) ∷
+          []) ∷ []),
+    ) ∷ [])) ∷
+    given (codes "InitializeVariable") (object_of ((
+      codes "variables",
+      list_of (object_of ((codes "name", number (pos 5)) ∷
+          (codes "type", text (codes "integer")) ∷ []) ∷ []),
+    ) ∷ [])) ∷
+    given (codes "InitializeVariable") (object_of ((
+      codes "variables",
+      list_of (object_of ((codes "name", text (codes "v")) ∷ []) ∷
+          []),
+    ) ∷ [])) ∷
+    given (codes "InitializeVariable") (object_of ((
+      codes "variables",
+      list_of (object_of ((codes "name", text (codes "v")) ∷
+          (codes "type", null) ∷ []) ∷ []),
+    ) ∷ [])) ∷
+    given (codes "InitializeVariable") (object_of ((
+      codes "variables",
+      list_of (object_of ((codes "name", text (codes "v")) ∷
+          (codes "type", text (codes "float")) ∷ []) ∷ []),
+    ) ∷ [])) ∷
+    given (codes "InitializeVariable") (object_of ((
+      codes "variables",
+      list_of (object_of ((codes "name", text (codes "v")) ∷
+          (codes "type", text (codes "int")) ∷ []) ∷ []),
+    ) ∷ [])) ∷
+    given (codes "InitializeVariable") (object_of ((
+      codes "variables",
+      list_of (object_of ((codes "name", text (codes "v")) ∷
+          (codes "type", text (codes " integer")) ∷ []) ∷ []),
+    ) ∷ [])) ∷
     [])
     ≡ false ∷ false ∷ false ∷ false ∷ false ∷ false ∷ false ∷ false ∷ false ∷ false ∷ false ∷ false ∷ false ∷ false ∷ []
 unfolding action_has_members type_of
@@ -284,7 +379,8 @@ set-refused : map action_has_members (
     given (codes "AppendToArrayVariable") (object_of ((codes "name", text (codes "v")) ∷ [])) ∷
     given (codes "AppendToArrayVariable") (object_of ((codes "name", number (pos 5)) ∷ (codes "value", number (pos 1)) ∷ [])) ∷
     given (codes "AppendToStringVariable") (object_of ((codes "name", text (codes "v")) ∷ [])) ∷
-    given (codes "AppendToStringVariable") (object_of ((codes "name", list_of (text (codes "v") ∷ [])) ∷ (codes "value", number (pos 1)) ∷ [])) ∷
+    given (codes "AppendToStringVariable") (object_of ((codes "name", list_of (text (codes "v") ∷ [])) ∷
+    (codes "value", number (pos 1)) ∷ [])) ∷
     [])
     ≡ false ∷ false ∷ false ∷ false ∷ false ∷ false ∷ false ∷ false ∷ []
 unfolding action_has_members type_of

@@ -13,7 +13,8 @@ object_of ms = object (members ms)
 -- what else a trigger has is ignored
 trigger-accepted : map trigger_has_members (
     object_of [] ∷
-    object_of ((codes "operationOptions", number (pos 5)) ∷ (codes "runtimeConfiguration", number (pos 1)) ∷ (codes "type", text (codes "Request")) ∷ []) ∷
+    object_of ((codes "operationOptions", number (pos 5)) ∷ (codes "runtimeConfiguration", number (pos 1)) ∷
+    (codes "type", text (codes "Request")) ∷ []) ∷
     [])
     ≡ true ∷ true ∷ []
 unfolding trigger_has_members
@@ -41,7 +42,11 @@ split-refused = refl
 trigger_conditions-accepted : map trigger_has_members (
     object_of ((codes "conditions", list_of []) ∷ []) ∷
     object_of ((codes "conditions", list_of (object_of ((codes "expression", text (codes "@x")) ∷ []) ∷ [])) ∷ []) ∷
-    object_of ((codes "conditions", list_of (object_of ((codes "expression", text []) ∷ []) ∷ object_of ((codes "dependsOn", number (pos 1)) ∷ (codes "expression", text (codes "@y")) ∷ []) ∷ [])) ∷ []) ∷
+    object_of ((
+      codes "conditions",
+      list_of (object_of ((codes "expression", text []) ∷ []) ∷
+          object_of ((codes "dependsOn", number (pos 1)) ∷ (codes "expression", text (codes "@y")) ∷ []) ∷ []),
+    ) ∷ []) ∷
     [])
     ≡ true ∷ true ∷ true ∷ []
 unfolding trigger_has_members
@@ -54,9 +59,18 @@ trigger_conditions-refused : map trigger_has_members (
     object_of ((codes "conditions", list_of (text (codes "@x") ∷ [])) ∷ []) ∷
     object_of ((codes "conditions", list_of (object_of [] ∷ [])) ∷ []) ∷
     object_of ((codes "conditions", list_of (object_of ((codes "expression", null) ∷ []) ∷ [])) ∷ []) ∷
-    object_of ((codes "conditions", list_of (object_of ((codes "expression", object_of ((codes "and", list_of []) ∷ [])) ∷ []) ∷ [])) ∷ []) ∷
-    object_of ((codes "conditions", list_of (object_of ((codes "expression", text (codes "@x")) ∷ []) ∷ object_of ((codes "Expression", text (codes "@x")) ∷ []) ∷ [])) ∷ []) ∷
-    object_of ((codes "conditions", list_of (object_of ((codes "expression", text (codes "@x")) ∷ []) ∷ [])) ∷ (codes "splitOn", number (pos 5)) ∷ []) ∷
+    object_of ((
+      codes "conditions",
+      list_of (object_of ((codes "expression", object_of ((codes "and", list_of []) ∷ [])) ∷ []) ∷
+          []),
+    ) ∷ []) ∷
+    object_of ((
+      codes "conditions",
+      list_of (object_of ((codes "expression", text (codes "@x")) ∷ []) ∷
+          object_of ((codes "Expression", text (codes "@x")) ∷ []) ∷ []),
+    ) ∷ []) ∷
+    object_of ((codes "conditions", list_of (object_of ((codes "expression", text (codes "@x")) ∷ []) ∷ [])) ∷
+    (codes "splitOn", number (pos 5)) ∷ []) ∷
     [])
     ≡ false ∷ false ∷ false ∷ false ∷ false ∷ false ∷ false ∷ false ∷ false ∷ []
 unfolding trigger_has_members
