@@ -1,0 +1,5 @@
+pub mod ActionTree
+pub mod ActionSeen
+pub mod DefTree
+pub mod DefSeen
+pub mod Layered
