@@ -39,7 +39,7 @@ mutual
     branch : (test : CondTree) (yes' no' : ActionTrees) → KindTree
     switch : (on : TemplateTree) (cases : CaseTrees) → KindTree
     switch_else : (on : TemplateTree) (cases : CaseTrees) (default : ActionTrees) → KindTree
-    foreach : (list : DataTree) (repetitions : ℕ) (graph : ActionTrees) → KindTree
+    foreach : (items : DataTree) (repetitions : ℕ) (graph : ActionTrees) → KindTree
     until : (test : CondTree) (count : ℕ) (fails : Bool) (graph : ActionTrees) → KindTree
 
   -- the actions of one graph

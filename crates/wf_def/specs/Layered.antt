@@ -47,7 +47,7 @@ abbrev mutual
   layered_kind (branch test yes' no') = layers.Choice (layers.branch (layered yes') (layers.branch (layered no') layers.no_branch))
   layered_kind (switch on cases) = layers.Choice (layered_cases cases (layers.branch layers.done layers.no_branch))
   layered_kind (switch_else on cases default) = layers.Choice (layered_cases cases (layers.branch (layered default) layers.no_branch))
-  layered_kind (foreach list repetitions graph) = layers.Foreach (pace repetitions) (layered graph)
+  layered_kind (foreach items repetitions graph) = layers.Foreach (pace repetitions) (layered graph)
   layered_kind (until test count fails graph) = layers.Until count (layered graph)
 
   -- the cases in their order, and behind them what is taken where none of them is: the default, or an empty graph

@@ -3,3 +3,4 @@ pub mod ActionSeen
 pub mod DefTree
 pub mod DefSeen
 pub mod Layered
+pub mod Names

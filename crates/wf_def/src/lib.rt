@@ -15,7 +15,9 @@
 #![tactic(auto)]
 
 mod after;
+mod find;
 mod graph;
+mod names;
 mod section;
 mod sort;
 
