@@ -100,7 +100,8 @@ get_put : (ps : List (Option PlaceTree)) (k m : ℕ) (p : PlaceTree)
     → slice_get (put ps k p) m ≡ cond (nat_eq k m) (or_found (slice_get ps m) (Some p)) (slice_get ps m)
 get_put ps k m p = elim (nat_eq k m) as (λ b. nat_eq k m ≡ b →
     slice_get (put ps k p) m ≡ cond b (or_found (slice_get ps m) (Some p)) (slice_get ps m)) [
-      | true ↦ λ is. subst (λ (j : ℕ). slice_get (put ps j p) m ≡ or_found (slice_get ps m) (Some p)) (sym (eqb-true k m is)) (put_same ps m p)
+      | true ↦ λ is. subst (λ (j : ℕ). slice_get (put ps j p) m ≡ or_found (slice_get ps m) (Some p)) (sym (eqb-true k m is))
+          (put_same ps m p)
       | false ↦ λ is. put_other ps k m p (λ same. true≢false (sym (eq-eqb k m same) ∙ is))
     ] refl
 
