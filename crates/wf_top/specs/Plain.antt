@@ -1,6 +1,6 @@
 -- Which values are definitions of the plain form, the one that this program runs so far.
 -- Members that aren't named here are ignored.
-use Rattle.std.specs.Prelude.{ℕ, suc, List, [], ◌∷◌, length, Bool, true, false, not, ◌&&◌, ◌==◌, Option, None, Some, is_none, if◌then◌else◌, nat_le, bytes_eq, codes}
+use Rattle.std.specs.Prelude.{ℕ, suc, List, [], ◌∷◌, length, Bool, false, not, ◌&&◌, ◌==◌, Option, None, Some, is_none, if◌then◌else◌, nat_le, bytes_eq, codes}
 use Rattle.std.specs.List.{list_all}
 use Rattle.std.specs.Option.{option_map, option_map_or, option_and_then}
 use Rattle.std.specs.Str.{chars, str_eq_ignore_ascii_case}

@@ -88,11 +88,7 @@ fn record_line(alloc: Global, finished: Record) -> Result<Vec<u8>, AllocError>
 }
 
 /// What `run` writes: the line of the run's record, and its summary line.
-pub fn run_text(
-    alloc: Global,
-    definition: Definition,
-    given: Given,
-) -> Result<Vec<u8>, AllocError>
+pub fn run_text(alloc: Global, definition: Definition, given: Given) -> Result<Vec<u8>, AllocError>
     ensures { IfOk result (λ text. text.items ≡ run_text (definition_tree definition) (given_tree given)) }
 {
     let finished = record_of(alloc, definition, given)?;
