@@ -20,20 +20,25 @@ types_of ns = map (λ name. type_of (typed (text name))) ns
 abbrev each : List (List ℕ) → Option ActionType → List (Option ActionType)
 each ns type' = map (λ (name : List ℕ). type') ns
 
-named : types_of (codes "Compose" ∷ codes "WAIT" ∷ codes "response" ∷ codes "terminate" ∷ codes "SELECT" ∷ codes "Query" ∷ codes "join" ∷ codes "parsejson" ∷ [])
-    ≡ map Some (ActionType.Compose ∷ ActionType.Wait ∷ ActionType.Response ∷ ActionType.Terminate ∷ ActionType.Select ∷ ActionType.Query ∷ ActionType.Join ∷ ActionType.ParseJson ∷ [])
+named : types_of (codes "Compose" ∷ codes "WAIT" ∷ codes "response" ∷ codes "terminate" ∷ codes "SELECT" ∷ codes "Query" ∷
+    codes "join" ∷ codes "parsejson" ∷ [])
+    ≡ map Some (ActionType.Compose ∷ ActionType.Wait ∷ ActionType.Response ∷ ActionType.Terminate ∷ ActionType.Select ∷
+    ActionType.Query ∷ ActionType.Join ∷ ActionType.ParseJson ∷ [])
 unfolding type_of
 named = refl
 
 abbrev services : List (List ℕ)
-services = codes "http" ∷ codes "APICONNECTION" ∷ codes "apiConnectionWebhook" ∷ codes "HTTPWebhook" ∷ codes "function" ∷ codes "workflow" ∷ codes "ApiManagement" ∷ codes "serviceprovider" ∷ []
+services = codes "http" ∷ codes "APICONNECTION" ∷ codes "apiConnectionWebhook" ∷ codes "HTTPWebhook" ∷ codes "function" ∷
+    codes "workflow" ∷ codes "ApiManagement" ∷ codes "serviceprovider" ∷ []
 
 connectors : types_of services ≡ each services (Some ActionType.Connector)
 unfolding type_of
 connectors = refl
 
-of_variables : types_of (codes "INITIALIZEVARIABLE" ∷ codes "setvariable" ∷ codes "incrementVariable" ∷ codes "decrementvariable" ∷ codes "AppendToArrayVariable" ∷ codes "appendtostringvariable" ∷ [])
-    ≡ map Some (ActionType.InitializeVariable ∷ ActionType.SetVariable ∷ ActionType.IncrementVariable ∷ ActionType.DecrementVariable ∷ ActionType.AppendToArrayVariable ∷ ActionType.AppendToStringVariable ∷ [])
+of_variables : types_of (codes "INITIALIZEVARIABLE" ∷ codes "setvariable" ∷ codes "incrementVariable" ∷ codes "decrementvariable" ∷
+    codes "AppendToArrayVariable" ∷ codes "appendtostringvariable" ∷ [])
+    ≡ map Some (ActionType.InitializeVariable ∷ ActionType.SetVariable ∷ ActionType.IncrementVariable ∷ ActionType.DecrementVariable ∷
+    ActionType.AppendToArrayVariable ∷ ActionType.AppendToStringVariable ∷ [])
 unfolding type_of
 of_variables = refl
 
@@ -44,7 +49,8 @@ containers = refl
 
 -- nothing is trimmed, no name is a front of another, and no other letters are folded: `Sw` and `tch` round a dotless i (U+0131)
 abbrev others : List (List ℕ)
-others = [] ∷ codes " Compose" ∷ codes "Compose " ∷ codes "Composed" ∷ codes "Compos" ∷ codes "Table" ∷ codes "Recurrence" ∷ codes "Connector" ∷ codes "For_each" ∷ (codes "Sw" ++ 196 ∷ 177 ∷ codes "tch") ∷ []
+others = [] ∷ codes " Compose" ∷ codes "Compose " ∷ codes "Composed" ∷ codes "Compos" ∷ codes "Table" ∷ codes "Recurrence" ∷
+    codes "Connector" ∷ codes "For_each" ∷ (codes "Sw" ++ 196 ∷ 177 ∷ codes "tch") ∷ []
 
 unknown : types_of others ≡ each others None
 unfolding type_of

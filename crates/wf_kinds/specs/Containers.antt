@@ -67,4 +67,5 @@ is_time (text s) = is_duration s
 is_time t = false
 
 abbrev pub until_has : ValueTree → Bool
-until_has t = is_a_condition (get (codes "expression") t) && absent_or is_turns (limit (codes "count") t) && absent_or is_time (limit (codes "timeout") t)
+until_has t =
+    is_a_condition (get (codes "expression") t) && absent_or is_turns (limit (codes "count") t) && absent_or is_time (limit (codes "timeout") t)

@@ -1,5 +1,5 @@
 -- What is asked of actions on variables (Workflow Definition Language, "Variables actions").
-use Rattle.std.specs.Prelude.{ℕ, List, [], ◌∷◌, Bool, true, false, ◌&&◌, Option, Some, None, is_some, codes}
+use Rattle.std.specs.Prelude.{ℕ, List, [], ◌∷◌, Bool, false, ◌&&◌, Option, Some, is_some, codes}
 use Rattle.std.specs.List.{list_any}
 use Rattle.std.specs.Str.{str_eq_ignore_ascii_case}
 use Rattle.wf_val.specs.ValueTree.{ValueTree, text, list, no_values, value_then}

@@ -62,7 +62,8 @@ fn is_one_operation(fields: &Fields) -> bool
 
 #[cycle(condition)]
 fn is_operation(name: &str, operand: &Val) -> bool
-    ensures { result ≡ is_operation name.now (is_list_of_conditions (tree operand.now)) (is_condition (tree operand.now)) (is_pair (tree operand.now)) }
+    ensures { result ≡ is_operation name.now
+        (is_list_of_conditions (tree operand.now)) (is_condition (tree operand.now)) (is_pair (tree operand.now)) }
 {
     if name == "and" || name == "or" {
         is_list_of_conditions(operand)

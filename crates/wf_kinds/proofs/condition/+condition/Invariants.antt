@@ -1,5 +1,5 @@
 use Rattle.std.proofs.Common.{◌≡◌, ◌*◌, ◌+◌, drop, map}
-use Rattle.wf_val.specs.Seen.{tree, member}
+use Rattle.wf_val.specs.Seen.{tree}
 use Rattle.wf_val.specs.ValueTree.{members, node_count, members_count, trees, trees_count}
 use Rattle.wf_kinds.specs.Conditions.{are_conditions}
 use Rattle.wf_kinds.proofs.condition.+condition.Given as goal

@@ -6,4 +6,5 @@ use Rattle.wf_kinds.proofs.containers.is_any_same.Given as goal
 
 abbrev pub invariant-loop-case : goal.invariant-loop-case
 invariant-loop-case l =
-    list_any (is_same (tree l.value)) (map case_of (map member (drop l.case-index l.cases))) ≡ list_any (is_same (tree l.value)) (map case_of (map member l.cases))
+    list_any (is_same (tree l.value)) (map case_of (map member (drop l.case-index l.cases)))
+    ≡ list_any (is_same (tree l.value)) (map case_of (map member l.cases))

@@ -7,4 +7,5 @@ use Rattle.wf_kinds.proofs.members.are_expressions.Given as goal
 
 abbrev pub invariant-loop-condition : goal.invariant-loop-condition
 invariant-loop-condition l =
-    list_all (λ t. is_text (get (codes "expression") t)) (map tree (drop l.condition-index l.conditions)) ≡ list_all (λ t. is_text (get (codes "expression") t)) (map tree l.conditions)
+    list_all (λ t. is_text (get (codes "expression") t)) (map tree (drop l.condition-index l.conditions))
+    ≡ list_all (λ t. is_text (get (codes "expression") t)) (map tree l.conditions)

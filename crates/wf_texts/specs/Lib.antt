@@ -1,0 +1,4 @@
+pub mod Bad
+pub mod Calls
+pub mod Members
+pub mod Sound
