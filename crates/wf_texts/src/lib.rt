@@ -12,8 +12,10 @@
 
 mod bad;
 mod calls;
+mod laws;
 mod members;
 mod sound;
 
+pub use laws::pointers_lead_to_bad_texts;
 pub use members::{bad_texts_of_action, bad_texts_of_output, bad_texts_of_trigger};
 pub use sound::is_bad;

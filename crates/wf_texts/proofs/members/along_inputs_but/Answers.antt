@@ -12,6 +12,8 @@ use Rattle.wf_texts.proofs.members.along_inputs_but.Goals as goal
 pub returns-in_ok-found-in-Some : goal.returns-in_ok-found-in-Some
 returns-in_ok-found-in-Some c =
     let t : ValueTree = tree c.in-Some.inputs.now in
-    let there : get (codes "inputs") (tree c.args.action.now) ≡ Some t = sym c.member.ensures ∙ ap (option_map (λ v. tree v.now)) c.in-Some.is in
+    let there : get (codes "inputs") (tree c.args.action.now) ≡ Some t =
+    sym c.member.ensures ∙ ap (option_map (λ v. tree v.now)) c.in-Some.is in
     rw there (IfOk-weaker c.with_member.result _ _
-    (λ p h. h ∙ under (member_step (codes "inputs")) (along (to_all_but c.args.name.now ∷ []) t) _ c.in_ok-found-in-Some.ensures) c.with_member.ensures)
+    (λ p h. h ∙ under (member_step (codes "inputs")) (along (to_all_but c.args.name.now ∷ []) t) _ c.in_ok-found-in-Some.ensures)
+    c.with_member.ensures)

@@ -12,4 +12,6 @@ abbrev pub decreases-are_sound : goal.decreases-are_sound
 decreases-are_sound l = 2 * exprs_count (expr_trees (map expr_tree l.args.now)) + 1
 
 abbrev pub invariant-are_sound-loop-arg : goal.invariant-are_sound-loop-arg
-invariant-are_sound-loop-arg l = are_sound (expr_trees (map expr_tree (drop l.arg-index l.args))) ≡ are_sound (expr_trees (map expr_tree l.args))
+invariant-are_sound-loop-arg l =
+    are_sound (expr_trees (map expr_tree (drop l.arg-index l.args)))
+    ≡ are_sound (expr_trees (map expr_tree l.args))
