@@ -1,0 +1,6 @@
+pub mod FillLemmas
+pub mod OrderLaws
+pub mod PlaceLemmas
+pub mod RelationLemmas
+pub mod WalkLemmas
+pub mod WorkedRows
