@@ -42,7 +42,11 @@ is_here true p c = elim (first_or_rest [] [] p c) [ inl is ↦ (refl, sym is) | 
 is_here false p c = absurd (none_in_nothing p c)
 
 is_flagged : (flawed : Bool) (name p : List ℕ) → Contains (flagged flawed name) p → (flawed ≡ true) × (p ≡ member_step name)
-is_flagged true name p c = elim (first_or_rest (member_step name) [] p c) [ inl is ↦ (refl, sym is) | inr none ↦ absurd (none_in_nothing p none) ]
+is_flagged true name p c = elim (first_or_rest (member_step name) [] p c) [
+  | inl is ↦ (refl, sym is)
+  | inr none ↦ absurd
+      (none_in_nothing p none)
+]
 is_flagged false name p c = absurd (none_in_nothing p c)
 
 of_false : (b : Bool) → not b ≡ true → b ≡ false
@@ -69,17 +73,18 @@ module _ {R : Type 0} (form : Form R) where
   ]
 
   own_amiss : (role : R) (t : ValueTree) (p : List ℕ) → Contains (own form role t) p → IsAmiss form role t p
-  own_amiss role t p c = elim (Contains-append_cases (here (not (form.is_right role t))) (lacking (form.needed role) t ++ form.beside role t) p c) [
-    | inl itself ↦
-        let (not_right, is) = is_here (not (form.is_right role t)) p itself in
-        subst (IsAmiss form role t) (sym is) (wrong (of_false (form.is_right role t) not_right))
-    | inr others ↦ elim (Contains-append_cases (lacking (form.needed role) t) (form.beside role t) p others) [
-      | inl lacks ↦
-          let (name, listed, none, is) = lacking_amiss (form.needed role) t p lacks in
-          subst (IsAmiss form role t) (sym is) (missing listed none)
-      | inr found ↦ beside found
-    ]
-  ]
+  own_amiss role t p c = elim (Contains-append_cases (here (not (form.is_right role t))) (lacking
+      (form.needed role) t ++ form.beside role t) p c) [
+        | inl itself ↦
+            let (not_right, is) = is_here (not (form.is_right role t)) p itself in
+            subst (IsAmiss form role t) (sym is) (wrong (of_false (form.is_right role t) not_right))
+        | inr others ↦ elim (Contains-append_cases (lacking (form.needed role) t) (form.beside role t) p others) [
+          | inl lacks ↦
+              let (name, listed, none, is) = lacking_amiss (form.needed role) t p lacks in
+              subst (IsAmiss form role t) (sym is) (missing listed none)
+          | inr found ↦ beside found
+        ]
+      ]
 
   -- what is amiss in a part that has a role, or none
   abbrev PartAmiss : Bool → Option R → ValueTree → List ℕ → Type 0
@@ -93,12 +98,14 @@ module _ {R : Type 0} (form : Form R) where
 
   abbrev InItems : R → ℕ → ValueTrees → List ℕ → Type 0
   InItems part start ts p =
-      (i : ℕ) × (u : ValueTree) × (q : List ℕ) × (slice_get (items ts) i ≡ Some u) × (p ≡ item_step (start + i) ++ q) × IsAmiss form part u q
+      (i : ℕ) × (u : ValueTree) × (q : List ℕ) × (slice_get (items ts) i ≡ Some u) × (p
+      ≡ item_step (start + i) ++ q) × IsAmiss form part u q
 
   member_amiss : (role : R) (ms : MemberTrees) (name : List ℕ) (u : ValueTree) (q : List ℕ) (part : Option R) → form.member role name ≡ part
       → Contains (pairs ms) (name, u) → PartAmiss (form.is_closed role) part u q → IsAmiss form role (object ms) (member_step name ++ q)
   member_amiss role ms name u q None is listed amiss =
-      subst (IsAmiss form role (object ms)) (sym (ap (λ q. member_step name ++ q) amiss.1 ∙ append-nil (member_step name))) (further listed amiss.0 is)
+      subst (IsAmiss form role (object ms)) (sym (ap (λ q. member_step name ++ q) amiss.1
+      ∙ append-nil (member_step name))) (further listed amiss.0 is)
   member_amiss role ms name u q (Some part) is listed amiss = in_member listed is amiss
 
   in_part_amiss : (closed : Bool) (part : Option R) (t : ValueTree) (q : List ℕ)
@@ -135,7 +142,8 @@ module _ {R : Type 0} (form : Form R) where
               subst (IsAmiss form role (object ms)) (sym is) (member_amiss role ms name u q (form.member role name) refl listed amiss)
         ]
 
-    listed_in_items : (part : R) (start : ℕ) (ts : ValueTrees) (p : List ℕ) → Contains (in_items form part start ts) p → InItems part start ts p
+    listed_in_items : (part : R) (start : ℕ) (ts : ValueTrees) (p : List ℕ) → Contains (in_items form part start ts) p
+        → InItems part start ts p
     listed_in_items part start no_values p c = absurd (none_in_nothing p c)
     listed_in_items part start (value_then t ts) p c =
         elim (Contains-append_cases (map (λ q. item_step start ++ q) (places form part t)) (in_items form part (suc start) ts) p c) [
@@ -155,8 +163,15 @@ module _ {R : Type 0} (form : Form R) where
         let inside = in_part (form.is_closed role) (form.member role name) (λ part. places form part t) in
         elim (Contains-append_cases (map (λ q. member_step name ++ q) inside) (in_members form role ms) p c) [
           | inl first ↦
-              let (q, listed, is) = from_mapped (λ q. member_step name ++ q) inside p first in
-              (name, t, q, first_listed (name, t) (pairs ms), is, in_part_amiss (form.is_closed role) (form.member role name) t q (λ part. listed_amiss part t q) listed)
+              let (q, listed, is) = from_mapped (λ q. member_step name ++ q) inside p first in (
+                name,
+                t,
+                q,
+                first_listed (name, t) (pairs ms),
+                is,
+                in_part_amiss (form.is_closed role) (form.member role name) t q
+                    (λ part. listed_amiss part t q) listed,
+              )
           | inr later ↦
               let (other, u, q, listed, is, amiss) = listed_in_members role ms p later in
               (other, u, q, Contains-append_right ((name, t) ∷ []) (pairs ms) (other, u) listed, is, amiss)
@@ -169,7 +184,8 @@ module _ {R : Type 0} (form : Form R) where
   own_listed role (boolean b) p c = c
   own_listed role (number n) p c = c
   own_listed role (text s) p c = c
-  own_listed role (list ts) p c = Contains-append_left (own form role (list ts)) (in_list (form.item role) (λ part. in_items form part 0 ts)) p c
+  own_listed role (list ts) p c = Contains-append_left (own form role (list ts)) (in_list (form.item role)
+      (λ part. in_items form part 0 ts)) p c
   own_listed role (object ms) p c = Contains-append_left (own form role (object ms)) (in_members form role ms) p c
 
   lacking_listed : (names : List (List ℕ)) (t : ValueTree) (name : List ℕ) → Contains names name → get name t ≡ None
@@ -178,16 +194,20 @@ module _ {R : Type 0} (form : Form R) where
   lacking_listed (first ∷ names) t name c none = elim (first_or_rest first names name c) [
     | inl is ↦
         let lacks : get first t ≡ None = subst (λ k. get k t ≡ None) (sym is) none in
-        rw lacks (subst (λ k. Contains (member_step first ∷ lacking names t) (member_step k)) is (first_listed (member_step first) (lacking names t)))
+        rw lacks (subst (λ k. Contains (member_step first
+        ∷ lacking names t) (member_step k)) is (first_listed (member_step first) (lacking names t)))
     | inr rest ↦
-        Contains-append_right (flagged (is_none (get first t)) first) (lacking names t) (member_step name) (lacking_listed names t name rest none)
+        Contains-append_right (flagged (is_none (get first t)) first) (lacking names t) (member_step name)
+        (lacking_listed names t name rest none)
   ]
 
   wrong_listed : (role : R) (t : ValueTree) → form.is_right role t ≡ false → Contains (own form role t) []
   wrong_listed role t is = rw is (first_listed [] (lacking (form.needed role) t ++ form.beside role t))
 
-  others_listed : (role : R) (t : ValueTree) (p : List ℕ) → Contains (lacking (form.needed role) t ++ form.beside role t) p → Contains (own form role t) p
-  others_listed role t p c = Contains-append_right (here (not (form.is_right role t))) (lacking (form.needed role) t ++ form.beside role t) p c
+  others_listed : (role : R) (t : ValueTree) (p : List ℕ) → Contains (lacking (form.needed role) t ++ form.beside role t) p
+      → Contains (own form role t) p
+  others_listed role t p c = Contains-append_right (here (not (form.is_right role t))) (lacking
+      (form.needed role) t ++ form.beside role t) p c
 
   member_listed : (role : R) (ms : MemberTrees) (name : List ℕ) (u : ValueTree) (q : List ℕ) → Contains (pairs ms) (name, u)
       → Contains (in_part (form.is_closed role) (form.member role name) (λ part. places form part u)) q
@@ -223,7 +243,8 @@ module _ {R : Type 0} (form : Form R) where
       (Contains-append_right ps (in_items form part (suc start) ts) (item_step (suc start + i) ++ q)
       (item_listed part (suc start) i ts u q found listed))
 
-  inside_object : (role : R) (ms : MemberTrees) (p : List ℕ) → Contains (in_members form role ms) p → Contains (places form role (object ms)) p
+  inside_object : (role : R) (ms : MemberTrees) (p : List ℕ) → Contains (in_members form role ms) p
+      → Contains (places form role (object ms)) p
   inside_object role ms p c = Contains-append_right (own form role (object ms)) (in_members form role ms) p c
 
   inside_list : (role part : R) (ts : ValueTrees) (p : List ℕ) → form.item role ≡ Some part → Contains (in_items form part 0 ts) p
@@ -231,10 +252,12 @@ module _ {R : Type 0} (form : Form R) where
   inside_list role part ts p is c =
       Contains-append_right (own form role (list ts)) (in_list (form.item role) (λ part. in_items form part 0 ts)) p (rw is c)
 
-  further_listed : (role : R) (ms : MemberTrees) (name : List ℕ) (u : ValueTree) → Contains (pairs ms) (name, u) → form.is_closed role ≡ true
+  further_listed : (role : R) (ms : MemberTrees) (name : List ℕ) (u : ValueTree) → Contains (pairs ms) (name, u)
+      → form.is_closed role ≡ true
       → form.member role name ≡ None → Contains (places form role (object ms)) (member_step name)
   further_listed role ms name u c closed none =
-      let there : Contains (in_part (form.is_closed role) (form.member role name) (λ part. places form part u)) [] = rw (closed, none) (first_listed [] []) in
+      let there : Contains (in_part (form.is_closed role) (form.member role name) (λ part. places form part u)) [] = rw (closed, none)
+      (first_listed [] []) in
       subst (Contains (places form role (object ms))) (append-nil (member_step name))
       (inside_object role ms (member_step name ++ []) (member_listed role ms name u [] c there))
 
@@ -242,7 +265,8 @@ module _ {R : Type 0} (form : Form R) where
   amiss_listed (wrong {role} {t} is) = own_listed role t [] (wrong_listed role t is)
   amiss_listed (missing {role} {t} {name} needed none) =
       own_listed role t (member_step name) (others_listed role t (member_step name)
-      (Contains-append_left (lacking (form.needed role) t) (form.beside role t) (member_step name) (lacking_listed (form.needed role) t name needed none)))
+      (Contains-append_left (lacking (form.needed role) t) (form.beside role t) (member_step name) (lacking_listed
+      (form.needed role) t name needed none)))
   amiss_listed (beside {role} {t} {p} found) =
       own_listed role t p (others_listed role t p (Contains-append_right (lacking (form.needed role) t) (form.beside role t) p found))
   amiss_listed (further {role} {ms} {name} {u} c closed none) = further_listed role ms name u c closed none
@@ -251,7 +275,8 @@ module _ {R : Type 0} (form : Form R) where
   amiss_listed (in_item {role} {part} {ts} i {u} {p} found is amiss) =
       let from_first : 0 + i ≡ i = omega arith in
       inside_list role part ts (item_step i ++ p) is
-      (subst (λ n. Contains (in_items form part 0 ts) (item_step n ++ p)) from_first (item_listed part 0 i ts u p found (amiss_listed amiss)))
+      (subst (λ n. Contains (in_items form part 0 ts) (item_step n ++ p)) from_first (item_listed part 0 i ts u p found
+      (amiss_listed amiss)))
 
   pub listed_iff_amiss : (role : R) (t : ValueTree) (p : List ℕ) → Contains (places form role t) p ↔ IsAmiss form role t p
   listed_iff_amiss role t p = (listed_amiss role t p, λ amiss. amiss_listed amiss)

@@ -26,7 +26,8 @@ module _ {R : Type 0} (form : Form R) (role : R) where
       → best' ≡ lesser best (option_map (λ p. member_step k ++ p) rest)
       → lesser best' (least (in_members form role ms)) ≡ lesser best (least (in_members form role (member_then k t ms)))
   member_more best best' rest k t ms found now =
-      behind (member_step k) best best' rest (in_part (form.is_closed role) (form.member role k) (λ part. places form part t)) (in_members form role ms) found now
+      behind (member_step k) best best' rest (in_part (form.is_closed role) (form.member role k) (λ part. places form part t))
+      (in_members form role ms) found now
 
   pub item_more : (best best' rest : Option (List ℕ)) (place : ℕ) (t : ValueTree) (ts : ValueTrees)
       → rest ≡ least (places form role t)
@@ -35,10 +36,12 @@ module _ {R : Type 0} (form : Form R) (role : R) where
   item_more best best' rest place t ts found now =
       behind (item_step place) best best' rest (places form role t) (in_items form role (suc place) ts) found now
 
-  pub own_and_members : (ms : MemberTrees) → least (places form role (object ms)) ≡ lesser (least (own form role (object ms))) (least (in_members form role ms))
+  pub own_and_members : (ms : MemberTrees)
+      → least (places form role (object ms)) ≡ lesser (least (own form role (object ms))) (least (in_members form role ms))
   own_and_members ms = least-append (own form role (object ms)) (in_members form role ms)
 
-  pub own_and_items : (ts : ValueTrees) → least (places form role (list ts)) ≡ lesser (least (own form role (list ts))) (least (in_list (form.item role) (λ part. in_items form part 0 ts)))
+  pub own_and_items : (ts : ValueTrees) → least (places form role (list ts))
+      ≡ lesser (least (own form role (list ts))) (least (in_list (form.item role) (λ part. in_items form part 0 ts)))
   own_and_items ts = least-append (own form role (list ts)) (in_list (form.item role) (λ part. in_items form part 0 ts))
 
 -- the list from a place on

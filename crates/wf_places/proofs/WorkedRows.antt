@@ -98,7 +98,8 @@ missing-both : least (all (with_point (of []))) ≡ Some (codes "/p/x")
 missing-both = refl
 
 -- a member too many is named itself, and what is in it isn't looked at
-further-closed : all (with_point (of ((codes "x", n 1) ∷ (codes "y", n 1) ∷ (codes "z", list (trees (n 10 ∷ []))) ∷ []))) ≡ codes "/p/z" ∷ []
+further-closed : all (with_point (of ((codes "x", n 1) ∷ (codes "y", n 1) ∷ (codes "z", list (trees (n 10 ∷ []))) ∷ [])))
+    ≡ codes "/p/z" ∷ []
 further-closed = refl
 
 -- where others are allowed, nothing is asked of one without a role

@@ -1,5 +1,5 @@
--- Where a value isn't of a form. A form is a table over roles: what a value in the role has to be, which members it must have, and the roles
--- of its members and items. A role is what a value stands for; its parent gives it. A pointer is that of RFC 6901.
+-- Where a value isn't of a form. A form is a table over roles: what a value in the role has to be, which members it must have, and the
+-- roles of its members and items. A role is what a value stands for; its parent gives it. A pointer is that of RFC 6901.
 use Rattle.std.specs.Prelude.{ℕ, suc, List, [], ◌∷◌, ◌++◌, map, Bool, not, Option, Some, None, is_none}
 use Rattle.wf_json.specs.Pointer.{here, flagged, item_step, member_step}
 use Rattle.wf_val.specs.Get.{get}
@@ -48,7 +48,8 @@ module _ {R : Type 0} (form : Form R) where
     pub in_members : R → MemberTrees → List (List ℕ)
     in_members role no_members = []
     in_members role (member_then name t ms) =
-        map (λ p. member_step name ++ p) (in_part (form.is_closed role) (form.member role name) (λ part. places part t)) ++ in_members role ms
+        map (λ p. member_step name ++ p) (in_part (form.is_closed role) (form.member role name)
+        (λ part. places part t)) ++ in_members role ms
 
     pub in_items : R → ℕ → ValueTrees → List (List ℕ)
     in_items role place no_values = []

@@ -12,8 +12,10 @@ pub least_with_members-least_in_part-requires : goal.least_with_members-least_in
 least_with_members-least_in_part-requires g t c κs within =
     let ms : List (List ℕ × Val) = c.as_slice-name-items.result.now in
     let item = c.loop-name-item.result in
-    let whole : members_count (members (map member ms)) ≡ members_count (members c.args.fields.now) = ap (λ ts. members_count (members ts)) c.as_slice-name-items.ensures.members in
-    let same : node_count (tree item.1) ≡ node_count (tree (get_or ms c.loop-name.name-index item).1) = ap (λ (m : List ℕ × Val). node_count (tree m.1)) c.loop-name-item.is in
+    let whole : members_count (members (map member ms))
+    ≡ members_count (members c.args.fields.now) = ap (λ ts. members_count (members ts)) c.as_slice-name-items.ensures.members in
+    let same : node_count (tree item.1) ≡ node_count (tree (get_or ms c.loop-name.name-index item).1) = ap (λ
+    (m : List ℕ × Val). node_count (tree m.1)) c.loop-name-item.is in
     let here = member_count-le ms c.loop-name.name-index item (omega arith) in
     (omega (arith, c.decreases, whole, same, here), within)
 
@@ -21,8 +23,10 @@ pub least_with_items-least_in-requires : goal.least_with_items-least_in-requires
 least_with_items-least_in-requires g t c κs within =
     let vs : List Val = c.as_slice-item-items.result.now in
     let item : Val = c.item-item.result in
-    let whole : trees_count (trees (map tree vs)) ≡ trees_count (trees c.args.items.now) = ap (λ ts. trees_count (trees ts)) c.as_slice-item-items.ensures in
-    let same : node_count (tree item) ≡ node_count (tree (get_or vs c.loop-place.place item)) = ap (λ v. node_count (tree v)) c.item-item.is in
+    let whole : trees_count (trees (map tree vs))
+    ≡ trees_count (trees c.args.items.now) = ap (λ ts. trees_count (trees ts)) c.as_slice-item-items.ensures in
+    let same : node_count (tree item) ≡ node_count (tree (get_or vs c.loop-place.place item)) = ap (λ v. node_count
+    (tree v)) c.item-item.is in
     let here = item_count-le vs c.loop-place.place item (omega arith) in
     (omega (arith, c.decreases, whole, same, here), within)
 
@@ -36,11 +40,14 @@ least_with_members-loop-name-preserved g t c =
     let table = g.F.Form.table in
     let here = drop_at_place ms i item (omega arith) c.loop-name-item.is in
     let asked = c.member.ensures ∙ ap (table.member c.args.role) c.as_str.ensures in
-    let found : rest ≡ least (in_part (table.is_closed c.args.role) (table.member c.args.role item.0) (λ part. places table part (tree item.1))) =
+    let found : rest ≡ least (in_part (table.is_closed c.args.role) (table.member c.args.role item.0) (λ part. places table part
+    (tree item.1))) =
     c.in_ok-rest.ensures
     ∙ ap₂ (λ closed part. least (in_part closed part (λ role. places table role (tree item.1)))) c.is_closed-closed.ensures asked in
-    let now = c.in_ok-best.ensures ∙ ap (λ (k : List ℕ). lesser best (option_map (λ q. member_step k ++ q) rest)) c.as_str-in-loop-name.ensures in
-    member_more table c.args.role best (option_map string_bytes c.in_ok-best.best) rest item.0 (tree item.1) (members (map member (drop (i + 1) ms))) found now
+    let now = c.in_ok-best.ensures ∙ ap (λ (k : List ℕ). lesser best (option_map
+    (λ q. member_step k ++ q) rest)) c.as_str-in-loop-name.ensures in
+    member_more table c.args.role best (option_map string_bytes c.in_ok-best.best) rest item.0 (tree item.1) (members (map member (drop
+    (i + 1) ms))) found now
     ∙ ap (λ (xs : List (List ℕ × Val)). lesser best (least (in_members table c.args.role (members (map member xs))))) (sym here)
     ∙ c.loop-name.invariant
 
@@ -53,7 +60,9 @@ least_with_items-loop-place-preserved g t c =
     let rest : Option (List ℕ) = option_map string_bytes c.in_ok-rest.rest in
     let table = g.F.Form.table in
     let here = drop_at_place vs i item (omega arith) c.item-item.is in
-    ap (λ n. lesser (option_map string_bytes c.in_ok-best.best) (least (in_items table c.args.role n (trees (map tree (drop (i + 1) vs)))))) (add-one i)
-    ∙ item_more table c.args.role best (option_map string_bytes c.in_ok-best.best) rest i (tree item) (trees (map tree (drop (i + 1) vs))) c.in_ok-rest.ensures c.in_ok-best.ensures
+    ap (λ n. lesser (option_map string_bytes c.in_ok-best.best) (least (in_items table c.args.role n (trees (map tree (drop
+    (i + 1) vs)))))) (add-one i)
+    ∙ item_more table c.args.role best (option_map string_bytes c.in_ok-best.best) rest i (tree item) (trees (map tree (drop
+    (i + 1) vs))) c.in_ok-rest.ensures c.in_ok-best.ensures
     ∙ ap (λ (xs : List Val). lesser best (least (in_items table c.args.role i (trees (map tree xs))))) (sym here)
     ∙ c.loop-place.invariant

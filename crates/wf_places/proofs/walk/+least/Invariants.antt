@@ -20,7 +20,8 @@ decreases-least_with_items g l = 3 * trees_count (trees l.items.now) + 2
 -- the least so far and the least of what is left
 abbrev pub invariant-least_with_members-loop-name : goal.invariant-least_with_members-loop-name
 invariant-least_with_members-loop-name g l =
-    lesser (option_map string_bytes l.best) (least (in_members g.F.Form.table l.role (members (map member (drop l.name-index l.name-items)))))
+    lesser (option_map string_bytes l.best) (least (in_members g.F.Form.table l.role (members (map member
+    (drop l.name-index l.name-items)))))
     ≡ lesser (option_map string_bytes l.fn.own) (least (in_members g.F.Form.table l.role (members l.fields)))
 
 abbrev pub invariant-least_with_items-loop-place : goal.invariant-least_with_items-loop-place
