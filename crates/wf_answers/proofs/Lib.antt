@@ -1,0 +1,5 @@
+mod AnswerLemmas
+mod DoubleLemmas
+mod GatherLemmas
+mod KeptLemmas
+mod WorkedRows

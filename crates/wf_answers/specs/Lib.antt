@@ -1,0 +1,10 @@
+pub mod AnswerSeen
+pub mod AnswerTree
+pub mod Asked
+pub mod Doubles
+pub mod GatherSeen
+pub mod Gathered
+pub mod Inputs
+pub mod InputsForm
+pub mod InputsSeen
+pub mod Members

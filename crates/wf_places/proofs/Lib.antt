@@ -1,0 +1,3 @@
+mod AmissLemmas
+mod WorkedRows
+pub mod WalkLemmas

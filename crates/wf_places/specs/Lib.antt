@@ -1,0 +1,3 @@
+pub mod Amiss
+pub mod Form
+pub mod Least

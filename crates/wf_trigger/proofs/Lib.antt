@@ -1,0 +1,4 @@
+mod ParameterLemmas
+mod RunLemmas
+pub mod StartLemmas
+mod WorkedRows

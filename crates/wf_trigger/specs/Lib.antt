@@ -1,0 +1,9 @@
+pub mod Choosing
+pub mod LookSeen
+pub mod Parameters
+pub mod Runs
+pub mod Shared
+pub mod Splitting
+pub mod Starts
+pub mod StartsSeen
+pub mod TriggerLook
