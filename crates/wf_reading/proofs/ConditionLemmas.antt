@@ -1,6 +1,6 @@
 -- The one member of an object that has just one.
-use Rattle.std.proofs.Common.{◌≡◌, ◌≤◌, ◌≢◌, ℕ, List, [], ◌∷◌, Option, Some, None, length, slice_get, refl, sym, ap, ◌∙◌, arith}
-use Rattle.wf_val.specs.ValueTree.{ValueTree, Member, members, members_count, node_count}
+use Rattle.std.proofs.Common.{◌≡◌, ◌≤◌, ◌≢◌, List, [], ◌∷◌, Option, Some, None, length, slice_get, refl, ap, arith}
+use Rattle.wf_val.specs.ValueTree.{Member, members, members_count, node_count}
 use Rattle.wf_template.specs.CondTree.{CondTree}
 use Rattle.wf_reading.specs.Conditions.{condition_by, condition_named, condition_of, conditions_in, no_condition, only}
 

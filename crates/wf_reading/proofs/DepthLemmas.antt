@@ -1,13 +1,13 @@
 -- Where no action of a graph offends by its `runAfter`, an action that is waited for leads to fewer than one that waits for it.
-use Rattle.std.proofs.Common.{◌≡◌, ℕ, zero, suc, ◌+◌, ◌<◌, ◌≤◌, Bool, true, false, cond, List, [], ◌∷◌, ◌++◌, Option, Some, None, length, map, option_map, slice_get, Less, bytes_eq, refl, sym, ap, subst, ◌∙◌, append_assoc, length-append, arith}
-use Rattle.std.specs.Prelude.{◌||◌, ◌↔◌, is_none, nat_eq, if◌then◌else◌}
+use Rattle.std.proofs.Common.{◌≡◌, ℕ, zero, suc, ◌+◌, ◌<◌, ◌≤◌, Bool, true, false, cond, List, [], ◌∷◌, ◌++◌, Option, Some, None, length, option_map, slice_get, Less, bytes_eq, refl, sym, ap, subst, ◌∙◌, append_assoc, length-append, arith}
+use Rattle.std.specs.Prelude.{◌||◌, ◌↔◌, is_none, nat_eq}
 use Rattle.std.specs.List.{AllByRecursion, list_any}
 use Rattle.std.proofs.Math.Bool.{or-true}
 use Rattle.std.proofs.lemmas.Bool.Decides.{Decides-eqb}
 use Rattle.std.proofs.lemmas.Slice.Eq.{bytes_eq-Decides}
 use Rattle.wf_val.specs.Get.{name_of}
 use Rattle.wf_val.specs.NameOrder.{bytes_cmp, IsInNameOrder}
-use Rattle.wf_val.specs.ValueTree.{ValueTree, Member, members, pairs, MemberTrees, no_members, member_then}
+use Rattle.wf_val.specs.ValueTree.{Member}
 use Rattle.wf_json.specs.Pointer.{flagged}
 use Rattle.wf_paths.specs.Path.{IsPath}
 use Rattle.wf_paths.specs.Table.{at, edge_of, names as names_place, paths_of}

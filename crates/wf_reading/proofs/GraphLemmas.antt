@@ -2,8 +2,8 @@
 use Rattle.std.proofs.Common.{◌≡◌, ℕ, suc, ◌<◌, length, drop, drop-cons, get_or, add-one, ◌≤◌, ◌+◌, List, [], ◌∷◌, ◌++◌, Option, Some, None, option_map, Bool, true, false, bytes_eq, refl, sym, ap, ◌∙◌, arith}
 use Rattle.std.specs.Prelude.{if◌then◌else◌}
 use Rattle.std.proofs.lemmas.Map.Text.{is_eq-slice_cmp}
-use Rattle.wf_val.specs.NameOrder.{bytes_cmp, find_named}
-use Rattle.wf_val.specs.ValueTree.{ValueTree, Member, MemberTrees, members, members_count, node_count}
+use Rattle.wf_val.specs.NameOrder.{find_named}
+use Rattle.wf_val.specs.ValueTree.{ValueTree, Member, members, members_count, node_count}
 use Rattle.wf_val.specs.Get.{name_of, value_of}
 use Rattle.wf_json.specs.Pointer.{member_step}
 use Rattle.wf_def.specs.ActionTree.{ActionTrees, no_actions, CaseTree}

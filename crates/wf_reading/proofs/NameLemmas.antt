@@ -1,17 +1,16 @@
 -- The actions that are read are those that the rules look at, in the same order.
-use Rattle.std.proofs.Common.{◌≡◌, ℕ, Bool, true, false, List, [], ◌∷◌, ◌++◌, Option, Some, None, map, Less, is_eq, bytes_eq, refl, sym, ap, ◌∙◌, append-nil}
+use Rattle.std.proofs.Common.{◌≡◌, ℕ, Bool, true, false, List, [], ◌∷◌, ◌++◌, Option, Some, None, bytes_eq, refl, sym, ap, ◌∙◌, append-nil}
 use Rattle.std.specs.Prelude.{if◌then◌else◌, codes, unwrap_or}
 use Rattle.std.proofs.lemmas.List.{map-append}
-use Rattle.std.proofs.lemmas.Map.Text.{is_eq-slice_cmp}
 use Rattle.wf_val.specs.Get.{get, name_of, value_of}
-use Rattle.wf_val.specs.NameOrder.{bytes_cmp, IsInNameOrder}
-use Rattle.wf_val.specs.ValueTree.{ValueTree, null, boolean, number, text, list, object, MemberTrees, no_members, member_then, Member, pairs}
+use Rattle.wf_val.specs.NameOrder.{IsInNameOrder}
+use Rattle.wf_val.specs.ValueTree.{ValueTree, null, boolean, number, text, list, object, MemberTrees, no_members, member_then, pairs}
 use Rattle.wf_val.specs.WellFormed.{IsWellFormed, AllMembersWellFormed}
 use Rattle.wf_json.specs.Pointer.{member_step}
 use Rattle.wf_kinds.specs.ActionType.{type_of}
 use Rattle.wf_kinds.specs.declared.action_type.ActionType.{ActionType}
-use Rattle.wf_form.specs.Actions.{actions_among, actions_in, actions_of as all_actions, in_part}
-use Rattle.wf_form.specs.Role.{child, deeper, graph_at, held, holder_by, holder_of, section}
+use Rattle.wf_form.specs.Actions.{actions_among, actions_in, in_part}
+use Rattle.wf_form.specs.Role.{child, deeper, graph_at, holder_by, holder_of}
 use Rattle.wf_form.specs.declared.role.Role.{Role}
 use Rattle.wf_form.specs.declared.role.Holder.{Holder}
 use Rattle.wf_def.specs.ActionTree.{ActionTrees, no_actions, action_trees, CaseTree, case_trees}

@@ -1,6 +1,6 @@
 -- Where a list has what passes a test in front, and how many pass.
-use Rattle.std.proofs.Common.{◌≡◌, ◌+◌, ◌<◌, ◌≤◌, ℕ, zero, suc, Bool, true, false, cond, List, [], ◌∷◌, length, map, get_or, refl, sym, ap, ◌∙◌, arith}
-use Rattle.std.specs.List.{AllWithin, count_by, sum_by}
+use Rattle.std.proofs.Common.{◌≡◌, ◌+◌, ◌≤◌, ℕ, zero, suc, Bool, true, false, cond, List, [], ◌∷◌, length, map, get_or, refl, sym, ap, ◌∙◌, arith}
+use Rattle.std.specs.List.{AllWithin, count_by}
 use Rattle.std.specs.List.Sorted.{IsPartitionedBy, IsSorted}
 use Rattle.std.specs.Ordering.{is_lt, ordering_index}
 use Rattle.std.specs.declared.cmp.Ordering.{Ordering}

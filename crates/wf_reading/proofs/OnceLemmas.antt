@@ -1,5 +1,5 @@
 -- Of a definition that breaks no rule: the names of its actions stand once, and there are at most 500.
-use Rattle.std.proofs.Common.{◌≡◌, ℕ, suc, ◌+◌, ◌<◌, ◌≤◌, Bool, true, false, List, [], ◌∷◌, ◌++◌, Option, Some, None, length, map, bytes_eq, refl, sym, ap, subst, ◌∙◌, arith}
+use Rattle.std.proofs.Common.{◌≡◌, ℕ, suc, ◌≤◌, Bool, true, false, List, [], ◌∷◌, ◌++◌, Option, Some, None, length, map, bytes_eq, refl, arith}
 use Rattle.std.specs.Prelude.{◌||◌, not, nat_lt, codes, if◌then◌else◌}
 use Rattle.std.specs.List.{AllByRecursion, list_any}
 use Rattle.std.proofs.lemmas.Bool.{ltb-false}
@@ -10,7 +10,7 @@ use Rattle.wf_val.specs.ValueTree.{ValueTree, null, boolean, number, text, list,
 use Rattle.wf_json.specs.Pointer.{flagged, here, member_step}
 use Rattle.wf_form.specs.Actions.{actions_among, actions_in, actions_of, in_part, own_action}
 use Rattle.wf_form.specs.Fault.{offences}
-use Rattle.wf_form.specs.Limits.{limits, limits_at}
+use Rattle.wf_form.specs.Limits.{limits}
 use Rattle.wf_form.specs.Naming.{is_name, naming}
 use Rattle.wf_form.specs.Places.{in_members, places}
 use Rattle.wf_form.specs.Role.{child, holder_of}

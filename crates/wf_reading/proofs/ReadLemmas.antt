@@ -1,8 +1,8 @@
 -- The definition in a file that breaks no rule.
-use Rattle.std.proofs.Common.{◌≡◌, ℕ, List, Option, Some, None, option_map, bytes_eq, true, false, refl, sym, subst, ◌∙◌}
+use Rattle.std.proofs.Common.{◌≡◌, Option, Some, None, option_map, refl}
 use Rattle.std.specs.Prelude.{codes, unwrap_or}
-use Rattle.wf_val.specs.Get.{get, value_of}
-use Rattle.wf_val.specs.ValueTree.{ValueTree, null, boolean, number, text, list, object, pairs}
+use Rattle.wf_val.specs.Get.{get}
+use Rattle.wf_val.specs.ValueTree.{ValueTree, null, boolean, number, text, list, object}
 use Rattle.wf_val.specs.WellFormed.{IsWellFormed}
 use Rattle.wf_form.specs.Fault.{fault_of, first_fault, inner_of}
 use Rattle.wf_reading.proofs.RunAfterLemmas.{value-well_formed}

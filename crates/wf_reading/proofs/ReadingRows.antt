@@ -1,15 +1,15 @@
 -- Worked actions, and what they are read as.
 use Prim.Native.String.{String}
-use Rattle.std.proofs.Common.{◌≡◌, ℕ, List, [], ◌∷◌, ◌++◌, Bool, true, false, Option, Some, None, map, refl}
+use Rattle.std.proofs.Common.{◌≡◌, ℕ, List, [], ◌∷◌, Bool, true, false, Option, Some, None, map, refl}
 use Rattle.std.specs.Prelude.{codes, pos, neg_ℤ}
 use Rattle.wf_val.specs.ValueTree.{ValueTree, Member, null, boolean, number, text, list, trees, object, members}
 use Rattle.wf_val.specs.declared.function.Fun.{Fun}
-use Rattle.wf_template.specs.CondTree.{CondTree, holds, all_of, any_of, not_of, compare_by, cond_trees}
+use Rattle.wf_template.specs.CondTree.{holds, all_of, any_of, not_of, compare_by, cond_trees}
 use Rattle.wf_template.specs.DataTree as datum
-use Rattle.wf_template.specs.TemplateTree.{TemplateTree, plain}
+use Rattle.wf_template.specs.TemplateTree.{TemplateTree}
 use Rattle.wf_retry.specs.declared.policy.Policy.{Policy}
 use Rattle.wf_kinds.specs.ActionType.{type_of}
-use Rattle.wf_def.specs.ActionTree.{InitialTree, ActionTree, action, KindTree, compose, connector, wait, response, terminate, select, query, join, parse_json, initialize, set_to, increment, decrement, append_array, append_string, scope, branch, switch, switch_else, foreach, until, ActionTrees, no_actions, action_then, CaseTrees, no_cases, case_then}
+use Rattle.wf_def.specs.ActionTree.{InitialTree, action, KindTree, compose, connector, wait, response, terminate, select, query, join, parse_json, initialize, set_to, increment, decrement, append_array, append_string, scope, branch, switch, switch_else, foreach, until, ActionTrees, no_actions, action_then, no_cases, case_then}
 use Rattle.wf_def.specs.declared.after.After.{After}
 use Rattle.wf_def.specs.declared.sort.Sort.{Sort}
 use Rattle.wf_reading.specs.Afters.{afters_of}
@@ -18,7 +18,7 @@ use Rattle.wf_reading.specs.Graphs.{action_of, graph_of, kind_at}
 use Rattle.wf_reading.specs.Numbers.{number_among}
 use Rattle.wf_reading.specs.Options.{lists_option}
 use Rattle.wf_reading.specs.Sections.{given_in, output_of, parameter_of, trigger_of}
-use Rattle.wf_reading.specs.Texts.{data_of, template_of}
+use Rattle.wf_reading.specs.Texts.{template_of}
 use Rattle.wf_reading.specs.Meant.{definition_of}
 use Rattle.sha2.specs.Sha256.{sha256}
 use Rattle.wf_json.specs.Json.{json}

@@ -1,5 +1,5 @@
 -- Of a definition that breaks no rule: what the entries of `runAfter` name, and that they have depths.
-use Rattle.std.proofs.Common.{◌≡◌, ℕ, suc, ◌<◌, Bool, true, false, List, [], ◌∷◌, ◌++◌, Option, Some, None, map, option_map, bytes_eq, refl, sym, ap, subst, ◌∙◌}
+use Rattle.std.proofs.Common.{◌≡◌, ℕ, suc, ◌<◌, true, false, List, [], ◌∷◌, ◌++◌, Option, Some, None, map, option_map, bytes_eq, refl, sym, ap, subst, ◌∙◌}
 use Rattle.std.specs.Prelude.{◌||◌, codes}
 use Rattle.std.specs.List.{AllByRecursion, list_any}
 use Rattle.std.proofs.Math.Bool.{or-true}
@@ -8,20 +8,19 @@ use Rattle.wf_val.specs.NameOrder.{IsInNameOrder}
 use Rattle.wf_val.specs.ValueTree.{ValueTree, null, boolean, number, text, list, object, MemberTrees, no_members, member_then, Member, pairs}
 use Rattle.wf_val.specs.WellFormed.{IsWellFormed, AllMembersWellFormed}
 use Rattle.wf_json.specs.Pointer.{member_step}
-use Rattle.wf_after.specs.Entries.{entries as judged_entries, entries_of, place_in}
+use Rattle.wf_after.specs.Entries.{entries as judged_entries, place_in}
 use Rattle.wf_after.specs.Waits.{bad_run_after}
 use Rattle.wf_form.specs.Actions.{in_part}
-use Rattle.wf_form.specs.Fault.{first_fault, offences, rules_in_order, Hold}
-use Rattle.wf_form.specs.Judge.{judge, run_after}
+use Rattle.wf_form.specs.Fault.{offences}
+use Rattle.wf_form.specs.Judge.{run_after}
 use Rattle.wf_form.specs.Places.{in_members, places}
 use Rattle.wf_form.specs.Role.{child, holder_of}
 use Rattle.wf_form.specs.Whole.{Whole, whole_of}
 use Rattle.wf_form.specs.declared.role.Role.{Role}
 use Rattle.wf_form.specs.declared.role.Holder.{Holder}
 use Rattle.wf_form.specs.declared.rule.Rule.{Rule}
-use Rattle.wf_def.specs.ActionTree.{ActionTree, action_after, action_name, ActionTrees, no_actions, action_trees, actions_in}
-use Rattle.wf_def.specs.declared.after.After.{After}
-use Rattle.wf_reading.specs.Afters.{after_of, afters_of, entries}
+use Rattle.wf_def.specs.ActionTree.{ActionTree, action_after, action_name, no_actions, action_trees, actions_in}
+use Rattle.wf_reading.specs.Afters.{after_of, entries}
 use Rattle.wf_reading.specs.Graphs.{actions_of, graph_of}
 use Rattle.wf_reading.specs.Meant.{top_at}
 use Rattle.wf_reading.specs.Facts.{HasDepths, is_named}

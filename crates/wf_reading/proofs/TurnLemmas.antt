@@ -1,9 +1,8 @@
 -- What is read may turn: a Foreach goes at one iteration at a time at least, and an Until has one at least.
-use Rattle.std.proofs.Common.{◌≡◌, ℕ, zero, suc, ◌<◌, ◌≤◌, Bool, true, false, ◌&&◌, List, [], ◌∷◌, ◌++◌, Option, Some, None, bytes_eq, refl, sym, ap, subst, ◌∙◌, arith}
+use Rattle.std.proofs.Common.{◌≡◌, ℕ, ◌<◌, Bool, true, false, List, ◌++◌, Option, Some, None, bytes_eq, refl, arith}
 use Rattle.std.specs.Prelude.{if◌then◌else◌, codes, unwrap_or, ℤ, pos, nat_le, ◌==◌}
 use Rattle.std.proofs.lemmas.Bool.{leb-true}
 use Rattle.wf_val.specs.ValueTree.{ValueTree, null, boolean, number, text, list, object, MemberTrees, no_members, member_then}
-use Rattle.wf_val.specs.Get.{get}
 use Rattle.wf_json.specs.Pointer.{member_step}
 use Rattle.wf_kinds.specs.ActionType.{type_of}
 use Rattle.wf_kinds.specs.Containers.{limit, repetitions}
@@ -11,7 +10,7 @@ use Rattle.wf_kinds.specs.declared.action_type.ActionType.{ActionType}
 use Rattle.wf_layers.specs.Definition as layers
 use Rattle.wf_def.specs.ActionTree.{ActionTrees, no_actions, CaseTree, case_trees}
 use Rattle.wf_def.specs.Layered.{layered, layered_cases, layered_kind, pace}
-use Rattle.wf_reading.specs.Graphs.{actions_of, branch_in, branch_of, cases_in, cases_of, count_of, each_case, graph_in, graph_of, has_option, kind_at, kind_with, number_in, repetitions_of, switch_of, within}
+use Rattle.wf_reading.specs.Graphs.{branch_in, branch_of, cases_in, cases_of, each_case, graph_in, graph_of, has_option, kind_at, kind_with, number_in, repetitions_of, switch_of, within}
 
 within-positive : (least most absent : ℕ) (z : ℤ) → 0 < least → 0 < absent → 0 < within least most absent z
 within-positive least most absent (pos n) one other = elim (nat_le least n) as (λ b. nat_le least n ≡ b → 0 < within least most absent (pos n)) [

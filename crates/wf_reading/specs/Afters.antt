@@ -1,5 +1,5 @@
 -- What an action waits for (Workflow Definition Language, "runAfter").
-use Rattle.std.specs.Prelude.{ℕ, Bool, false, List, [], map, Option, Some, None, codes}
+use Rattle.std.specs.Prelude.{ℕ, Bool, false, List, [], map, Option, Some, codes}
 use Rattle.std.specs.List.{list_any}
 use Rattle.std.specs.Str.{str_eq_ignore_ascii_case}
 use Rattle.wf_val.specs.ValueTree.{ValueTree, text, object, list, items, pairs, Member}

@@ -1,6 +1,6 @@
 -- Which graph a value means. A pointer leads to the value that is read, and `number_of` gives an action's number by its name.
 use Rattle.std.specs.Prelude.{ℕ, ℤ, pos, Bool, ◌&&◌, nat_le, List, [], ◌∷◌, ◌++◌, Option, Some, None, if◌then◌else◌, bytes_eq, codes, unwrap_or}
-use Rattle.wf_val.specs.ValueTree.{ValueTree, null, number, object, pairs, MemberTrees, no_members, member_then}
+use Rattle.wf_val.specs.ValueTree.{ValueTree, null, number, object, MemberTrees, no_members, member_then}
 use Rattle.wf_val.specs.Get.{get}
 use Rattle.wf_template.specs.DataTree.{DataMember}
 use Rattle.wf_json.specs.Pointer.{member_step}

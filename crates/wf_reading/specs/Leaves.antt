@@ -1,7 +1,7 @@
 -- What an action of a type that holds no graph does (Workflow Definition Language, "Actions and triggers").
-use Rattle.std.specs.Prelude.{ℕ, pos, Bool, ◌&&◌, nat_le, List, [], map, Option, Some, None, Result, Ok, Err, option_map, if◌then◌else◌, codes}
+use Rattle.std.specs.Prelude.{ℕ, List, [], map, Option, Some, None, Result, Ok, Err, option_map, if◌then◌else◌, codes}
 use Rattle.std.specs.Str.{str_eq_ignore_ascii_case}
-use Rattle.wf_val.specs.ValueTree.{ValueTree, number, list, items}
+use Rattle.wf_val.specs.ValueTree.{ValueTree, list, items}
 use Rattle.wf_val.specs.Get.{get, without}
 use Rattle.wf_template.specs.DataTree as datum
 use Rattle.wf_kinds.specs.Parts.{input}

@@ -1,5 +1,5 @@
 -- What was read.
-use Rattle.std.specs.Prelude.{◌≡◌, ℕ, List, map, Option, None, option_map}
+use Rattle.std.specs.Prelude.{◌≡◌, List, map, None}
 use Rattle.wf_val.specs.ValueTree.{ValueTree, Member}
 use Rattle.wf_val.specs.WellFormed.{IsWellFormed}
 use Rattle.wf_val.specs.declared.digest.Digest.{Digest}

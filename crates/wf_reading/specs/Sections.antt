@@ -1,5 +1,5 @@
 -- The sections of a definition beside its actions (Workflow Definition Language, "Workflow definition schema").
-use Rattle.std.specs.Prelude.{ℕ, Bool, ◌||◌, List, [], ◌∷◌, map, Option, Some, None, option_map, if◌then◌else◌, codes}
+use Rattle.std.specs.Prelude.{ℕ, ◌||◌, List, [], ◌∷◌, map, Option, Some, None, if◌then◌else◌, codes}
 use Rattle.std.specs.Str.{str_eq_ignore_ascii_case}
 use Rattle.wf_val.specs.ValueTree.{ValueTree, text, list, items, Member}
 use Rattle.wf_val.specs.Get.{get, name_of}
@@ -8,7 +8,6 @@ use Rattle.wf_template.specs.TemplateTree.{TemplateTree}
 use Rattle.wf_def.specs.DefTree.{ParamTree, TriggerTree, OutputTree}
 use Rattle.wf_def.specs.declared.sort.Sort.{Sort}
 use Rattle.wf_reading.specs.Texts.{data_in, template_at, template_of, text_in}
-use Rattle.wf_reading.specs.Afters.{entries}
 
 -- the type of a parameter
 abbrev pub parameter_sort : List ℕ → Sort

@@ -1,5 +1,5 @@
-use Rattle.std.proofs.Common.{◌≡◌, ℕ, ◌+◌, List, [], ◌∷◌, ◌++◌, map, drop, ap, sym, ◌∙◌, append_assoc, arith}
-use Rattle.wf_val.specs.Seen.{tree, member}
+use Rattle.std.proofs.Common.{ℕ, ◌+◌, List, [], ◌∷◌, ◌++◌, map, drop, ap, sym, ◌∙◌, append_assoc, arith}
+use Rattle.wf_val.specs.Seen.{member}
 use Rattle.wf_val.specs.declared.val.Val.{Val}
 use Rattle.wf_def.specs.declared.after.After.{After}
 use Rattle.wf_reading.specs.Afters.{after_of}

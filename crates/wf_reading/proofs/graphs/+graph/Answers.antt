@@ -1,14 +1,14 @@
-use Rattle.std.proofs.Common.{◌≡◌, ◌+◌, ◌≤◌, ◌++◌, ◌∷◌, [], ℕ, List, Option, Some, None, drop, length, map, get_or, option_map, ap, sym, ◌∙◌, append_assoc, arith}
+use Rattle.std.proofs.Common.{◌≡◌, ◌+◌, ◌++◌, ◌∷◌, [], ℕ, List, Some, None, drop, map, option_map, ap, sym, ◌∙◌, append_assoc, arith}
 use Rattle.std.proofs.lemmas.Result.{IfOk-weaker}
 use Rattle.wf_val.specs.Seen.{tree, member}
 use Rattle.wf_val.specs.Get.{value_of}
-use Rattle.wf_val.specs.ValueTree.{ValueTree, node_count, members, members_count}
+use Rattle.wf_val.specs.ValueTree.{members}
 use Rattle.wf_val.specs.declared.val.Val.{Val}
 use Rattle.wf_val.proofs.NodeCountLemmas.{member-falls}
 use Rattle.wf_json.specs.Pointer.{member_step}
-use Rattle.wf_def.specs.ActionTree.{ActionTree, CaseTree}
-use Rattle.wf_def.specs.ActionSeen.{action_tree, actions_seen, case_tree, cases_seen}
-use Rattle.wf_reading.specs.Graphs.{action_of, actions_of, branch_of, case_of, cases_of, each_case, graph_of}
+use Rattle.wf_def.specs.ActionTree.{ActionTree}
+use Rattle.wf_def.specs.ActionSeen.{action_tree, actions_seen}
+use Rattle.wf_reading.specs.Graphs.{action_of, actions_of, branch_of, cases_of, graph_of}
 use Rattle.wf_reading.specs.Numbers.{number_among}
 use Rattle.wf_reading.proofs.GraphLemmas.{branch_found, branch_in_is, cases_found, cases_in_is, drop_at_place, found_smaller, graph_found, graph_in_is}
 use Rattle.wf_reading.proofs.graphs.+graph.Goals as goal

@@ -1,4 +1,4 @@
-use Rattle.std.proofs.Common.{◌≡◌, ℕ, List, Some, None, Option, subst}
+use Rattle.std.proofs.Common.{ℕ, List, Some, None, Option, subst}
 use Rattle.std.specs.Prelude.{codes}
 use Rattle.wf_val.specs.Get.{get}
 use Rattle.wf_val.specs.ValueTree.{ValueTree}

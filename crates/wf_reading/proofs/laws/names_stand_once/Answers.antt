@@ -1,4 +1,4 @@
-use Rattle.std.proofs.Common.{◌≡◌, [], sym, subst}
+use Rattle.std.proofs.Common.{◌≡◌, [], subst}
 use Rattle.wf_form.specs.Fault.{inner_of, offences}
 use Rattle.wf_form.specs.declared.rule.Rule.{Rule}
 use Rattle.wf_def.specs.DefTree.{DefTree}

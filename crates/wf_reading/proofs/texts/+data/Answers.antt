@@ -1,4 +1,4 @@
-use Rattle.std.proofs.Common.{◌≡◌, ℕ, ◌+◌, List, [], ◌∷◌, ◌++◌, map, drop, get_or, ap, sym, subst, ◌∙◌, arith}
+use Rattle.std.proofs.Common.{◌≡◌, ℕ, ◌+◌, List, ◌∷◌, ◌++◌, map, drop, ap, sym, subst, ◌∙◌, arith}
 use Rattle.wf_val.specs.Seen.{tree, member}
 use Rattle.wf_val.specs.NameOrder.{IsAboveAll}
 use Rattle.wf_val.specs.ValueTree.{members}

@@ -1,4 +1,4 @@
-use Rattle.std.proofs.Common.{◌≡◌, ℕ, List, map, cond, ap}
+use Rattle.std.proofs.Common.{cond, ap}
 use Rattle.std.proofs.lemmas.List.Sorted.{IsPermutation-map, sum_by-IsPermutation}
 use Rattle.wf_val.specs.Cut.{cut_u32}
 use Rattle.wf_reading.specs.Numbers.{is_below}
