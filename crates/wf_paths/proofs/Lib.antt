@@ -1,0 +1,3 @@
+pub mod PathLemmas
+pub mod TableLemmas
+pub mod WorkedRows

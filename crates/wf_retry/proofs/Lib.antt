@@ -1,0 +1,4 @@
+pub mod AgainRows
+pub mod DurationLemmas
+pub mod DurationRows
+pub mod PolicyRows

@@ -1,0 +1,4 @@
+pub mod Again
+pub mod Duration
+pub mod Grammar
+pub mod Reading
