@@ -1,3 +1,4 @@
+pub mod MarkLemmas
 pub mod PathLemmas
 pub mod TableLemmas
 pub mod WorkedRows

@@ -65,7 +65,8 @@ module _ (edge : ℕ → ℕ → Bool) where
   from_last k a (inl f) = f
   from_last k a (inr f) = f.1
 
-  cut : (k p q a : ℕ) → ((p' a' : ℕ) → leads edge k p' q ≡ true → leads edge k q a' ≡ true → leads edge k p' a' ≡ true) → Ways k p q → Ways k q a → leads edge (suc k) p a ≡ true
+  cut : (k p q a : ℕ) → ((p' a' : ℕ) → leads edge k p' q ≡ true → leads edge k q a' ≡ true → leads edge k p' a' ≡ true) → Ways k p q →
+      Ways k q a → leads edge (suc k) p a ≡ true
   cut k p q a less (inl f) (inl g) = wider k p a (less p a f g)
   cut k p q a less (inl f) (inr g) = by_stop k p a (less p k f g.0) g.1
   cut k p q a less (inr f) (inl g) = by_stop k p a f.0 (less k a f.1 g)
@@ -75,7 +76,8 @@ module _ (edge : ℕ → ℕ → Bool) where
   pub at_stop : (k p q a : ℕ) → q < k → leads edge k p q ≡ true → leads edge k q a ≡ true → leads edge k p a ≡ true
   at_stop zero p q a within f g = absurd (omega (arith, within))
   at_stop (suc k) p q a within f g = elim (same_or_less q k within) [
-    | inl is ↦ by_stop k p a (to_last k p (ways k p k (subst (λ (x : ℕ). leads edge (suc k) p x ≡ true) is f))) (from_last k a (ways k k a (subst (λ (x : ℕ). leads edge (suc k) x a ≡ true) is g)))
+    | inl is ↦ by_stop k p a (to_last k p (ways k p k (subst (λ (x : ℕ). leads edge (suc k) p x ≡ true) is f)))
+        (from_last k a (ways k k a (subst (λ (x : ℕ). leads edge (suc k) x a ≡ true) is g)))
     | inr less ↦ cut k p q a (λ p' a' f' g'. at_stop k p' q a' less f' g') (ways k p q f) (ways k q a g)
   ]
 

@@ -1,6 +1,6 @@
 -- Tables of a function, place by place.
-use Rattle.std.proofs.Common.{◌≡◌, ℕ, zero, suc, ◌+◌, ◌<◌, ◌⊎◌, inl, inr, Bool, true, false, ◌||◌, ◌&&◌, cond, List, [], ◌∷◌, ◌++◌, map, length, drop, drop-cons, get_or, add-one, slice_get, Some, refl, sym, ap, ap₂, ◌∙◌, arith}
-use Rattle.std.specs.Prelude.{◌↔◌}
+use Rattle.std.proofs.Common.{◌≡◌, ℕ, zero, suc, ◌+◌, ◌<◌, ◌⊎◌, inl, inr, Bool, true, false, ◌||◌, ◌&&◌, cond, List, [], ◌∷◌, ◌++◌, map, length, get_or, add-one, slice_get, Some, refl, sym, ap, ap₂, ◌∙◌, append_assoc, arith}
+use Rattle.std.specs.Prelude.{◌↔◌, All}
 use Rattle.std.proofs.lemmas.List.{length-map}
 use Rattle.wf_paths.specs.Path.{IsPath, leads}
 use Rattle.wf_paths.specs.Table.{from, table, slot, row_at, at, either, through_row, round, edge_of, paths_of, names, names_in}
@@ -46,36 +46,36 @@ pub from_next : {X : Type 0} (n : ℕ) (f : ℕ → X) → from 0 (n + 1) f ≡ 
 from_next n f = rw add-one (from_more 0 n f ∙ ap (λ m. from 0 n f ++ f m ∷ []) (none_more n))
 
 -- the row of one node more
-pub row_next : (nodes : List (List ℕ)) (n a : ℕ) (entries : List ℕ) → slice_get nodes a ≡ Some entries → from 0 n (names entries) ≡ from 0 n (λ p. edge_of nodes p a)
+pub row_next : (nodes : List (List ℕ)) (n a : ℕ) (entries : List ℕ) → slice_get nodes a ≡ Some entries →
+    from 0 n (names entries) ≡ from 0 n (λ p. edge_of nodes p a)
 row_next nodes n a entries is = from_same 0 n (names entries) (λ p. edge_of nodes p a) (λ p. ap (λ o. names_in o p) (sym is))
 
 either-from : (i n : ℕ) (f g : ℕ → Bool) → either (from i n f) (from i n g) ≡ from i n (λ p. f p || g p)
 either-from i zero f g = refl
 either-from i (suc n) f g = ap (λ bs. (f i || g i) ∷ bs) (either-from (suc i) n f g)
 
-or_no : (b : Bool) → b ≡ (b || false)
+pub or_no : (b : Bool) → b ≡ (b || false)
 or_no true = refl
 or_no false = refl
 
-through-from : (n k : ℕ) (f g : ℕ → Bool) (b : Bool) → cond b (either (from 0 n f) (from 0 n g)) (from 0 n f) ≡ from 0 n (λ p. f p || (b && g p))
+through-from : (n k : ℕ) (f g : ℕ → Bool) (b : Bool) →
+    cond b (either (from 0 n f) (from 0 n g)) (from 0 n f) ≡ from 0 n (λ p. f p || (b && g p))
 through-from n k f g true = either-from 0 n f g
 through-from n k f g false = from_same 0 n f (λ p. f p || false) (λ p. or_no (f p))
 
 pub round-table : (e : ℕ → ℕ → Bool) (n k : ℕ) → k < n → round (table n (leads e k)) k ≡ table n (leads e (suc k))
 round-table e n k within =
-    let own : row_at (table n (leads e k)) k ≡ from 0 n (λ p. leads e k p k) = row_at-first n k (λ a. from 0 n (λ p. leads e k p a)) within in
+    let own : row_at (table n (leads e k)) k ≡ from 0 n (λ p. leads e k p k) =
+    row_at-first n k (λ a. from 0 n (λ p. leads e k p a)) within in
     ap (λ r. map (λ row. through_row row k r) (table n (leads e k))) own
     ∙ map-from (λ row. through_row row k (from 0 n (λ p. leads e k p k))) 0 n (λ a. from 0 n (λ p. leads e k p a))
     ∙ from_same 0 n _ _ (λ a.
-    ap (λ b. cond b (either (from 0 n (λ p. leads e k p a)) (from 0 n (λ p. leads e k p k))) (from 0 n (λ p. leads e k p a))) (slot-first n k (λ p. leads e k p a) within)
+    ap (λ b. cond b (either (from 0 n (λ p. leads e k p a)) (from 0 n (λ p. leads e k p k))) (from 0 n (λ p. leads e k p a)))
+    (slot-first n k (λ p. leads e k p a) within)
     ∙ through-from n k (λ p. leads e k p a) (λ p. leads e k p k) (leads e k k a))
 
 pub at-table : (n : ℕ) (r : ℕ → ℕ → Bool) (a p : ℕ) → a < n → p < n → at (table n r) a p ≡ r p a
 at-table n r a p in_a in_p = ap (λ row. slot row p) (row_at-first n a (λ x. from 0 n (λ q. r q x)) in_a) ∙ slot-first n p (λ q. r q a) in_p
-
--- a loop by places: one value more
-pub either_more : (xs ys : List Bool) (i : ℕ) (d e : Bool) → i < length xs → length xs ≡ length ys → either (drop i xs) (drop i ys) ≡ (get_or xs i d || get_or ys i e) ∷ either (drop (i + 1) xs) (drop (i + 1) ys)
-either_more xs ys i d e within same = rw (drop-cons xs i d within, drop-cons ys i e (omega (arith, within, same)), add-one) refl
 
 -- only a node that is there names another
 has_node : (nodes : List (List ℕ)) (p a : ℕ) → edge_of nodes p a ≡ true → a < length nodes
@@ -102,11 +102,17 @@ exact nodes a p in_p = by (lt_or_not a (length nodes))
   where
     by : (a < length nodes) ⊎ (a < length nodes → ⊥) → (at (paths_of nodes) a p ≡ true) ↔ IsPath (edge_of nodes) p a
     by (inl in_a) =
-        let is = at-table (length nodes) (leads (edge_of nodes) (length nodes)) a p in_a in_p in
-        (λ h. sound (edge_of nodes) (length nodes) p a (sym is ∙ h), λ path. is ∙ complete (edge_of nodes) (length nodes) (has_node nodes) p a path)
+        let is = at-table (length nodes) (leads (edge_of nodes) (length nodes)) a p in_a in_p in (
+          λ h. sound (edge_of nodes) (length nodes) p a (sym is ∙ h),
+          λ path. is
+              ∙ complete (edge_of nodes) (length nodes) (has_node nodes) p a path,
+        )
     by (inr out) =
-        let none = out-of_row 0 (length nodes) a (λ x. from 0 (length nodes) (λ q. leads (edge_of nodes) (length nodes) q x)) out in
-        (λ h. absurd (no_place p (sym (ap (λ row. slot row p) none) ∙ h)), λ path. absurd (out (target (edge_of nodes) (length nodes) (has_node nodes) p a path)))
+        let none = out-of_row 0 (length nodes) a (λ x. from 0 (length nodes) (λ q. leads (edge_of nodes) (length nodes) q x)) out in (
+          λ h. absurd (no_place p (sym (ap (λ row. slot row p) none) ∙ h)),
+          λ path. absurd
+              (out (target (edge_of nodes) (length nodes) (has_node nodes) p a path)),
+        )
 
 -- and so it is of circles, also of numbers that are no node's
 pub exact-circle : (nodes : List (List ℕ)) (a : ℕ) → (at (paths_of nodes) a a ≡ true) ↔ IsPath (edge_of nodes) a a
@@ -115,8 +121,11 @@ exact-circle nodes a = by (lt_or_not a (length nodes))
     by : (a < length nodes) ⊎ (a < length nodes → ⊥) → (at (paths_of nodes) a a ≡ true) ↔ IsPath (edge_of nodes) a a
     by (inl in_a) = exact nodes a a in_a
     by (inr out) =
-        let none = out-of_row 0 (length nodes) a (λ x. from 0 (length nodes) (λ q. leads (edge_of nodes) (length nodes) q x)) out in
-        (λ h. absurd (no_place a (sym (ap (λ row. slot row a) none) ∙ h)), λ path. absurd (out (target (edge_of nodes) (length nodes) (has_node nodes) a a path)))
+        let none = out-of_row 0 (length nodes) a (λ x. from 0 (length nodes) (λ q. leads (edge_of nodes) (length nodes) q x)) out in (
+          λ h. absurd (no_place a (sym (ap (λ row. slot row a) none) ∙ h)),
+          λ path. absurd
+              (out (target (edge_of nodes) (length nodes) (has_node nodes) a a path)),
+        )
 
 -- ---- lists of rows that stand in vectors
 
@@ -136,7 +145,8 @@ got f (x ∷ xs) (suc j) d within = got f xs j d (omega (arith, within))
 
 module _ {X : Type 0} (f : X → List Bool) where
   -- one row more of the first table
-  pub table_next : {Y : Type 0} (nodes : List Y) (h : Y → List ℕ) (rows : List X) (i : ℕ) (row : X) (entries d : Y) → i < length nodes → entries ≡ get_or nodes i d
+  pub table_next : {Y : Type 0} (nodes : List Y) (h : Y → List ℕ) (rows : List X) (i : ℕ) (row : X) (entries d : Y) → i < length nodes →
+      entries ≡ get_or nodes i d
       → f row ≡ from 0 (length nodes) (names (h entries))
       → map f rows ≡ from 0 i (λ a. from 0 (length nodes) (λ p. edge_of (map h nodes) p a))
       → map f (rows ++ row ∷ []) ≡ from 0 (i + 1) (λ a. from 0 (length nodes) (λ p. edge_of (map h nodes) p a))
@@ -146,18 +156,34 @@ module _ {X : Type 0} (f : X → List Bool) where
       ∙ ap₂ (λ rs r. rs ++ r ∷ []) so_far (own ∙ row_next (map h nodes) (length nodes) i (h entries) there)
       ∙ sym (from_next i (λ a. from 0 (length nodes) (λ p. edge_of (map h nodes) p a)))
 
-  pub same_lengths : (rows : List X) (n k : ℕ) (g : ℕ → ℕ → Bool) → map f rows ≡ table n g → k < n → (j : ℕ) (d : X) → j < length rows → length (f (get_or rows j d)) ≡ length (row_at (map f rows) k)
+  pub same_lengths : (rows : List X) (n k : ℕ) (g : ℕ → ℕ → Bool) → map f rows ≡ table n g → k < n → (j : ℕ) (d : X) → j < length rows →
+      length (f (get_or rows j d)) ≡ length (row_at (map f rows) k)
   same_lengths rows n k g is within j d in_j =
       let size : length rows ≡ n = sym (length-map rows f) ∙ ap length is ∙ length-from 0 n (λ a. from 0 n (λ p. g p a)) in
-      let there : slice_get (map f rows) j ≡ Some (from 0 n (λ p. g p (0 + j))) = ap (λ rs. slice_get rs j) is ∙ get-from 0 n j (λ a. from 0 n (λ p. g p a)) (omega (arith, in_j, size)) in
+      let there : slice_get (map f rows) j ≡ Some (from 0 n (λ p. g p (0 + j))) =
+      ap (λ rs. slice_get rs j) is ∙ get-from 0 n j (λ a. from 0 n (λ p. g p a)) (omega (arith, in_j, size)) in
       let here = got f rows j d in_j in
       let same : f (get_or rows j d) ≡ from 0 n (λ p. g p (0 + j)) = cc in
       ap length same ∙ length-from 0 n (λ p. g p (0 + j))
-      ∙ sym (ap (λ rs. length (row_at rs k)) is ∙ ap length (row_at-first n k (λ a. from 0 n (λ p. g p a)) within) ∙ length-from 0 n (λ p. g p k))
+      ∙ sym (ap (λ rs. length (row_at rs k)) is ∙ ap length (row_at-first n k (λ a. from 0 n (λ p. g p a)) within)
+      ∙ length-from 0 n (λ p. g p k))
 
-  map_twice : (k : ℕ) (through : List Bool) (rs : List X) → map (λ r. through_row (f r) k through) rs ≡ map (λ row. through_row row k through) (map f rs)
+  map_twice : (k : ℕ) (through : List Bool) (rs : List X) →
+      map (λ r. through_row (f r) k through) rs ≡ map (λ row. through_row row k through) (map f rs)
   map_twice k through [] = refl
   map_twice k through (r ∷ rs) = ap (λ rows'. through_row (f r) k through ∷ rows') (map_twice k through rs)
 
-  pub round_is : (rows : List X) (k : ℕ) (through : List Bool) → through ≡ row_at (map f rows) k → map (λ r. through_row (f r) k through) rows ≡ round (map f rows) k
+  pub round_is : (rows : List X) (k : ℕ) (through : List Bool) → through ≡ row_at (map f rows) k →
+      map (λ r. through_row (f r) k through) rows ≡ round (map f rows) k
   round_is rows k through is = map_twice k through rows ∙ ap (λ t. map (λ row. through_row row k t) (map f rows)) is
+
+  -- a loop over rows: one more
+  pub row_done : (g : X → List Bool) (new rest all : List X) (made row : X) → f made ≡ g row → map f new ++ map g (row ∷ rest) ≡ map g all →
+      map f (new ++ made ∷ []) ++ map g rest ≡ map g all
+  row_done g new rest all made row same so_far =
+      ap (λ rs. rs ++ map g rest) (map-snoc f new made ∙ ap (λ r. map f new ++ r ∷ []) same)
+      ∙ append_assoc (map f new) (g row ∷ []) (map g rest) ∙ so_far
+
+-- what holds of all holds of all but the first
+pub all_rest : {X : Type 0} (P : X → Type 0) (x : X) (xs : List X) → All P (x ∷ xs) → All P xs
+all_rest P x xs all = λ j d within. all (suc j) d (omega (arith, within))

@@ -1,5 +1,5 @@
 -- A graph as the lists of nodes that each node names, and tables of truth values by two nodes.
-use Rattle.std.specs.Prelude.{ℕ, zero, suc, Bool, false, ◌||◌, cond, List, [], ◌∷◌, map, length, Option, Some, None, nat_eq, slice_get, unwrap_or}
+use Rattle.std.specs.Prelude.{ℕ, zero, suc, Bool, false, ◌||◌, cond, List, [], ◌∷◌, map, length, Option, Some, None, nat_eq, slice_get, slice_set, true, unwrap_or}
 use Rattle.std.specs.List.{list_any}
 use Rattle.wf_paths.specs.Path.{leads}
 
@@ -31,6 +31,11 @@ row_at rows i = unwrap_or (slice_get rows i) []
 
 abbrev pub at : List (List Bool) → ℕ → ℕ → Bool
 at rows a p = slot (row_at rows a) p
+
+-- a row with true at each of these places that stands in it
+abbrev pub marked : List Bool → List ℕ → List Bool
+marked row [] = row
+marked row (p ∷ ps) = marked (slice_set row p true) ps
 
 -- what leads to one of two nodes
 abbrev pub either : List Bool → List Bool → List Bool

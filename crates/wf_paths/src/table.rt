@@ -1,29 +1,29 @@
 //! The table of what leads to what, made in as many rounds as there are nodes.
 ghost use Rattle.std.specs.Prelude.{◌≡◌, ◌||◌, All, IfOk, length, map};
-ghost use Rattle.wf_paths.specs.Table.{edge_of, either, from, names, paths_of, round, row_at, slot, table, through_row};
+ghost use Rattle.wf_paths.specs.Table.{edge_of, either, from, marked, names, paths_of, round, row_at, slot, table, through_row};
 
 use std::alloc::{AllocError, Global};
 
-fn names(entries: &[usize], node: usize) -> bool
-    ensures { result ≡ names entries.now node }
+// A row with true at each of these places that stands in it.
+#[tactic(auto, using(crate::proofs::MarkLemmas::set_outside))]
+fn marked(mut row: Vec<bool>, places: &[usize]) -> Vec<bool>
+    ensures { result.items ≡ marked row.items places.now }
 {
-    for entry in entries {
-        if node == *entry {
-            return true;
+    for place in places {
+        if *place < row.len() {
+            row[*place] = true;
         }
     }
-    false
+    row
 }
 
-#[tactic(auto, using(crate::proofs::TableLemmas::from_next))]
+// The row of a node that names these.
+#[tactic(auto, using(crate::proofs::MarkLemmas::marked_row))]
 fn first_row(alloc: Global, count: usize, entries: &[usize]) -> Result<Vec<bool>, AllocError>
     ensures { IfOk result (λ row. row.items ≡ from 0 count (names entries.now)) }
 {
-    let mut row = Vec::with_capacity(alloc, count)?;
-    for node in 0..count {
-        row.push(names(entries, node))?;
-    }
-    Ok(row)
+    let row = vec![in alloc; false; count]?;
+    Ok(marked(row, entries))
 }
 
 fn slot(row: &[bool], place: usize) -> bool
@@ -41,34 +41,25 @@ fn or(one: bool, other: bool) -> bool
     one || other
 }
 
-// What leads to one of two nodes, whose rows these are.
-#[tactic(auto, using(crate::proofs::TableLemmas::either_more))]
-fn either(alloc: Global, row: &[bool], other: &[bool]) -> Result<Vec<bool>, AllocError>
-    requires { length row.now ≡ length other.now }
-    ensures { IfOk result (λ both. both.items ≡ either row.now other.now) }
+// What leads to one of two nodes, whose rows these are, in place of the first.
+fn join(row: &mut [bool], other: &[bool])
+    requires { length row.old ≡ length other.now }
+    ensures { row.new ≡ either row.old other.now }
 {
-    let mut both = Vec::with_capacity(alloc, row.len())?;
     for place in 0..row.len() {
-        both.push(or(row[place], other[place]))?;
+        row[place] = or(row[place], other[place]);
     }
-    Ok(both)
 }
 
 // A row, where k may be a stop whose own row is `through`.
-fn through_row(
-    alloc: Global,
-    row: &[bool],
-    k: usize,
-    through: &[bool],
-) -> Result<Vec<bool>, AllocError>
-    requires { length row.now ≡ length through.now }
-    ensures { IfOk result (λ new. new.items ≡ through_row row.now k through.now) }
+fn through_row(mut row: Vec<bool>, k: usize, through: &[bool]) -> Vec<bool>
+    requires { length row.items ≡ length through.now }
+    ensures { result.items ≡ through_row row.items k through.now }
 {
-    if slot(row, k) {
-        either(alloc, row, through)
-    } else {
-        Ok(row.to_vec(alloc)?)
+    if slot(&row, k) {
+        join(&mut row, through);
     }
+    row
 }
 
 fn row_at(alloc: Global, rows: &[Vec<bool>], place: usize) -> Result<Vec<bool>, AllocError>
@@ -81,14 +72,14 @@ fn row_at(alloc: Global, rows: &[Vec<bool>], place: usize) -> Result<Vec<bool>, 
 }
 
 // One round: k may be a stop from now on.
-fn round(alloc: Global, rows: &[Vec<bool>], k: usize) -> Result<Vec<Vec<bool>>, AllocError>
-    requires { All (λ row. length row.items ≡ length (row_at (map (λ r. r.items) rows.now) k)) rows.now }
-    ensures { IfOk result (λ new. map (λ r. r.items) new.items ≡ round (map (λ r. r.items) rows.now) k) }
+fn round(alloc: Global, rows: Vec<Vec<bool>>, k: usize) -> Result<Vec<Vec<bool>>, AllocError>
+    requires { All (λ row. length row.items ≡ length (row_at (map (λ r. r.items) rows.items) k)) rows.items }
+    ensures { IfOk result (λ new. map (λ r. r.items) new.items ≡ round (map (λ r. r.items) rows.items) k) }
 {
-    let through = row_at(alloc, rows, k)?;
+    let through = row_at(alloc, &rows, k)?;
     let mut new = Vec::with_capacity(alloc, rows.len())?;
     for row in rows {
-        new.push(through_row(alloc, row, k, &through)?)?;
+        new.push(through_row(row, k, &through))?;
     }
     Ok(new)
 }
@@ -109,7 +100,7 @@ pub fn paths_of(alloc: Global, nodes: &[Vec<usize>]) -> Result<Vec<Vec<bool>>, A
 {
     let mut rows = first_table(alloc, nodes)?;
     for k in 0..nodes.len() {
-        rows = round(alloc, &rows, k)?;
+        rows = round(alloc, rows, k)?;
     }
     Ok(rows)
 }

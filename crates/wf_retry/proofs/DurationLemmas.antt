@@ -36,7 +36,8 @@ some_left b s = grind (arith, nat_tests)
 -- ---- digits
 
 a_digit : (b : ℕ) → is_digit b ≡ true → (48 ≤ b) × (b ≤ 57)
-a_digit b h = let both = and_split (nat_le 48 b) (nat_le b 57) h in let low = both.0 in let high = both.1 in (grind (arith, nat_tests), grind (arith, nat_tests))
+a_digit b h = let both = and_split (nat_le 48 b) (nat_le b 57) h in let low = both.0 in let high = both.1 in
+    (grind (arith, nat_tests), grind (arith, nat_tests))
 
 digit_is : (b : ℕ) → 48 ≤ b → b ≤ 57 → is_digit b ≡ true
 digit_is b low high = grind (arith, nat_tests)
@@ -72,7 +73,8 @@ got (suc n) (b ∷ s) x h = got n s x h
 digits : (s : List ℕ) → Digits (leading s) s (drop (leading s) s)
 digits [] = no_digit
 digits (b ∷ s) = elim (is_digit b) as (λ d. is_digit b ≡ d → Digits (leading (b ∷ s)) (b ∷ s) (drop (leading (b ∷ s)) (b ∷ s))) [
-  | true ↦ λ is. subst (λ n. Digits n (b ∷ s) (drop n (b ∷ s))) (sym (leading-digit b s is)) (let range = a_digit b is in digit range.0 range.1 (digits s))
+  | true ↦ λ is. subst (λ n. Digits n (b ∷ s) (drop n (b ∷ s))) (sym (leading-digit b s is))
+      (let range = a_digit b is in digit range.0 range.1 (digits s))
   | false ↦ λ is. subst (λ n. Digits n (b ∷ s) (drop n (b ∷ s))) (sym (leading-other b s is)) no_digit
 ] refl
 
@@ -103,7 +105,8 @@ a_part letter s r h =
 
 fits_is : (letter n : ℕ) (s r : List ℕ) → Ends letter n s r → 1 ≤ n → n ≤ 9 → fits letter s ≡ true
 fits_is letter n s r e least most =
-    rw (e.count, e.letter_there) (and_both (nat_le 1 n) _ (grind (arith, nat_tests)) (and_both (nat_le n 9) _ (grind (arith, nat_tests)) (eq-eqb letter letter refl)))
+    rw (e.count, e.letter_there) (and_both (nat_le 1 n) _ (grind (arith, nat_tests))
+    (and_both (nat_le n 9) _ (grind (arith, nat_tests)) (eq-eqb letter letter refl)))
 
 part_is : (letter : ℕ) (s r : List ℕ) → is_digit letter ≡ false → Part letter s r → behind letter s ≡ Some r
 part_is letter s r out (part {n = n} least most d) =
@@ -150,7 +153,8 @@ hours_stay s _ left_out (there p) = other_part 72 83 s [] refl refl p
 hours_stay s m (there p) seconds = other_part 72 77 s m refl refl p
 
 hours_end : (s h m : List ℕ) → Perhaps 72 s h → Perhaps 77 h m → Perhaps 83 m [] → skipped 83 (skipped 77 (skipped 72 s)) ≡ []
-hours_end s _ m left_out minutes seconds = ap (λ t. skipped 83 (skipped 77 t)) (hours_stay s m minutes seconds) ∙ minutes_end s m minutes seconds
+hours_end s _ m left_out minutes seconds = ap (λ t. skipped 83 (skipped 77 t)) (hours_stay s m minutes seconds)
+    ∙ minutes_end s m minutes seconds
 hours_end s h m (there p) minutes seconds = ap (λ t. skipped 83 (skipped 77 t)) (taken 72 s h refl p) ∙ minutes_end h m minutes seconds
 
 a_time : (s : List ℕ) → is_time_of_day s ≡ true → IsTimeOfDay s
@@ -180,14 +184,16 @@ a_duration (b ∷ s) h =
       | None ↦ λ is after. let (r, spelled, of_day) = of_time s after in subst (λ t. IsDuration (80 ∷ t)) (sym spelled) (time of_day)
       | Some rest ↦ λ is after. elim (or_split (is_none_left rest) (is_time rest) after) [
         | inl over ↦ days (subst (λ t. Part 68 s t) (none_left rest over) (a_part 68 s rest is))
-        | inr timed ↦ let (r, spelled, of_day) = of_time rest timed in days_and_time (subst (λ t. Part 68 s t) spelled (a_part 68 s rest is)) of_day
+        | inr timed ↦ let (r, spelled, of_day) = of_time rest timed in
+            days_and_time (subst (λ t. Part 68 s t) spelled (a_part 68 s rest is)) of_day
       ]
     ] refl both.1)
 
 duration_is : (s : List ℕ) → IsDuration s → is_duration s ≡ true
 duration_is _ (days {s = s} p) = ap (λ o. follows_days o s) (part_is 68 s [] refl p)
 duration_is _ (time {s = s} of_day) = time_is s of_day
-duration_is _ (days_and_time {s = s} {r = r} p of_day) = ap (λ o. follows_days o s) (part_is 68 s (84 ∷ r) refl p) ∙ or_right (is_none_left (84 ∷ r)) (is_time (84 ∷ r)) (time_is r of_day)
+duration_is _ (days_and_time {s = s} {r = r} p of_day) =
+    ap (λ o. follows_days o s) (part_is 68 s (84 ∷ r) refl p) ∙ or_right (is_none_left (84 ∷ r)) (is_time (84 ∷ r)) (time_is r of_day)
 
 pub exact : (s : List ℕ) → (is_duration s ≡ true) ↔ IsDuration s
 exact s = (a_duration s, duration_is s)

@@ -112,7 +112,8 @@ default-with_more = refl
 none-with_more : policy_of (counted null "none") ≡ Ok Policy.Never
 none-with_more = refl
 
-default-with_a_wrong_interval : policy_of (fields ((codes "interval", word "1s") ∷ (codes "type", word "default") ∷ [])) ≡ Ok Policy.Standard
+default-with_a_wrong_interval : policy_of (fields ((codes "interval", word "1s") ∷ (codes "type", word "default") ∷ []))
+    ≡ Ok Policy.Standard
 default-with_a_wrong_interval = refl
 
 -- counts
@@ -158,10 +159,12 @@ count-truth = refl
 count-text : policy_of (counted (word "4") "fixed") ≡ Err (PolicyFault.Count (pos 0))
 count-text = refl
 
-count-named_otherwise : policy_of (fields ((codes "Count", whole 4) ∷ (codes "interval", word "PT1S") ∷ (codes "type", word "fixed") ∷ [])) ≡ Err (PolicyFault.Count (pos 0))
+count-named_otherwise : policy_of (fields ((codes "Count", whole 4) ∷ (codes "interval", word "PT1S") ∷ (codes "type", word "fixed")
+    ∷ [])) ≡ Err (PolicyFault.Count (pos 0))
 count-named_otherwise = refl
 
-count-before_interval : policy_of (fields ((codes "count", whole 91) ∷ (codes "type", word "fixed") ∷ [])) ≡ Err (PolicyFault.Count (pos 91))
+count-before_interval : policy_of (fields ((codes "count", whole 91) ∷ (codes "type", word "fixed") ∷ []))
+    ≡ Err (PolicyFault.Count (pos 91))
 count-before_interval = refl
 
 type-before_count : policy_of (counted (whole 91) "linear") ≡ Err PolicyFault.BadType
@@ -192,7 +195,8 @@ interval-number = refl
 interval-absent : policy_of (fields ((codes "count", whole 2) ∷ (codes "type", word "fixed") ∷ [])) ≡ Err PolicyFault.Interval
 interval-absent = refl
 
-interval-absent_of_an_exponential : policy_of (fields ((codes "count", whole 2) ∷ (codes "type", word "exponential") ∷ [])) ≡ Err PolicyFault.Interval
+interval-absent_of_an_exponential : policy_of (fields ((codes "count", whole 2) ∷ (codes "type", word "exponential") ∷ []))
+    ≡ Err PolicyFault.Interval
 interval-absent_of_an_exponential = refl
 
 interval-an_expression : policy_of (spaced (word "@variables('i')")) ≡ Err PolicyFault.Interval
@@ -204,7 +208,8 @@ bounds-absent = refl
 bounds-right : policy_of (bounded (greatest (word "PT1H") ∷ least (word "PT5S") ∷ exponential ∷ [])) ≡ Ok (Policy.Count 2)
 bounds-right = refl
 
-bounds-the_least_above_the_greatest : policy_of (bounded (greatest (word "PT5S") ∷ least (word "PT1H") ∷ exponential ∷ [])) ≡ Ok (Policy.Count 2)
+bounds-the_least_above_the_greatest : policy_of (bounded (greatest (word "PT5S") ∷ least (word "PT1H") ∷ exponential ∷ []))
+    ≡ Ok (Policy.Count 2)
 bounds-the_least_above_the_greatest = refl
 
 bounds-least_wrong : policy_of (bounded (least (word "5") ∷ exponential ∷ [])) ≡ Err PolicyFault.Interval
@@ -213,7 +218,8 @@ bounds-least_wrong = refl
 bounds-greatest_wrong : policy_of (bounded (greatest (word "5") ∷ exponential ∷ [])) ≡ Err PolicyFault.Interval
 bounds-greatest_wrong = refl
 
-bounds-greatest_wrong_beside_a_right_one : policy_of (bounded (greatest (word "5") ∷ least (word "PT5S") ∷ exponential ∷ [])) ≡ Err PolicyFault.Interval
+bounds-greatest_wrong_beside_a_right_one : policy_of (bounded (greatest (word "5") ∷ least (word "PT5S") ∷ exponential ∷ []))
+    ≡ Err PolicyFault.Interval
 bounds-greatest_wrong_beside_a_right_one = refl
 
 bounds-least_null : policy_of (bounded (least null ∷ exponential ∷ [])) ≡ Err PolicyFault.Interval

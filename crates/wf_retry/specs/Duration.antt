@@ -16,7 +16,8 @@ is_letter letter (Some b) = b == letter
 
 -- what comes behind one part: 1 to 9 digits and its letter
 abbrev pub behind : ℕ → List ℕ → Option (List ℕ)
-behind letter s = if nat_le 1 (leading s) && (nat_le (leading s) 9 && is_letter letter (slice_get s (leading s))) then Some (drop (leading s + 1) s) else None
+behind letter s = if nat_le 1 (leading s) && (nat_le (leading s) 9 && is_letter letter (slice_get s (leading s))) then Some
+    (drop (leading s + 1) s) else None
 
 -- behind a part that may be left out
 abbrev pub skipped : ℕ → List ℕ → List ℕ

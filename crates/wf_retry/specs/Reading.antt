@@ -18,7 +18,8 @@ is_interval_or_absent (Some t) = is_interval (Some t)
 
 -- `interval` is there and a duration, and so are the other two where they are there
 abbrev pub are_intervals : ValueTree → Bool
-are_intervals t = is_interval (get (codes "interval") t) && (is_interval_or_absent (get (codes "minimumInterval") t) && is_interval_or_absent (get (codes "maximumInterval") t))
+are_intervals t = is_interval (get (codes "interval") t)
+    && (is_interval_or_absent (get (codes "minimumInterval") t) && is_interval_or_absent (get (codes "maximumInterval") t))
 
 -- a count that is a whole number, or 0
 abbrev pub number_in : Option ValueTree → ℤ

@@ -1,0 +1,3 @@
+mod GraphLemmas
+mod PlaceLemmas
+mod WorkedRows

@@ -1,0 +1,2 @@
+pub mod LayeredRows
+pub mod SizeLemmas

@@ -1,0 +1,12 @@
+pub mod Actions
+pub mod Fault
+pub mod Form
+pub mod Judge
+pub mod KnownSeen
+pub mod Limits
+pub mod Naming
+pub mod Places
+pub mod Role
+pub mod Schema
+pub mod Types
+pub mod Whole

@@ -1,0 +1,6 @@
+mod ConditionRows
+mod ContainerRows
+mod InputRows
+mod PartLemmas
+mod SectionRows
+mod TypeRows

@@ -1,0 +1,5 @@
+pub mod FillLemmas
+pub mod PlaceLemmas
+pub mod RelationLemmas
+pub mod WalkLemmas
+pub mod WorkedRows

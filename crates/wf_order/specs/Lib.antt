@@ -1,0 +1,4 @@
+pub mod Order
+pub mod OrderSeen
+pub mod Table
+pub mod Walk

@@ -1,0 +1,22 @@
+//! Where the actions of a definition stand to one another: before, inside, or in another branch.
+//!
+//! What a run sees of other actions rests on three relations (`specs/Order`). An action is *before* another where it, or a
+//! container round it, is an ancestor by `runAfter` of the other or of a container round that; both ends of such a path stand
+//! in one graph. An action *contains* another that stands in its graphs, at any depth. Two actions are *exclusive* where they
+//! stand in different branches of one If or Switch, so that no run takes both. And an action is *redone* with another that is
+//! resubmitted where it is that action, stands inside it, or comes after it.
+//!
+//! `Order::make` fills tables by the numbers of actions in one walk over the graph; each question is then a look at two short
+//! lists. `order_is_exact` says that the answers are the relations, wherever entries of `runAfter` name actions of their own
+//! graph and numbers are below their count, which is so in every definition that was read.
+//!
+//! The crate says nothing of iterations: of two of one loop the loop itself decides. It judges no definition.
+#![tactic(auto)]
+
+mod laws;
+mod order;
+mod place;
+mod walk;
+
+pub use laws::order_is_exact;
+pub use order::Order;

@@ -1,0 +1,4 @@
+pub mod NumberLemmas
+pub mod DataLemmas
+pub mod GraphLemmas
+pub mod ConditionLemmas

@@ -1,0 +1,22 @@
+//! Which definition a value means.
+//!
+//! The value of a file (RFC 8259) is read as a workflow definition (Workflow Definition Language, schema 2016-06-01), in either form of the
+//! file: the definition itself, or a wrapper whose member `definition` it is. Texts are parsed, options are read, actions get their numbers
+//! and their pointers. What stands there is `wf_def`'s types; which of them a value means is said by functions on trees, from `specs/Texts`
+//! (texts and inputs) by `specs/Leaves` and `specs/Graphs` (actions) to `specs/Sections` (parameters, triggers, outputs).
+//!
+//! Each of these functions is total, and so is the code: where a rule of `wf_form` refuses a value, it is read as something all the same,
+//! which no one asks for, so that reading has no fault but want of memory.
+//!
+//! It judges nothing, runs nothing, and knows no order of actions. What takes memory takes its allocator, and answers an error where none
+//! is left, with everything that it was lent as before; what the call was given by value is then dropped.
+#![tactic(auto)]
+
+mod afters;
+mod conditions;
+mod graphs;
+mod leaves;
+mod numbers;
+mod options;
+mod sections;
+mod texts;

@@ -1,0 +1,5 @@
+pub mod CallLemmas
+mod PlaceRows
+mod ReachedLemmas
+pub mod TextLemmas
+mod TextRows

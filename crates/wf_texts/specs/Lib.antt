@@ -1,0 +1,5 @@
+pub mod Bad
+pub mod Calls
+pub mod Members
+pub mod Reached
+pub mod Sound
