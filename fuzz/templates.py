@@ -1,9 +1,13 @@
-"""Templates, and the values of some of their functions, decided apart from the program: the judge of fuzz.py stands on this.
+"""Templates, and what they come to, decided apart from the program: the judge of fuzz.py stands on this.
 
-A text is read by the grammar of docs/EXPRESSIONS.md; what its calls give is written here from docs/FUNCTIONS.md for the functions of
-`KNOWN`. Of another function that the program has built the judge knows only how many arguments it takes: `Unknown` is raised where its
-value is asked for."""
+A text is read by the grammar of docs/EXPRESSIONS.md, and the functions that ask for rows, the moment or words, or that don't evaluate
+all of their arguments, are written here from docs/EVALUATION.md; functions.py has the others. `Unknown` is raised where the value of
+a function is asked for that this judge doesn't know."""
+import hashlib
 import re
+import uuid
+
+from functions import GIVEN, Fault, Unknown, fitting, give, moved, needs, pattern_of, printed, text_of, typed
 
 BLANKS = re.compile("[ \t\r\n]*")
 NAME = re.compile("[A-Za-z][A-Za-z0-9_]*")
@@ -12,28 +16,17 @@ NUMBER = re.compile("-?[0-9]+")
 QUOTED = re.compile("'((?:[^']|'')*)'", re.DOTALL)
 LEAST, MOST = -(2**63), 2**63 - 1
 LONGEST, OPEN_AT_MOST = 8192, 64
-DEEP, HEAVY = 64, 2**20
 # the functions that a definition may call: their names as they are printed, and how many arguments they take
-BUILT = {name.lower(): (name, least, most) for name, least, most in [
-    ("if", 3, 3), ("and", 1, None), ("or", 1, None), ("coalesce", 1, None), ("string", 1, 1), ("json", 1, 1), ("actions", 1, 1),
-    ("outputs", 1, 1), ("body", 1, 1), ("workflow", 0, 0), ("add", 2, 2), ("sub", 2, 2), ("mul", 2, 2), ("div", 2, 2), ("mod", 2, 2),
-    ("min", 1, None), ("max", 1, None), ("equals", 2, 2), ("greater", 2, 2), ("greaterOrEquals", 2, 2), ("less", 2, 2),
-    ("lessOrEquals", 2, 2), ("not", 1, 1), ("int", 1, 1), ("bool", 1, 1), ("isInt", 1, 1), ("concat", 1, None), ("substring", 2, 3),
-    ("slice", 2, 3), ("replace", 3, 3), ("split", 2, 2), ("toLower", 1, 1), ("toUpper", 1, 1), ("trim", 1, 1), ("startsWith", 2, 2),
-    ("endsWith", 2, 2), ("indexOf", 2, 2), ("lastIndexOf", 2, 2)]}
+OWN = {
+    "if": (3, 3), "and": (1, None), "or": (1, None), "coalesce": (1, None), "string": (1, 1), "json": (1, 1), "actions": (1, 1),
+    "outputs": (1, 1), "body": (1, 1), "workflow": (0, 0), "utcNow": (0, 1), "getFutureTime": (2, 3), "getPastTime": (2, 3), "guid": (0, 1),
+    "rand": (2, 2)}
+BUILT = {name.lower(): (name,) + counts for name, counts in (OWN | {name: row[1:] for name, row in GIVEN.items()}).items()}
 NAMING = ("actions", "outputs", "body")
 
 
 class Refused(Exception):
     """A text is no template, or a call in it isn't built."""
-
-
-class Fault(Exception):
-    """A value isn't there; the words are the fault as it is printed."""
-
-
-class Unknown(Exception):
-    """This judge doesn't know what the function gives."""
 
 
 # An expression from a place of a text on: ("lit", value), ("call", name, parts), ("member", base, name, soft), ("index", base, key, soft).
@@ -184,36 +177,23 @@ def names_asked(value):
     return names
 
 
-def depth(value):
-    parts = value.values() if isinstance(value, dict) else value if isinstance(value, list) else None
-    return 0 if parts is None else 1 + max(map(depth, parts), default=0)
-
-
-def weight(value):
-    if isinstance(value, dict):
-        return 1 + sum(1 + len(name.encode()) + weight(part) for name, part in value.items())
-    if isinstance(value, list):
-        return 1 + sum(map(weight, value))
-    return 1 + len(value.encode()) if isinstance(value, str) else 1
-
-
-def fitting(value):
-    if depth(value) > DEEP or weight(value) > HEAVY:
-        raise Fault("TooBig %d %d" % (depth(value), weight(value)))
-    return value
-
-
 def is_whole(value):
     return isinstance(value, int) and not isinstance(value, bool)
 
 
-# The value of an expression, where `view` gives what is known of an action, `run` is the run's name and `compact` the JSON text of a value.
+# The value of an expression. `view` gives what is known of an action; `compact` gives the JSON text of a value, and `read` the value of a
+# JSON text, or raises ValueError. The run has a name, a seed and a moment, and words are drawn at the place, the action's name.
 class Evaluator:
-    def __init__(self, view, run, compact):
-        self.view, self.run, self.compact = view, run, compact
+    def __init__(self, view, run, place, compact, read):
+        self.view, self.run, self.place, self.compact, self.read, self.drawn = view, run, place, compact, read, 0
 
     def text(self, value):
-        return value if isinstance(value, str) else "" if value is None else self.compact(value)
+        return text_of(value, self.compact)
+
+    # the next word
+    def word(self):
+        self.drawn += 1
+        return hashlib.sha256(b"\0".join([self.run["seed"].encode(), self.place.encode(), b"%d" % (self.drawn - 1)])).digest()
 
     def tree(self, value):
         if isinstance(value, str):
@@ -249,12 +229,6 @@ class Evaluator:
             return None
         raise Fault("NoMember " + self.compact(key if isinstance(key, str) else str(key)))
 
-    def whole_numbers(self, name, values):
-        for place, value in enumerate(values):
-            if not is_whole(value):
-                raise Fault("WrongType %s %d" % (name, place + 1))
-        return values
-
     def call(self, name, parts):
         if name == "if":
             test = self.value(parts[0])
@@ -278,25 +252,39 @@ class Evaluator:
             body = outputs.get("body") if isinstance(outputs, dict) else None
             return {"actions": view, "outputs": outputs, "body": body}[name]
         if name == "workflow":
-            return {"name": "workflow", "run": {"name": self.run}}
-        return self.strict(name, [self.value(part) for part in parts])
+            return {"name": "workflow", "run": {"name": self.run["run"]}}
+        name, values = BUILT[name][0], [self.value(part) for part in parts]
+        return getattr(self, name)(name, values) if name in OWN else give(name, values, self.compact)
 
-    def strict(self, name, values):
-        if name == "concat":
-            return "".join(map(self.text, values))
-        if name == "string":
-            return self.text(values[0])
-        if name == "equals":
-            numbers = all(isinstance(value, int) for value in values)
-            return values[0] == values[1] if numbers else self.compact(values[0]) == self.compact(values[1])
-        if name in ("add", "sub", "mul"):
-            left, right = self.whole_numbers(name, values)
-            made = {"add": left + right, "sub": left - right, "mul": left * right}[name]
-            if not LEAST <= made <= MOST:
-                raise Fault("Range " + name)
-            return made
-        if name == "not":
-            if not isinstance(values[0], bool):
-                raise Fault("WrongType not 1")
-            return not values[0]
-        raise Unknown(name)
+    def string(self, name, values):
+        return self.text(values[0])
+
+    def json(self, name, values):
+        if not isinstance(values[0], str):
+            return {} if values[0] is None else values[0]
+        try:
+            return self.read(values[0])
+        except ValueError:
+            raise Fault("BadText json")
+
+    def utcNow(self, name, values):
+        return printed(self.run["moment"], pattern_of(name, typed(name, values, "T")))
+
+    def getFutureTime(self, name, values):
+        count, unit, *pattern = typed(name, values, ["I", "T"])
+        parts = pattern_of(name, pattern)
+        return printed(moved(name, self.run["moment"], -count if name == "getPastTime" else count, unit), parts)
+
+    getPastTime = getFutureTime
+
+    # a version 4 identifier of RFC 9562, of the word's first 16 bytes
+    def guid(self, name, values):
+        form = (typed(name, values, "T") or ["D"])[0]
+        needs(form in ("D", "N", "B", "P"), "Range", name)
+        made = uuid.UUID(bytes=self.word()[:16], version=4)
+        return {"D": "%s", "N": made.hex, "B": "{%s}", "P": "(%s)"}[form].replace("%s", str(made))
+
+    def rand(self, name, values):
+        least, end = typed(name, values, "I")
+        needs(least < end, "Range", name)
+        return least + int.from_bytes(self.word()[:8], "big") % (end - least)

@@ -1,18 +1,20 @@
 -- Worked values of the definitions: what is met, when actions end, how a graph ends, and what is recorded.
 use Rattle.std.proofs.Common.{◌≡◌, [], ◌∷◌, true, false, map, refl}
-use Rattle.std.specs.Prelude.{codes}
+use Rattle.std.specs.Prelude.{pos, codes}
 use Rattle.wf_val.specs.ValueTree.{null, boolean, text, object, members, no_members, member_then}
 use Rattle.wf_val.specs.declared.fault.EvalFault.{EvalFault}
 use Rattle.wf_val.specs.declared.function.Fun.{Fun}
 use Rattle.wf_json.specs.FaultText.{fault_text}
 use Rattle.wf_layers.specs.Definition.{Succeeded, Failed, Skipped, TimedOut, Cancelled}
-use Rattle.wf_meaning.specs.Flat.{composed, faulted, skipped}
+use Rattle.wf_eval.specs.Rows.{fitted}
+use Rattle.wf_eval.specs.Timed.{utc_now_row}
+use Rattle.wf_meaning.specs.Flat.{composed, ended, faulted, skipped}
 use Rattle.wf_meaning.specs.Look.{untriggered, view_of}
 use Rattle.wf_meaning.specs.Meaning.{meaning, rows_of, table_of}
 use Rattle.wf_meaning.specs.Names.{is_before, names_before}
 use Rattle.wf_meaning.specs.Rounds.{all_end, depth_of, is_waiting}
 use Rattle.wf_meaning.specs.Status.{graph_status}
-use Rattle.wf_meaning.specs.Worked.{action, apart, asking, chain, failing, four, joined, loop, met_at, need, relay, renamed, single, statuses}
+use Rattle.wf_meaning.specs.Worked.{action, apart, asking, chain, drawing, drawn_at, failing, four, joined, loop, met_at, need, relay, renamed, seeded, single, statuses, timed}
 
 -- ---- `runAfter` with each status, against an action that Succeeded, Failed, was Skipped, TimedOut or was Cancelled
 
@@ -175,6 +177,15 @@ failing-rows = refl
 
 failing-status : graph_status failing (table_of (untriggered (codes "r")) failing) ≡ Failed
 failing-status = refl
+
+-- each draws the first two words of its own name
+drawing-rows : map (λ row. row.row) (rows_of seeded drawing) ≡ drawn_at (codes "A") ∷ (drawn_at (codes "B") ∷ [])
+drawing-rows = refl
+
+-- each says when the run is
+timed-rows : map (λ row. row.row) (rows_of seeded timed)
+    ≡ ended (fitted (utc_now_row (pos 36000000000) [])) ∷ (ended (fitted (utc_now_row (pos 36000000000) [])) ∷ [])
+timed-rows = refl
 
 -- what `actions` gives
 view-skipped : view_of (codes "A") skipped ≡ object (members (

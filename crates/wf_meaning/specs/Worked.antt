@@ -1,15 +1,17 @@
 -- Worked values of the definitions of this crate.
-use Rattle.std.specs.Prelude.{ℕ, zero, suc, Bool, false, List, [], ◌∷◌, map, Option, Some, slice_get, codes}
+use Rattle.std.specs.Prelude.{ℕ, ℤ, pos, zero, suc, Bool, false, List, [], ◌∷◌, map, Option, Some, slice_get, codes}
 use Rattle.std.specs.Option.{option_map}
 use Rattle.wf_template.specs.DataTree as inputs
 use Rattle.wf_template.specs.ExprTree.{ExprTree, literal, call, no_exprs, expr_then}
 use Rattle.wf_template.specs.TemplateTree.{whole}
-use Rattle.wf_val.specs.ValueTree.{ValueTree, null, boolean, text}
+use Rattle.wf_val.specs.ValueTree.{ValueTree, null, boolean, number, text, list, trees}
 use Rattle.wf_layers.specs.Definition.{Status, Succeeded, Failed, Skipped, TimedOut, Cancelled, Need}
 use Rattle.wf_layers.specs.Address.{Table}
 use Rattle.wf_layers.specs.Source.{all_met}
-use Rattle.wf_meaning.specs.Definition.{ActionTree}
-use Rattle.wf_meaning.specs.Flat.{source}
+use Rattle.wf_eval.specs.Draws.{number_in}
+use Rattle.wf_eval.specs.Told.{word_of}
+use Rattle.wf_meaning.specs.Definition.{ActionTree, InputsTree}
+use Rattle.wf_meaning.specs.Flat.{composed, source}
 use Rattle.wf_meaning.specs.Look.{untriggered}
 use Rattle.wf_meaning.specs.Record.{Row}
 
@@ -116,3 +118,30 @@ abbrev pub failing : List ActionTree
 failing =
     with_inputs (action (codes "A") []) (whole_of (call_of (codes "not") null))
     ∷ (action (codes "B") (need 0 (Failed ∷ []) ∷ []) ∷ (action (codes "C") (need 0 (Succeeded ∷ []) ∷ []) ∷ []))
+
+-- a call of `rand`
+abbrev pub rand_of : ℤ → ℤ → ExprTree
+rand_of least end = call (codes "rand") (expr_then (literal (number least)) (expr_then (literal (number end)) no_exprs))
+
+-- A and B each draw two numbers from 1 on, below 5, and neither waits for the other.
+abbrev pub two_drawn : inputs.DataTree
+two_drawn = whole_of (call (codes "createArray") (expr_then (rand_of (pos 1) (pos 5)) (expr_then (rand_of (pos 1) (pos 5)) no_exprs)))
+
+abbrev pub drawing : List ActionTree
+drawing = with_inputs (action (codes "A") []) two_drawn ∷ (with_inputs (action (codes "B") []) two_drawn ∷ [])
+
+-- A run that is handed a seed, and 0001-01-01T01:00:00Z for its moment.
+abbrev pub seeded : InputsTree
+seeded = record (untriggered (codes "r")) { seed = codes "s"; moment = pos 36000000000 }
+
+-- the row of an action that drew the first two words of its place
+abbrev pub drawn_at : List ℕ → Row
+drawn_at place = composed (list (trees (
+    number (number_in (pos 1, pos 5) (word_of (codes "s") place 0))
+    ∷ (number (number_in (pos 1, pos 5) (word_of (codes "s") place 1)) ∷ []))))
+
+-- A and B say when it is.
+abbrev pub timed : List ActionTree
+timed =
+    with_inputs (action (codes "A") []) (whole_of (call (codes "utcNow") no_exprs))
+    ∷ (with_inputs (action (codes "B") []) (whole_of (call (codes "UTCNOW") no_exprs)) ∷ [])

@@ -14,23 +14,24 @@
 //! reads no JSON and prints nothing.
 #![tactic(auto)]
 
-ghost use Rattle.std.specs.Prelude.{◌≡◌, ◌⊎◌, ◌∷◌, ℕ, [], false, true, List, map};
+ghost use Rattle.std.specs.Prelude.{◌≡◌, ◌⊎◌, ◌∷◌, ℕ, [], false, true, List, map, codes};
 ghost use Rattle.wf_layers.specs.Definition.{Closed, Failed, IsBefore, IsDepth, Skipped, Succeeded};
 ghost use Rattle.wf_layers.specs.Address.{Table};
 ghost use Rattle.wf_layers.specs.Laws.{IsInstance};
+ghost use Rattle.wf_eval.specs.Told.{words};
 ghost use Rattle.wf_meaning.specs.Definition.{ActionTree, InputsTree};
 ghost use Rattle.wf_meaning.specs.Flat.{graph_of, source};
 ghost use Rattle.wf_meaning.specs.Judged.{AnyFailed};
 ghost use Rattle.wf_meaning.specs.Laws.{RowsFromBefore, StepsOfWalk};
-ghost use Rattle.wf_meaning.specs.Look.{untriggered};
+ghost use Rattle.wf_meaning.specs.Look.{told_at, untriggered};
 ghost use Rattle.wf_meaning.specs.Meaning.{rows_of, table_of};
 ghost use Rattle.wf_meaning.specs.Names.{names_before};
 ghost use Rattle.wf_meaning.specs.Record.{Row};
 ghost use Rattle.wf_meaning.specs.Rounds.{all_end, depth_of};
 ghost use Rattle.wf_meaning.specs.Status.{graph_status};
-ghost use Rattle.wf_meaning.specs.Worked.{astray, caught, cycle, four, missed, rows_with};
+ghost use Rattle.wf_meaning.specs.Worked.{astray, caught, cycle, drawing, drawn_at, four, missed, rows_with, seeded};
 
-use wf_eval::values_are_local;
+use wf_eval::{values_are_local, words_are_by_place};
 
 /// A definition all of whose actions end, and whose inputs name only actions before them, meets the premises of the laws
 /// of order, so its meaning doesn't depend on the order in which its actions end.
@@ -65,6 +66,14 @@ pub fn all_end_where_there_are_depths()
     ensures { (actions : List ActionTree) (depth : ℕ → ℕ) → Closed (graph_of actions) (graph_of actions) → IsDepth (graph_of actions) depth → all_end actions ≡ true }
 {}
 
+/// The words that an action draws are those of the run's seed and the action's own name, from the first on: neither other actions nor
+/// the rows that are known change them.
+pub fn words_are_by_action()
+    ensures { (inputs : InputsTree) (actions others : List ActionTree) (name : List ℕ) (known rows : Table Row) (n k : ℕ) → words (told_at inputs actions name known) n k ≡ words (told_at inputs others name rows) n k }
+{
+    words_are_by_place();
+}
+
 /// The judged actions are the least set that has each action which no `runAfter` names, and with a Skipped one those that its own
 /// `runAfter` names. Where all actions end, a graph Failed exactly where a judged action is Failed, TimedOut or Cancelled; else it
 /// Succeeded.
@@ -74,9 +83,11 @@ pub fn the_status_is_that_of_the_judged()
     ensures two { (actions : List ActionTree) (known : Table Row) → (graph_status actions known ≡ Failed) ⊎ (graph_status actions known ≡ Succeeded) }
 {}
 
-/// Worked values: what runs and what is Skipped, what never ends, and when a graph Failed.
+/// Worked values: what runs and what is Skipped, which words are drawn, what never ends, and when a graph Failed.
 pub fn worked_values()
     ensures rows { map (λ row. row.row.status) (rows_of (untriggered []) four) ≡ Succeeded ∷ (Succeeded ∷ (Skipped ∷ (Skipped ∷ []))) }
+    // A and B each draw the first two words of their own names.
+    ensures words { map (λ row. row.row) (rows_of seeded drawing) ≡ drawn_at (codes "A") ∷ (drawn_at (codes "B") ∷ []) }
     // B Succeeded, to which Skipped ones that no other names hand on.
     ensures skipped { graph_status four (table_of (untriggered []) four) ≡ Succeeded }
     ensures ending { all_end four ≡ true }

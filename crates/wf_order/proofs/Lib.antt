@@ -1,4 +1,5 @@
 pub mod FillLemmas
+pub mod OrderLaws
 pub mod PlaceLemmas
 pub mod RelationLemmas
 pub mod WalkLemmas

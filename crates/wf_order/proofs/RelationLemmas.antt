@@ -22,7 +22,7 @@ inner_is b h r is = or_left (b || h) r (or_right b h is)
 rest_is : (b h r : Bool) → r ≡ true → (b || h || r) ≡ true
 rest_is b h r is = or_right (b || h) r is
 
-own_has : (g : Graph) (p : ℕ) → has_own g p ≡ true → has g p ≡ true
+pub own_has : (g : Graph) (p : ℕ) → has_own g p ≡ true → has g p ≡ true
 own_has done p is = is
 own_has (add n after kind rest) p is = elim (or_split (nat_eq n p) (has_own rest p) is) [
   | inl own ↦ or_left (nat_eq n p || holds kind p) (has rest p) (or_left (nat_eq n p) (holds kind p) own)
@@ -42,7 +42,7 @@ among_two true firsts rests c among = inl among
 among_two false firsts rests c among = inr among
 
 mutual
-  around_has : (g : Graph) (m c : ℕ) → Among (around g m) c → has g c ≡ true
+  pub around_has : (g : Graph) (m c : ℕ) → Among (around g m) c → has g c ≡ true
   around_has done m c among = elim among [ ]
   around_has (add n after kind rest) m c among =
       elim (among_three (nat_eq n m) (holds kind m) n (around_in kind m) (around rest m) c among) [
@@ -53,21 +53,21 @@ mutual
         ]
       ]
 
-  kind_has : (kind : Kind) (m c : ℕ) → Among (around_in kind m) c → holds kind c ≡ true
+  pub kind_has : (kind : Kind) (m c : ℕ) → Among (around_in kind m) c → holds kind c ≡ true
   kind_has Leaf m c among = elim among [ ]
   kind_has (Scope g) m c among = around_has g m c among
   kind_has (Choice bs) m c among = branch_has bs m c among
   kind_has (Foreach pace g) m c among = around_has g m c among
   kind_has (Until most g) m c among = around_has g m c among
 
-  branch_has : (bs : Branches) (m c : ℕ) → Among (around_any bs m) c → has_any bs c ≡ true
+  pub branch_has : (bs : Branches) (m c : ℕ) → Among (around_any bs m) c → has_any bs c ≡ true
   branch_has no_branch m c among = elim among [ ]
   branch_has (branch b rest) m c among = elim (among_two (has b m) (around b m) (around_any rest m) c among) [
     | inl first ↦ or_left (has b c) (has_any rest c) (around_has b m c first)
     | inr behind' ↦ or_right (has b c) (has_any rest c) (branch_has rest m c behind')
   ]
 
-among-append : (xs ys : List ℕ) (c : ℕ) → Among (xs ++ ys) c → Among xs c ⊎ Among ys c
+pub among-append : (xs ys : List ℕ) (c : ℕ) → Among (xs ++ ys) c → Among xs c ⊎ Among ys c
 among-append [] ys c among = inr among
 among-append (x ∷ xs) ys c (inl same) = inl (inl same)
 among-append (x ∷ xs) ys c (inr rest) = elim (among-append xs ys c rest) [ inl first ↦ inl (inr first) | inr last ↦ inr last ]

@@ -1,6 +1,8 @@
-//! What the tables answer, in the words of a definition. The call tells a caller so, and does nothing.
+//! What the tables answer, in the words of a definition, and how the relations go together. Each call tells a caller so, and does
+//! nothing.
 ghost use Rattle.std.specs.Prelude.{◌≡◌, ◌↔◌, ℕ, true};
-ghost use Rattle.wf_layers.specs.Definition.{Closed, Graph, has};
+ghost use Rattle.wf_layers.specs.Definition.{Closed, Graph, IsDepth, has};
+ghost use Rattle.wf_layers.specs.Seen.{Once};
 ghost use Rattle.wf_order.specs.Order.{Before, Contains, Exclusive, IsBelow, Redo};
 ghost use Rattle.wf_order.specs.Table.{before, contains, exclusive, order_of, redo};
 
@@ -15,4 +17,18 @@ pub fn order_is_exact()
         → (exclusive (order_of n g) x y ≡ true) ↔ Exclusive g x y }
     ensures redo { (n : ℕ) (g : Graph) → IsBelow n g → Closed g g → (x y : ℕ) → has g x ≡ true → has g y ≡ true
         → (redo (order_of n g) x y ≡ true) ↔ Redo g x y }
+{}
+
+/// Before is an order, where names stand once, entries name actions of their own graph, and no action is its own ancestor.
+pub fn before_is_an_order()
+    ensures never_itself { (g : Graph) (depth : ℕ → ℕ) → Once g → Closed g g → IsDepth g depth → (x : ℕ) → Before g x x → ⊥ }
+    ensures transitive { (g : Graph) → Once g → Closed g g → (x y z : ℕ) → Before g x y → Before g y z → Before g x z }
+{}
+
+/// What stands inside a container goes along with it, where names stand once.
+pub fn what_stands_inside_goes_along()
+    ensures contains { (g : Graph) → Once g → (x y z : ℕ) → Contains g x y → Contains g y z → Contains g x z }
+    ensures before { (g : Graph) → Once g → (x y z : ℕ) → Before g x y → Contains g x z → Before g z y }
+    ensures after { (g : Graph) → Once g → (x y z : ℕ) → Before g x y → Contains g y z → Before g x z }
+    ensures exclusive { (g : Graph) → Once g → (x y z : ℕ) → Exclusive g x y → Contains g y z → Exclusive g x z }
 {}

@@ -18,5 +18,5 @@ mod order;
 mod place;
 mod walk;
 
-pub use laws::order_is_exact;
+pub use laws::{before_is_an_order, order_is_exact, what_stands_inside_goes_along};
 pub use order::Order;

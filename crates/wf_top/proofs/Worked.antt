@@ -1,14 +1,24 @@
 -- Worked values of the definitions of this crate: its limits, names, words and statuses.
-use Rattle.std.proofs.Common.{◌≡◌, ℕ, List, [], ◌∷◌, true, false, ◌&&◌, None, Some, Err, replicate, refl}
-use Rattle.std.specs.Prelude.{codes, if◌then◌else◌}
-use Rattle.wf_val.specs.ValueTree.{ValueTree, null, text, list, object, Member, members, trees}
+use Rattle.std.proofs.Common.{◌≡◌, ℕ, zero, suc, List, [], ◌∷◌, true, false, not, ◌&&◌, None, Some, Err, replicate, refl}
+use Rattle.std.specs.Prelude.{pos, codes, if◌then◌else◌}
+use Rattle.std.specs.List.{filter}
+use Rattle.std.specs.Option.{option_map}
+use Rattle.std.specs.Str.{chars}
+use Rattle.wf_val.specs.ValueTree.{ValueTree, null, number, text, list, object, Member, members, trees}
+use Rattle.wf_val.specs.Function.{functions}
+use Rattle.wf_val.specs.declared.function.Fun.{Fun}
+use Rattle.wf_template.specs.ExprTree.{ExprTrees, literal, no_exprs, expr_then}
+use Rattle.wf_fn_time.specs.Reading.{read_time}
+use Rattle.wf_meaning.specs.Look.{no_trigger}
 use Rattle.wf_layers.specs.Definition.{Succeeded, Failed, Skipped, TimedOut}
 use Rattle.wf_meaning.specs.Definition.{DefinitionTree}
 use Rattle.wf_top.specs.Commands.{command_of, run, run_definition}
 use Rattle.wf_top.specs.Form.{form_of, form_words, definition_of, inputs_of}
-use Rattle.wf_top.specs.Plain.{few_actions, is_few, is_name, is_plain_action, is_printable, listed_in, need_of, plain_actions, run_name}
+use Rattle.wf_top.specs.Plain.{few_actions, is_few, is_name, is_plain_action, is_printable, listed_in, need_of, plain_actions}
+use Rattle.wf_top.specs.Inputs.{moment_of, plain_run, run_name, seed_of}
 use Rattle.wf_top.specs.Plan.{Plan, Says, Reads, within}
-use Rattle.wf_top.specs.Served.{number}
+use Rattle.wf_top.specs.Served as served
+use Rattle.wf_top.specs.Templates.{is_plain_call, is_plain_function}
 use Rattle.wf_top.specs.declared.form.FormFault.{FormFault}
 use Rattle.wf_top.specs.declared.said.Verdict.TheVariants.{Done, Definition, Inputs}
 use Rattle.wf_top.specs.declared.words.Command.TheVariants.{Run}
@@ -90,13 +100,13 @@ words-not_json = refl
 words-not_yet : form_words FormFault.NotYet ≡ codes "NotYet"
 words-not_yet = refl
 
-status-done : number Done ≡ 0
+status-done : served.number Done ≡ 0
 status-done = refl
 
-status-definition : number Definition ≡ 1
+status-definition : served.number Definition ≡ 1
 status-definition = refl
 
-status-inputs : number Inputs ≡ 6
+status-inputs : served.number Inputs ≡ 6
 status-inputs = refl
 
 -- ---- the plain form
@@ -153,3 +163,112 @@ actions-absent = refl
 
 actions-not_object : plain_actions (Some null) ≡ None
 actions-not_object = refl
+
+-- ---- functions
+
+-- Of the functions of the language these ten stay outside.
+outside-ten : filter (λ f. not (is_plain_function f)) functions
+    ≡ Fun.Result ∷ (Fun.Action ∷ (Fun.Item ∷ (Fun.Items ∷ (Fun.IterationIndexes ∷ (Fun.Trigger ∷ (Fun.TriggerOutputs
+    ∷ (Fun.TriggerBody ∷ (Fun.Parameters ∷ (Fun.Variables ∷ [])))))))))
+outside-ten = refl
+
+-- a call whose arguments are so many times null
+abbrev nulls : ℕ → ExprTrees
+nulls zero = no_exprs
+nulls (suc n) = expr_then (literal null) (nulls n)
+
+call-workflow : is_plain_call (codes "workflow") (nulls 0) ≡ true
+call-workflow = refl
+
+call-moment : is_plain_call (codes "UTCNOW") (nulls 0) ≡ true
+call-moment = refl
+
+call-words : is_plain_call (codes "guid") (nulls 1) ≡ true
+call-words = refl
+
+call-too_few : is_plain_call (codes "rand") (nulls 1) ≡ false
+call-too_few = refl
+
+call-too_many : is_plain_call (codes "guid") (nulls 2) ≡ false
+call-too_many = refl
+
+call-of_the_look : is_plain_call (codes "trigger") (nulls 0) ≡ false
+call-of_the_look = refl
+
+call-of_a_container : is_plain_call (codes "result") (expr_then (literal (text (codes "A"))) no_exprs) ≡ false
+call-of_a_container = refl
+
+call-no_function : is_plain_call (codes "condition") (nulls 1) ≡ false
+call-no_function = refl
+
+call-named : is_plain_call (codes "body") (expr_then (literal (text (codes "A"))) no_exprs) ≡ true
+call-named = refl
+
+call-unnamed : is_plain_call (codes "body") (nulls 1) ≡ false
+call-unnamed = refl
+
+-- ---- inputs
+
+seed-absent : seed_of None ≡ Some []
+seed-absent = refl
+
+seed-text : seed_of (Some (text (codes "s"))) ≡ Some (codes "s")
+seed-text = refl
+
+seed-null : seed_of (Some null) ≡ None
+seed-null = refl
+
+seed-number : seed_of (Some (number (pos 1))) ≡ None
+seed-number = refl
+
+moment-absent : moment_of None ≡ None
+moment-absent = refl
+
+moment-number : moment_of (Some (number (pos 0))) ≡ None
+moment-number = refl
+
+moment-empty : moment_of (Some (text [])) ≡ None
+moment-empty = refl
+
+moment-text : (s : List ℕ) → moment_of (Some (text s)) ≡ read_time s
+moment-text s = refl
+
+-- the members of inputs, in the order of their names
+abbrev inputs_with : List Member → ValueTree
+inputs_with ms = object (members ms)
+
+abbrev moment_member : List ℕ → Member
+moment_member s = (codes "moment", text s)
+
+abbrev run_member : Member
+run_member = (codes "run", text (codes "r"))
+
+run-seedless : (s : List ℕ) → plain_run (inputs_with (moment_member s ∷ (run_member ∷ [])))
+    ≡ option_map (λ ticks. record { run = codes "r"; seed = []; moment = pos ticks; trigger = no_trigger }) (read_time s)
+unfolding plain_run chars
+run-seedless s = refl
+
+run-seeded : (s : List ℕ) → plain_run (inputs_with (moment_member s ∷ (run_member ∷ ((codes "seed", text (codes "s")) ∷ []))))
+    ≡ option_map (λ ticks. record { run = codes "r"; seed = codes "s"; moment = pos ticks; trigger = no_trigger }) (read_time s)
+unfolding plain_run chars
+run-seeded s = refl
+
+run-null_seed : (s : List ℕ) → plain_run (inputs_with (moment_member s ∷ (run_member ∷ ((codes "seed", null) ∷ [])))) ≡ None
+unfolding plain_run chars
+run-null_seed s = refl
+
+run-moment_of_words : plain_run (inputs_with (moment_member (codes "now") ∷ (run_member ∷ []))) ≡ None
+unfolding plain_run chars
+run-moment_of_words = refl
+
+run-momentless : plain_run (inputs_with (run_member ∷ [])) ≡ None
+unfolding plain_run chars
+run-momentless = refl
+
+run-nameless : (s : List ℕ) → plain_run (inputs_with (moment_member s ∷ [])) ≡ None
+unfolding plain_run chars
+run-nameless s = refl
+
+run-answers : (s : List ℕ) → plain_run (inputs_with ((codes "answers", list (trees [])) ∷ (moment_member s ∷ (run_member ∷ [])))) ≡ None
+unfolding plain_run chars
+run-answers s = refl

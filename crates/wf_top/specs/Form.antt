@@ -5,7 +5,8 @@ use Rattle.wf_json.specs.Json.{json}
 use Rattle.wf_json.specs.Read.{read_value}
 use Rattle.wf_json.specs.declared.fault.JsonFault.{JsonFault}
 use Rattle.wf_meaning.specs.Definition.{DefinitionTree, InputsTree}
-use Rattle.wf_top.specs.Plain.{plain_definition, plain_run}
+use Rattle.wf_top.specs.Inputs.{plain_run}
+use Rattle.wf_top.specs.Plain.{plain_definition}
 use Rattle.wf_top.specs.declared.form.FormFault.{FormFault}
 
 -- a fault of the JSON text, as a fault of the file

@@ -1,5 +1,6 @@
 pub mod Commands
 pub mod Form
+pub mod Inputs
 pub mod Limits
 pub mod Plain
 pub mod Plan

@@ -1,6 +1,6 @@
--- Which values are definitions and inputs of the plain form, the one that this program runs so far.
+-- Which values are definitions of the plain form, the one that this program runs so far.
 -- Members that aren't named here are ignored.
-use Rattle.std.specs.Prelude.{ℕ, suc, List, [], ◌∷◌, length, Bool, true, false, not, ◌&&◌, ◌==◌, Option, None, Some, is_none, if◌then◌else◌, nat_le, bytes_eq, codes}
+use Rattle.std.specs.Prelude.{ℕ, suc, List, [], ◌∷◌, length, Bool, false, not, ◌&&◌, ◌==◌, Option, None, Some, is_none, if◌then◌else◌, nat_le, bytes_eq, codes}
 use Rattle.std.specs.List.{list_all}
 use Rattle.std.specs.Option.{option_map, option_map_or, option_and_then}
 use Rattle.std.specs.Str.{chars, str_eq_ignore_ascii_case}
@@ -9,12 +9,11 @@ use Rattle.wf_val.specs.ValueTree.{ValueTree, text, list, object, items, Member,
 use Rattle.wf_val.specs.Get.{get, is_object}
 use Rattle.wf_json.specs.Json.{json}
 use Rattle.wf_layers.specs.Definition.{Status, Succeeded, Failed, Skipped, TimedOut, Need}
-use Rattle.wf_meaning.specs.Look.{untriggered}
 use Rattle.wf_meaning.specs.Names.{names_before}
 use Rattle.wf_meaning.specs.Rounds.{all_end}
-use Rattle.wf_meaning.specs.Definition.{ActionTree, DefinitionTree, InputsTree}
+use Rattle.wf_meaning.specs.Definition.{ActionTree, DefinitionTree}
 use Rattle.wf_top.specs.Templates.{plain_inputs}
-use Rattle.wf_top.specs.Limits.{actions_most, action_name_chars, run_name_chars}
+use Rattle.wf_top.specs.Limits.{actions_most, action_name_chars}
 
 -- A byte of a text that isn't a control character: those are U+0000 to U+001F and U+007F, one byte each in UTF-8, where
 -- the bytes of longer characters are above them.
@@ -34,10 +33,6 @@ members_in (Some t) = None
 -- An absent member counts as `{}`.
 abbrev pub is_absent_or_empty : Option ValueTree → Bool
 is_absent_or_empty value = option_map_or (λ ms. length ms == 0) (members_in value) false
-
-abbrev pub is_text : Option ValueTree → Bool
-is_text (Some (text s)) = true
-is_text t = false
 
 -- the value is this word; letter case doesn't count in ASCII
 abbrev pub is_word : List ℕ → Option ValueTree → Bool
@@ -133,18 +128,3 @@ plain_definition t =
     if is_bare t
     then option_map (λ actions. record { digest = sha256 (json t); actions = actions }) (plain_actions (get (codes "actions") t))
     else None
-
--- the name of a run
-abbrev pub run_name : Option ValueTree → Option (List ℕ)
-run_name (Some (text s)) = if is_name run_name_chars s then Some s else None
-run_name t = None
-
--- Plain inputs name the run and the moment, and hand in nothing else.
-abbrev pub hands_in_no_more : ValueTree → Bool
-hands_in_no_more t =
-    is_text (get (codes "moment") t) && is_none (get (codes "seed") t) && is_none (get (codes "trigger") t)
-    && is_none (get (codes "outputs") t) && is_none (get (codes "parameters") t) && is_none (get (codes "answers") t)
-
--- the plain inputs that a value is
-unfoldable pub plain_run : ValueTree → Option InputsTree
-plain_run t = if hands_in_no_more t then option_map untriggered (run_name (get (codes "run") t)) else None

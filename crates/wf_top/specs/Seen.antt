@@ -1,19 +1,14 @@
 -- What the structs of this crate stand for.
 use Rattle.std.specs.Prelude.{map}
 use Rattle.wf_val.specs.Seen.{tree}
-use Rattle.wf_meaning.specs.Definition.{DefinitionTree, InputsTree}
-use Rattle.wf_meaning.specs.Look.{untriggered}
+use Rattle.wf_meaning.specs.Definition.{DefinitionTree}
 use Rattle.wf_meaning.specs.Record.{RecordTree}
 use Rattle.wf_walk.specs.Seen.{action_tree, named_row, status_tree}
 use Rattle.wf_top.specs.declared.definition.Definition.{Definition}
-use Rattle.wf_top.specs.declared.inputs.Inputs.{Inputs}
 use Rattle.wf_top.specs.declared.record.Record.{Record}
 
 abbrev pub definition_tree : Definition → DefinitionTree
 definition_tree d = record { digest = d.digest.bytes; actions = map action_tree d.actions.items }
-
-abbrev pub inputs_tree : Inputs → InputsTree
-inputs_tree i = untriggered i.run
 
 abbrev pub record_tree : Record → RecordTree
 record_tree r = record {

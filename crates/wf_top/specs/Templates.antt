@@ -1,4 +1,4 @@
--- Which inputs of an action are plain: a tree whose texts are templates, and whose calls are of functions that are built.
+-- Which inputs of an action are plain: a tree whose texts are templates, and whose calls are of functions that a plain definition may call.
 use Rattle.std.specs.Prelude.{ℕ, ◌+◌, Bool, true, false, ◌&&◌, List, [], ◌∷◌, Option, None, Some, is_some, if◌then◌else◌}
 use Rattle.std.specs.Option.{option_map, option_and_then}
 use Rattle.wf_val.specs.ValueTree.{ValueTree, null, boolean, number, text, list, object, ValueTrees, no_values, value_then, MemberTrees, no_members, member_then}
@@ -31,47 +31,20 @@ abbrev mutual
   members_of no_members done = Some done
   members_of (member_then k t ms) done = option_and_then (λ d. members_of ms (put_named inputs.name_of_data (k, d) done)) (data_of t)
 
--- the functions that a plain definition may call
+-- What a plain definition may call: all but the functions that ask for a container, a loop, a trigger, a parameter, a variable or the
+-- row that is ending, of which it has none.
 abbrev pub is_plain_function : Fun → Bool
-is_plain_function Fun.If = true
-is_plain_function Fun.And = true
-is_plain_function Fun.Or = true
-is_plain_function Fun.Coalesce = true
-is_plain_function Fun.String = true
-is_plain_function Fun.Json = true
-is_plain_function Fun.Actions = true
-is_plain_function Fun.Outputs = true
-is_plain_function Fun.Body = true
-is_plain_function Fun.Workflow = true
-is_plain_function Fun.Add = true
-is_plain_function Fun.Sub = true
-is_plain_function Fun.Mul = true
-is_plain_function Fun.Div = true
-is_plain_function Fun.Mod = true
-is_plain_function Fun.Min = true
-is_plain_function Fun.Max = true
-is_plain_function Fun.Equals = true
-is_plain_function Fun.Greater = true
-is_plain_function Fun.GreaterOrEquals = true
-is_plain_function Fun.Less = true
-is_plain_function Fun.LessOrEquals = true
-is_plain_function Fun.Not = true
-is_plain_function Fun.Int = true
-is_plain_function Fun.Bool = true
-is_plain_function Fun.IsInt = true
-is_plain_function Fun.Concat = true
-is_plain_function Fun.Substring = true
-is_plain_function Fun.Slice = true
-is_plain_function Fun.Replace = true
-is_plain_function Fun.Split = true
-is_plain_function Fun.ToLower = true
-is_plain_function Fun.ToUpper = true
-is_plain_function Fun.Trim = true
-is_plain_function Fun.StartsWith = true
-is_plain_function Fun.EndsWith = true
-is_plain_function Fun.IndexOf = true
-is_plain_function Fun.LastIndexOf = true
-is_plain_function f = false
+is_plain_function Fun.Result = false
+is_plain_function Fun.Action = false
+is_plain_function Fun.Item = false
+is_plain_function Fun.Items = false
+is_plain_function Fun.IterationIndexes = false
+is_plain_function Fun.Trigger = false
+is_plain_function Fun.TriggerOutputs = false
+is_plain_function Fun.TriggerBody = false
+is_plain_function Fun.Parameters = false
+is_plain_function Fun.Variables = false
+is_plain_function f = true
 
 abbrev pub arg_count : ExprTrees → ℕ
 arg_count no_exprs = 0
@@ -88,7 +61,7 @@ abbrev pub is_plain_call_of : ExprTrees → Option Fun → Bool
 is_plain_call_of es None = false
 is_plain_call_of es (Some f) = is_plain_function f && takes f (arg_count es) && has_name es f
 
--- a call of a function that is built, with a count of arguments that it takes
+-- a call of a function that may be called, with a count of arguments that it takes
 abbrev pub is_plain_call : Test
 is_plain_call name es = is_plain_call_of es (function_of name)
 

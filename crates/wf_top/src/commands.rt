@@ -43,9 +43,9 @@ fn run_definition<F: Files>(
     let file = load(alloc, files, inputs, INPUTS_LIMIT)?;
     match inputs_form(alloc, file) {
         Err(fault) => say_fault(alloc, Verdict::Inputs, b"inputs ", fault),
-        Ok(inputs) => Ok(Said {
+        Ok(given) => Ok(Said {
             verdict: Verdict::Done,
-            text: run_text(alloc, definition, inputs)?,
+            text: run_text(alloc, definition, given)?,
         }),
     }
 }

@@ -2,15 +2,17 @@
 ghost use Rattle.std.specs.Prelude.{◌≡◌, ◌≢◌, ◌++◌, IfOk, IfErr, Ok, Err};
 ghost use Rattle.std.specs.Option.{option_map};
 ghost use Rattle.wf_top.specs.Form.{definition_of, fault_line, form_of, form_words, inputs_of, json_fault, printed};
-ghost use Rattle.wf_top.specs.Seen.{definition_tree, inputs_tree};
+ghost use Rattle.wf_top.specs.Seen.{definition_tree};
+ghost use Rattle.wf_walk.specs.Seen.{given_tree};
 ghost use Rattle.wf_top.specs.declared.form.FormFault.TheVariants.{Memory};
 
 use crate::definition::Definition;
-use crate::inputs::{Inputs, read_inputs};
+use crate::inputs::read_inputs;
 use crate::plain::read_definition;
 use std::alloc::{AllocError, AllocFailed, Global};
 use wf_json::JsonFault;
 use wf_val::{Text, Val};
+use wf_walk::Given;
 
 /// Why a file isn't of its form.
 #[derive(Drop)]
@@ -63,14 +65,14 @@ pub fn definition_form(alloc: Global, file: Option<Vec<u8>>) -> Result<Definitio
 }
 
 /// The inputs that a file holds; `None` stands for a file over its limit.
-pub fn inputs_form(alloc: Global, file: Option<Vec<u8>>) -> Result<Inputs, FormFault>
-    ensures form { IfOk result (λ inputs. form_of inputs_of (option_map (λ bytes. bytes.items) file) ≡ Ok (inputs_tree inputs)) }
+pub fn inputs_form(alloc: Global, file: Option<Vec<u8>>) -> Result<Given, FormFault>
+    ensures form { IfOk result (λ given. form_of inputs_of (option_map (λ bytes. bytes.items) file) ≡ Ok (given_tree given)) }
     ensures fault { IfErr result (λ fault. fault ≢ FormFault.Memory → form_of inputs_of (option_map (λ bytes. bytes.items) file) ≡ Err fault) }
 {
     let bytes = file.ok_or(FormFault::TooLong)?;
     let value = wf_json::read(alloc, &bytes)?;
     match read_inputs(alloc, &value)? {
-        Some(inputs) => Ok(inputs),
+        Some(given) => Ok(given),
         None => Err(FormFault::NotYet),
     }
 }

@@ -2,36 +2,23 @@
 ghost use Rattle.std.specs.Prelude.{◌≡◌, IfOk};
 ghost use Rattle.std.specs.Option.{option_map};
 ghost use Rattle.wf_val.specs.Seen.{tree};
-ghost use Rattle.wf_top.specs.Plain.{hands_in_no_more, plain_run, is_text, run_name};
-ghost use Rattle.wf_top.specs.Seen.{inputs_tree};
+ghost use Rattle.wf_meaning.specs.Look.{no_trigger};
+ghost use Rattle.wf_top.specs.Inputs.{hands_in_no_more, moment_of, plain_run, run_name, seed_of};
+ghost use Rattle.wf_walk.specs.Seen.{given_tree};
 
 use crate::RUN_NAME_LIMIT;
 use crate::plain::is_name;
+use crate::record::with;
 use std::alloc::{AllocError, Global};
-use wf_val::{Text, Val};
+use wf_fn_time::{Ticks, read_time};
+use wf_val::{Fields, Text, Val};
+use wf_walk::Given;
 
-/// What a run is handed.
-#[derive(Drop)]
-pub struct Inputs {
-    pub run: Text,
-}
-
-fn is_text(member: Option<&Val>) -> bool
-    ensures { result ≡ is_text (option_map (λ v. tree v.now) member.entry) }
-{
-    match member {
-        Some(Val::Text(_)) => true,
-        _ => false,
-    }
-}
-
-// Whether the inputs hand in a moment, and no seed, trigger, outputs, parameters and answers.
+// Whether the inputs hand in no trigger, outputs, parameters and answers.
 fn hands_in_no_more(value: &Val) -> bool
     ensures { result ≡ hands_in_no_more (tree value.now) }
 {
-    is_text(value.member("moment"))
-        && value.member("seed").is_none()
-        && value.member("trigger").is_none()
+    value.member("trigger").is_none()
         && value.member("outputs").is_none()
         && value.member("parameters").is_none()
         && value.member("answers").is_none()
@@ -46,16 +33,57 @@ fn run_name(alloc: Global, member: Option<&Val>) -> Result<Option<Text>, AllocEr
     }
 }
 
-/// The inputs that a value is, or `None` where it isn't of their form.
-#[tactic(auto, unfolding(crate::specs::Plain::plain_run))]
-pub fn read_inputs(alloc: Global, value: &Val) -> Result<Option<Inputs>, AllocError>
-    ensures { IfOk result (λ inputs. option_map inputs_tree inputs ≡ plain_run (tree value.now)) }
+// The seed of a run's words: a text, and the empty one where none is handed in.
+fn seed_of(alloc: Global, member: Option<&Val>) -> Result<Option<Text>, AllocError>
+    ensures { IfOk result (λ seed. seed ≡ seed_of (option_map (λ v. tree v.now) member.entry)) }
+{
+    match member {
+        None => Ok(Some(Text::of(alloc, "")?)),
+        Some(Val::Text(text)) => Ok(Some(text.copy(alloc)?)),
+        Some(_) => Ok(None),
+    }
+}
+
+// The moment of a run: a timestamp.
+fn moment_of(member: Option<&Val>) -> Option<Ticks>
+    ensures { result ≡ moment_of (option_map (λ v. tree v.now) member.entry) }
+{
+    match member {
+        Some(Val::Text(text)) => read_time(text.as_str()),
+        _ => None,
+    }
+}
+
+// The trigger of a run that none started.
+fn no_trigger(alloc: Global) -> Result<Val, AllocError>
+    ensures { IfOk result (λ value. tree value ≡ no_trigger) }
+{
+    let fields = with(alloc, Fields::new(alloc), "name", Val::Null)?;
+    let fields = with(alloc, fields, "outputs", Val::Null)?;
+    Ok(Val::Obj(fields))
+}
+
+/// What a run is handed by inputs of this value, or `None` where they aren't of their form.
+#[tactic(auto, unfolding(crate::specs::Inputs::plain_run))]
+pub fn read_inputs(alloc: Global, value: &Val) -> Result<Option<Given>, AllocError>
+    ensures { IfOk result (λ given. option_map given_tree given ≡ plain_run (tree value.now)) }
 {
     if !hands_in_no_more(value) {
         return Ok(None);
     }
-    match run_name(alloc, value.member("run"))? {
-        Some(run) => Ok(Some(Inputs { run })),
+    let Some(run) = run_name(alloc, value.member("run"))? else {
+        return Ok(None);
+    };
+    let Some(seed) = seed_of(alloc, value.member("seed"))? else {
+        return Ok(None);
+    };
+    match moment_of(value.member("moment")) {
+        Some(moment) => Ok(Some(Given {
+            run,
+            seed,
+            moment: moment.get() as i64,
+            trigger: no_trigger(alloc)?,
+        })),
         None => Ok(None),
     }
 }

@@ -1,43 +1,19 @@
 // A run: the record that it leaves, and what is written of it.
 ghost use Rattle.std.specs.Prelude.{◌≡◌, ◌++◌, map, IfOk};
-ghost use Rattle.wf_val.specs.Seen.{tree};
 ghost use Rattle.wf_top.specs.Commands.{run_text};
-ghost use Rattle.wf_meaning.specs.Look.{no_trigger};
 ghost use Rattle.wf_meaning.specs.Meaning.{meaning};
 ghost use Rattle.wf_top.specs.Record.{is_skipped, peak_of, record_line, steps_of, summary_line};
-ghost use Rattle.wf_top.specs.Seen.{definition_tree, inputs_tree, record_tree};
+ghost use Rattle.wf_top.specs.Seen.{definition_tree, record_tree};
 ghost use Rattle.wf_walk.specs.Seen.{given_tree, named_row, status_tree};
 
 use crate::definition::Definition;
-use crate::inputs::Inputs;
-use crate::record::{Record, with};
+use crate::record::Record;
 use std::alloc::{AllocError, Global};
-use wf_val::{Fields, Text, Val};
+use wf_val::{Fields, Val};
 use wf_walk::{Given, Row, Status, walk};
 
-// The trigger of a run that none started.
-fn no_trigger(alloc: Global) -> Result<Val, AllocError>
-    ensures { IfOk result (λ value. tree value ≡ no_trigger) }
-{
-    let fields = with(alloc, Fields::new(alloc), "name", Val::Null)?;
-    let fields = with(alloc, fields, "outputs", Val::Null)?;
-    Ok(Val::Obj(fields))
-}
-
-// What a run is handed whose inputs give it a name.
-fn given_of(alloc: Global, inputs: Inputs) -> Result<Given, AllocError>
-    ensures { IfOk result (λ given. given_tree given ≡ inputs_tree inputs) }
-{
-    Ok(Given {
-        run: inputs.run,
-        seed: Text::of(alloc, "")?,
-        moment: 0,
-        trigger: no_trigger(alloc)?,
-    })
-}
-
-// The record that a run of the definition leaves which is handed this.
-fn record_with(alloc: Global, definition: Definition, given: Given) -> Result<Record, AllocError>
+// The record that a run of the definition leaves.
+fn record_of(alloc: Global, definition: Definition, given: Given) -> Result<Record, AllocError>
     ensures { IfOk result (λ finished. record_tree finished ≡ meaning (definition_tree definition) (given_tree given)) }
 {
     let walked = walk(alloc, &given, &definition.actions)?;
@@ -52,14 +28,6 @@ fn record_with(alloc: Global, definition: Definition, given: Given) -> Result<Re
         outputs: Val::Obj(Fields::new(alloc)),
         rows: walked.rows,
     })
-}
-
-// The record that a run of the definition leaves.
-fn record_of(alloc: Global, definition: Definition, inputs: Inputs) -> Result<Record, AllocError>
-    ensures { IfOk result (λ finished. record_tree finished ≡ meaning (definition_tree definition) (inputs_tree inputs)) }
-{
-    let given = given_of(alloc, inputs)?;
-    record_with(alloc, definition, given)
 }
 
 fn is_skipped(status: Status) -> bool
@@ -120,14 +88,10 @@ fn record_line(alloc: Global, finished: Record) -> Result<Vec<u8>, AllocError>
 }
 
 /// What `run` writes: the line of the run's record, and its summary line.
-pub fn run_text(
-    alloc: Global,
-    definition: Definition,
-    inputs: Inputs,
-) -> Result<Vec<u8>, AllocError>
-    ensures { IfOk result (λ text. text.items ≡ run_text (definition_tree definition) (inputs_tree inputs)) }
+pub fn run_text(alloc: Global, definition: Definition, given: Given) -> Result<Vec<u8>, AllocError>
+    ensures { IfOk result (λ text. text.items ≡ run_text (definition_tree definition) (given_tree given)) }
 {
-    let finished = record_of(alloc, definition, inputs)?;
+    let finished = record_of(alloc, definition, given)?;
     let summary = summary_line(alloc, &finished)?;
     let mut text = record_line(alloc, finished)?;
     text.extend_from_slice(&summary)?;

@@ -76,42 +76,16 @@ fn members_of(alloc: Global, fields: &Fields) -> Result<Option<TreeFields>, Allo
     Ok(Some(found))
 }
 
-// Whether a plain definition may call the function: those of the evaluator itself, of texts, and of numbers.
+// Whether a plain definition may call the function: it has no container, loop, trigger, parameter and variable that could be
+// asked for.
 fn is_plain_function(function: Fun) -> bool
     ensures { result ≡ is_plain_function function }
 {
     match function {
-        Fun::If | Fun::And | Fun::Or | Fun::Coalesce | Fun::String | Fun::Json => true,
-        Fun::Actions | Fun::Outputs | Fun::Body | Fun::Workflow => true,
-        Fun::Add
-        | Fun::Sub
-        | Fun::Mul
-        | Fun::Div
-        | Fun::Mod
-        | Fun::Min
-        | Fun::Max
-        | Fun::Int
-        | Fun::Bool
-        | Fun::IsInt => true,
-        Fun::Equals
-        | Fun::Greater
-        | Fun::GreaterOrEquals
-        | Fun::Less
-        | Fun::LessOrEquals
-        | Fun::Not => true,
-        Fun::Concat
-        | Fun::Substring
-        | Fun::Slice
-        | Fun::Replace
-        | Fun::Split
-        | Fun::ToLower
-        | Fun::ToUpper
-        | Fun::Trim
-        | Fun::StartsWith
-        | Fun::EndsWith
-        | Fun::IndexOf
-        | Fun::LastIndexOf => true,
-        _ => false,
+        Fun::Result | Fun::Action | Fun::Item | Fun::Items | Fun::IterationIndexes => false,
+        Fun::Trigger | Fun::TriggerOutputs | Fun::TriggerBody => false,
+        Fun::Parameters | Fun::Variables => false,
+        _ => true,
     }
 }
 

@@ -1,9 +1,16 @@
-use Rattle.std.proofs.Common.{◌≡◌, subst, IfOk}
-use Rattle.wf_meaning.specs.Meaning.{meaning}
-use Rattle.wf_top.specs.Seen.{definition_tree, record_tree}
+use Rattle.std.proofs.Common.{◌≡◌, map}
+use Rattle.wf_meaning.specs.Meaning.{meaning, rows_of, table_of}
+use Rattle.wf_meaning.specs.Status.{graph_status}
+use Rattle.wf_walk.specs.Seen.{action_tree, given_tree, named_row, status_tree}
 use Rattle.wf_top.proofs.run.record_of.Goals as goal
 
 pub returns : goal.returns
+unfolding meaning
 returns c =
-    subst (λ i. IfOk c.record_with.result (λ finished. record_tree finished ≡ meaning (definition_tree c.args.definition) i))
-    c.in_ok-given.ensures c.record_with.ensures
+    let trees = map action_tree c.args.definition.actions.items in
+    let given = given_tree c.args.given in
+    let rows : map named_row c.in_ok-walked.walked.rows.items ≡ rows_of given trees =
+    rw c.deref.ensures.value at c.in_ok-walked.ensures.rows in
+    let status : status_tree c.in_ok-walked.walked.status ≡ graph_status trees (table_of given trees) =
+    rw c.deref.ensures.value at c.in_ok-walked.ensures.status in
+    rw (rows, status, c.new.ensures, c.new-2.ensures)
