@@ -71,6 +71,9 @@ cases = [
     ("500 actions, each after the next", graph(lambda k: names[k + 1:k + 2])),
     ("500 actions, each after all before", graph(lambda k: names[:k])),
     ("500 actions, each after all behind", graph(lambda k: names[k + 1:])),
+    ("500 actions, ten functions in each", {"actions": {name: {"type": "Compose", "inputs": (
+        "@concat(toUpper(first(split('b,a',','))),string(sort(createArray(3,1,2))),formatDateTime(addDays(utcNow(),%d),'D'),guid())") % k}
+        for k, name in enumerate(names)}}),
     ("one action, a value of 0.9 MiB", {"actions": {"A": {"type": "Compose", "inputs": rows}}}),
     ("4 MiB that isn't looked at", {"metadata": [rows] * 4, "actions": {"A": {"type": "Compose", "inputs": 1}}}),
 ]

@@ -26,4 +26,5 @@ mod walk;
 
 pub use actions::actions_of;
 pub use fault::{fault_of, first_fault, inner, the_first_fault};
+pub use role::{Holder, Role};
 pub use rule::Rule;

@@ -10,7 +10,7 @@ use wf_val::Val;
 /// What a value stands for that rules look at. A level is that of the actions there: 1 for those of the definition's own graph, 9
 /// for all that lie deeper than 8.
 #[derive(Clone, Copy, PartialEq, Eq)]
-pub(crate) enum Role {
+pub enum Role {
     Definition,
     Parameters,
     Triggers,
@@ -27,7 +27,7 @@ pub(crate) enum Role {
 
 /// Which members of an action hold graphs.
 #[derive(Clone, Copy, PartialEq, Eq)]
-pub(crate) enum Holder {
+pub enum Holder {
     Nothing,
     /// `actions`.
     One,

@@ -2,3 +2,13 @@ pub mod NumberLemmas
 pub mod DataLemmas
 pub mod GraphLemmas
 pub mod ConditionLemmas
+pub mod PartLemmas
+pub mod NameLemmas
+pub mod DepthLemmas
+pub mod RunAfterLemmas
+pub mod OnceLemmas
+pub mod ReadLemmas
+pub mod TurnLemmas
+pub mod FindLemmas
+pub mod NumberedLemmas
+pub mod ReadingRows

@@ -6,3 +6,7 @@ pub mod Options
 pub mod Leaves
 pub mod Graphs
 pub mod Sections
+pub mod Meant
+pub mod Read
+pub mod ReadSeen
+pub mod Facts

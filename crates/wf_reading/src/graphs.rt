@@ -75,7 +75,7 @@ fn pointer_to(alloc: Global, prefix: &str, key: &str) -> Result<Text, AllocError
     Ok(Text::from_string(pointer))
 }
 
-fn no_actions(alloc: Global) -> Graph
+pub(crate) fn no_actions(alloc: Global) -> Graph
     ensures { graph_tree result ≡ no_actions }
 {
     Graph::of(Actions::new(alloc))

@@ -6,17 +6,32 @@
 //! (texts and inputs) by `specs/Leaves` and `specs/Graphs` (actions) to `specs/Sections` (parameters, triggers, outputs).
 //!
 //! Each of these functions is total, and so is the code: where a rule of `wf_form` refuses a value, it is read as something all the same,
-//! which no one asks for, so that reading has no fault but want of memory.
+//! which no one asks for, so that reading has no fault but want of memory. `read_def` asks `wf_form` first, and answers the first rule that
+//! the definition breaks, or what it means.
 //!
-//! It judges nothing, runs nothing, and knows no order of actions. What takes memory takes its allocator, and answers an error where none
+//! A `Def` can't be made otherwise than by reading, since its type keeps the fact that some value breaks none of the rules and means it
+//! (`specs/Read.antt`). What follows of such definitions is told by the laws: names stand once, numbers are their places, `runAfter` has depths, there are at most 500
+//! actions, and loops may turn.
+//!
+//! It runs nothing and knows no order of actions. What takes memory takes its allocator, and answers an error where none
 //! is left, with everything that it was lent as before; what the call was given by value is then dropped.
 #![tactic(auto)]
 
 mod afters;
 mod conditions;
+mod definition;
+mod file;
 mod graphs;
+mod laws;
 mod leaves;
 mod numbers;
 mod options;
 mod sections;
 mod texts;
+
+pub use definition::{Def, RuleFault};
+pub use file::read_def;
+pub use laws::{
+    actions_are_few, actions_are_found_by_name, loops_may_turn, names_stand_once,
+    numbers_are_places, run_after_has_depths,
+};

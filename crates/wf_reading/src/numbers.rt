@@ -7,6 +7,7 @@ use std::marker::Model;
 use wf_val::{Name, Text};
 
 /// The names of all actions in byte order, in which a name is found by as many comparisons as their count has binary digits.
+#[derive(Drop)]
 pub(crate) struct Numbers<'a> {
     sorted: Vec<&'a Name>,
 }

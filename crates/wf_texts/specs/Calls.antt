@@ -31,10 +31,18 @@ abbrev pub arg_count : ExprTrees → ℕ
 arg_count no_exprs = 0
 arg_count (expr_then e es) = 1 + arg_count es
 
--- there is such a function, it takes so many arguments, and one that is told a name is told it as it stands
+-- it takes so many arguments
+abbrev pub has_count : Fun → ExprTrees → Bool
+has_count f es = takes f (arg_count es)
+
+-- one that is told a name is told it as it stands
+abbrev pub has_name : Fun → ExprTrees → Bool
+has_name f es = not (is_naming f) || is_name es
+
+-- of a function that there is
 abbrev pub is_sound_call_of : ExprTrees → Option Fun → Bool
 is_sound_call_of es None = false
-is_sound_call_of es (Some f) = takes f (arg_count es) && (not (is_naming f) || is_name es)
+is_sound_call_of es (Some f) = has_count f es && has_name f es
 
 -- a call, by the name as it is written and its arguments
 abbrev pub is_sound_call : List ℕ → ExprTrees → Bool

@@ -269,6 +269,7 @@ run-nameless : (s : List ℕ) → plain_run (inputs_with (moment_member s ∷ []
 unfolding plain_run chars
 run-nameless s = refl
 
-run-answers : (s : List ℕ) → plain_run (inputs_with ((codes "answers", list (trees [])) ∷ (moment_member s ∷ (run_member ∷ [])))) ≡ None
+run-answers : (s : List ℕ) →
+    plain_run (inputs_with ((codes "answers", list (trees [])) ∷ (moment_member s ∷ (run_member ∷ [])))) ≡ None
 unfolding plain_run chars
 run-answers s = refl

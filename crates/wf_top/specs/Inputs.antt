@@ -35,9 +35,13 @@ hands_in_no_more t =
 abbrev pub handed : List ℕ → List ℕ → ℕ → InputsTree
 handed run seed ticks = record { run = run; seed = seed; moment = pos ticks; trigger = no_trigger }
 
+-- what a run is handed by these members, where each is of its form
+abbrev pub handed_by : Option (List ℕ) → Option (List ℕ) → Option ℕ → Option InputsTree
+handed_by run seed ticks = option_and_then (λ name. option_and_then (λ s. option_map (handed name s) ticks) seed) run
+
 -- the plain inputs that a value is
 unfoldable pub plain_run : ValueTree → Option InputsTree
 plain_run t =
     if hands_in_no_more t
-    then option_and_then (λ run. option_and_then (λ seed. option_map (handed run seed) (moment_of (get (codes "moment") t))) (seed_of (get (codes "seed") t))) (run_name (get (codes "run") t))
+    then handed_by (run_name (get (codes "run") t)) (seed_of (get (codes "seed") t)) (moment_of (get (codes "moment") t))
     else None

@@ -1,4 +1,5 @@
--- Which inputs of an action are plain: a tree whose texts are templates, and whose calls are of functions that a plain definition may call.
+-- Which inputs of an action are plain: a tree whose texts are templates, and whose calls are of functions that a plain definition may
+-- call.
 use Rattle.std.specs.Prelude.{ℕ, ◌+◌, Bool, true, false, ◌&&◌, List, [], ◌∷◌, Option, None, Some, is_some, if◌then◌else◌}
 use Rattle.std.specs.Option.{option_map, option_and_then}
 use Rattle.wf_val.specs.ValueTree.{ValueTree, null, boolean, number, text, list, object, ValueTrees, no_values, value_then, MemberTrees, no_members, member_then}

@@ -1,0 +1,387 @@
+-- Worked actions, and what they are read as.
+use Prim.Native.String.{String}
+use Rattle.std.proofs.Common.{◌≡◌, ℕ, List, [], ◌∷◌, ◌++◌, Bool, true, false, Option, Some, None, map, refl}
+use Rattle.std.specs.Prelude.{codes, pos, neg_ℤ}
+use Rattle.wf_val.specs.ValueTree.{ValueTree, Member, null, boolean, number, text, list, trees, object, members}
+use Rattle.wf_val.specs.declared.function.Fun.{Fun}
+use Rattle.wf_template.specs.CondTree.{CondTree, holds, all_of, any_of, not_of, compare_by, cond_trees}
+use Rattle.wf_template.specs.DataTree as datum
+use Rattle.wf_template.specs.TemplateTree.{TemplateTree, plain}
+use Rattle.wf_retry.specs.declared.policy.Policy.{Policy}
+use Rattle.wf_kinds.specs.ActionType.{type_of}
+use Rattle.wf_def.specs.ActionTree.{InitialTree, ActionTree, action, KindTree, compose, connector, wait, response, terminate, select, query, join, parse_json, initialize, set_to, increment, decrement, append_array, append_string, scope, branch, switch, switch_else, foreach, until, ActionTrees, no_actions, action_then, CaseTrees, no_cases, case_then}
+use Rattle.wf_def.specs.declared.after.After.{After}
+use Rattle.wf_def.specs.declared.sort.Sort.{Sort}
+use Rattle.wf_reading.specs.Afters.{afters_of}
+use Rattle.wf_reading.specs.Conditions.{condition_of}
+use Rattle.wf_reading.specs.Graphs.{action_of, graph_of, kind_at}
+use Rattle.wf_reading.specs.Numbers.{number_among}
+use Rattle.wf_reading.specs.Options.{lists_option}
+use Rattle.wf_reading.specs.Sections.{given_in, output_of, parameter_of, trigger_of}
+use Rattle.wf_reading.specs.Texts.{data_of, template_of}
+use Rattle.wf_reading.specs.Meant.{definition_of}
+use Rattle.sha2.specs.Sha256.{sha256}
+use Rattle.wf_json.specs.Json.{json}
+use Rattle.wf_def.specs.DefTree.{DefTree}
+
+abbrev word : String → ValueTree
+word s = text (codes s)
+
+abbrev whole : ℕ → ValueTree
+whole n = number (pos n)
+
+abbrev fields : List Member → ValueTree
+fields ms = object (members ms)
+
+abbrev spelled : String → TemplateTree
+spelled s = template_of (codes s)
+
+abbrev datum_of : String → datum.DataTree
+datum_of s = datum.text (spelled s)
+
+-- the kind of an action with these members
+abbrev kind : List Member → KindTree
+kind ms = kind_at (λ k. 0) [] (fields ms)
+
+-- one with these inputs, of a type
+abbrev with_inputs : List Member → String → KindTree
+with_inputs inputs s = kind ((codes "inputs", fields inputs) ∷ (codes "type", word s) ∷ [])
+
+-- ---- what holds no graph
+
+a_compose : kind ((codes "inputs", word "hi") ∷ (codes "type", word "cOMPOSE") ∷ []) ≡ compose (datum_of "hi")
+unfolding type_of
+a_compose = refl
+
+a_compose_of_null : kind ((codes "inputs", null) ∷ (codes "type", word "Compose") ∷ []) ≡ compose datum.null
+unfolding type_of
+a_compose_of_null = refl
+
+-- names of members are no templates
+a_compose_of_all : with_inputs ((codes "@a", list (trees (boolean true ∷ number (neg_ℤ (pos 1)) ∷ word "@b" ∷ []))) ∷ []) "Compose"
+    ≡ compose (datum.object (datum.data_members ((codes "@a", datum.list (datum.data_trees (datum.boolean true ∷ datum.number (neg_ℤ (pos 1)) ∷ datum_of "@b" ∷ []))) ∷ [])))
+unfolding type_of
+a_compose_of_all = refl
+
+-- the policy is taken out of the inputs, but not out of what stands in them
+a_connector : with_inputs ((codes "body", fields ((codes "retryPolicy", word "x") ∷ [])) ∷ (codes "method", word "GET") ∷ (codes "retryPolicy", fields ((codes "type", word "none") ∷ [])) ∷ []) "ApiConnection"
+    ≡ connector (datum.object (datum.data_members ((codes "body", datum.object (datum.data_members ((codes "retryPolicy", datum_of "x") ∷ []))) ∷ (codes "method", datum_of "GET") ∷ []))) Policy.Never
+unfolding type_of
+a_connector = refl
+
+a_connector_of_standard : with_inputs ((codes "uri", word "u") ∷ []) "http" ≡ connector (datum.object (datum.data_members ((codes "uri", datum_of "u") ∷ []))) Policy.Standard
+unfolding type_of
+a_connector_of_standard = refl
+
+a_connector_by_count : with_inputs ((codes "retryPolicy", fields ((codes "count", whole 7) ∷ (codes "interval", word "PT1S") ∷ (codes "type", word "Fixed") ∷ [])) ∷ []) "Function"
+    ≡ connector (datum.object (datum.data_members [])) (Policy.Count 7)
+unfolding type_of
+a_connector_by_count = refl
+
+-- only a connector has one
+a_wait : with_inputs ((codes "retryPolicy", word "x") ∷ []) "Wait" ≡ wait (datum.object (datum.data_members ((codes "retryPolicy", datum_of "x") ∷ [])))
+unfolding type_of
+a_wait = refl
+
+a_response : with_inputs ((codes "statusCode", whole 200) ∷ []) "Response" ≡ response (datum.object (datum.data_members ((codes "statusCode", datum.number (pos 200)) ∷ [])))
+unfolding type_of
+a_response = refl
+
+a_terminate : with_inputs ((codes "runStatus", word "Failed") ∷ []) "Terminate" ≡ terminate (datum.object (datum.data_members ((codes "runStatus", datum_of "Failed") ∷ [])))
+unfolding type_of
+a_terminate = refl
+
+-- members that aren't asked for are no part of it
+a_select : with_inputs ((codes "from", word "f") ∷ (codes "other", word "o") ∷ (codes "select", word "s") ∷ []) "Select" ≡ select (datum_of "f") (datum_of "s")
+unfolding type_of
+a_select = refl
+
+a_query : with_inputs ((codes "from", word "f") ∷ (codes "where", word "w") ∷ []) "Query" ≡ query (datum_of "f") (spelled "w")
+unfolding type_of
+a_query = refl
+
+a_join : with_inputs ((codes "from", word "f") ∷ (codes "joinWith", word "j") ∷ []) "Join" ≡ join (datum_of "f") (datum_of "j")
+unfolding type_of
+a_join = refl
+
+a_parse_json : with_inputs ((codes "content", word "c") ∷ (codes "schema", fields []) ∷ []) "ParseJson" ≡ parse_json (datum_of "c")
+unfolding type_of
+a_parse_json = refl
+
+-- a variable's name is no template; a value that is null is a value
+abbrev variable : List Member → ValueTree
+variable ms = fields ((codes "variables", list (trees (fields ms ∷ []))) ∷ [])
+
+abbrev first : KindTree → Option InitialTree
+first (initialize (i ∷ is)) = Some i
+first k = None
+
+abbrev initial : List Member → Option InitialTree
+initial ms = first (kind ((codes "inputs", variable ms) ∷ (codes "type", word "InitializeVariable") ∷ []))
+
+a_boolean : initial ((codes "name", word "@v") ∷ (codes "type", word "BOOLEAN") ∷ []) ≡ Some (record { name = codes "@v"; sort = Sort.Bool; value = None })
+unfolding type_of
+a_boolean = refl
+
+an_integer : initial ((codes "name", word "v") ∷ (codes "type", word "Integer") ∷ (codes "value", null) ∷ []) ≡ Some (record { name = codes "v"; sort = Sort.Int; value = Some datum.null })
+unfolding type_of
+an_integer = refl
+
+a_string : initial ((codes "name", word "v") ∷ (codes "type", word "string") ∷ (codes "value", word "x") ∷ []) ≡ Some (record { name = codes "v"; sort = Sort.Text; value = Some (datum_of "x") })
+unfolding type_of
+a_string = refl
+
+an_array : initial ((codes "name", word "v") ∷ (codes "type", word "array") ∷ []) ≡ Some (record { name = codes "v"; sort = Sort.List; value = None })
+unfolding type_of
+an_array = refl
+
+an_object : initial ((codes "name", word "v") ∷ (codes "type", word "object") ∷ []) ≡ Some (record { name = codes "v"; sort = Sort.Obj; value = None })
+unfolding type_of
+an_object = refl
+
+abbrev named : String → KindTree
+named s = with_inputs ((codes "name", word "v") ∷ (codes "value", word "x") ∷ []) s
+
+abbrev unvalued : String → KindTree
+unvalued s = with_inputs ((codes "name", word "v") ∷ []) s
+
+writers : named "SetVariable" ∷ named "IncrementVariable" ∷ named "DecrementVariable" ∷ named "AppendToArrayVariable" ∷ named "AppendToStringVariable" ∷ []
+    ≡ set_to (codes "v") (datum_of "x") ∷ increment (codes "v") (Some (datum_of "x")) ∷ decrement (codes "v") (Some (datum_of "x")) ∷ append_array (codes "v") (datum_of "x") ∷ append_string (codes "v") (datum_of "x") ∷ []
+unfolding type_of
+writers = refl
+
+writers_by_one : unvalued "incrementvariable" ∷ unvalued "decrementvariable" ∷ [] ≡ increment (codes "v") None ∷ decrement (codes "v") None ∷ []
+unfolding type_of
+writers_by_one = refl
+
+-- ---- containers; the graphs in them have their pointers from the container's
+
+abbrev leaf : ValueTree
+leaf = fields ((codes "inputs", whole 1) ∷ (codes "type", word "Compose") ∷ [])
+
+-- a graph of one such action
+abbrev graph : String → ValueTree
+graph s = fields ((codes s, leaf) ∷ [])
+
+abbrev read : String → String → ActionTrees
+read s pointer = action_then (action (codes s) 0 (codes pointer) [] (compose (datum.number (pos 1))) []) no_actions
+
+abbrev at : List Member → KindTree
+at ms = kind_at (λ k. 0) (codes "/actions/X") (fields ms)
+
+a_scope : at ((codes "actions", graph "A") ∷ (codes "else", fields ((codes "actions", graph "B") ∷ [])) ∷ (codes "type", word "Scope") ∷ []) ≡ scope (read "A" "/actions/X/actions/A")
+unfolding type_of
+a_scope = refl
+
+an_if : at ((codes "actions", graph "A") ∷ (codes "else", fields ((codes "actions", graph "B") ∷ [])) ∷ (codes "expression", word "e") ∷ (codes "type", word "If") ∷ [])
+    ≡ branch (holds (spelled "e")) (read "A" "/actions/X/actions/A") (read "B" "/actions/X/else/actions/B")
+unfolding type_of
+an_if = refl
+
+an_if_alone : at ((codes "expression", word "e") ∷ (codes "type", word "If") ∷ []) ≡ branch (holds (spelled "e")) no_actions no_actions
+unfolding type_of
+an_if_alone = refl
+
+-- a case's value is no template; a default without actions is an empty graph, and none is none
+abbrev case : String → ValueTree → ValueTree
+case s v = fields ((codes "actions", graph s) ∷ (codes "case", v) ∷ [])
+
+a_switch : at ((codes "cases", fields ((codes "k/1", case "A" (word "@x")) ∷ (codes "k2", case "B" (whole 2)) ∷ [])) ∷ (codes "default", fields []) ∷ (codes "expression", word "e") ∷ (codes "type", word "Switch") ∷ [])
+    ≡ switch_else (spelled "e") (case_then (codes "k/1") (word "@x") (read "A" "/actions/X/cases/k~11/actions/A") (case_then (codes "k2") (whole 2) (read "B" "/actions/X/cases/k2/actions/B") no_cases)) no_actions
+unfolding type_of
+a_switch = refl
+
+a_switch_with_default : at ((codes "cases", fields []) ∷ (codes "default", fields ((codes "actions", graph "D") ∷ [])) ∷ (codes "expression", word "e") ∷ (codes "type", word "Switch") ∷ [])
+    ≡ switch_else (spelled "e") no_cases (read "D" "/actions/X/default/actions/D")
+unfolding type_of
+a_switch_with_default = refl
+
+a_switch_without : at ((codes "cases", fields []) ∷ (codes "expression", word "e") ∷ (codes "type", word "switch") ∷ []) ≡ switch (spelled "e") no_cases
+unfolding type_of
+a_switch_without = refl
+
+abbrev paced : ValueTree → ValueTree
+paced n = fields ((codes "concurrency", fields ((codes "repetitions", n) ∷ [])) ∷ [])
+
+a_foreach : at ((codes "actions", graph "A") ∷ (codes "foreach", word "f") ∷ (codes "type", word "Foreach") ∷ []) ≡ foreach (datum_of "f") 20 (read "A" "/actions/X/actions/A")
+unfolding type_of
+a_foreach = refl
+
+a_foreach_of_a_list : at ((codes "foreach", list (trees (whole 1 ∷ []))) ∷ (codes "runtimeConfiguration", paced (whole 1)) ∷ (codes "type", word "Foreach") ∷ [])
+    ≡ foreach (datum.list (datum.data_trees (datum.number (pos 1) ∷ []))) 1 no_actions
+unfolding type_of
+a_foreach_of_a_list = refl
+
+fifty_at_a_time : at ((codes "foreach", word "f") ∷ (codes "runtimeConfiguration", paced (whole 50)) ∷ (codes "type", word "Foreach") ∷ []) ≡ foreach (datum_of "f") 50 no_actions
+unfolding type_of
+fifty_at_a_time = refl
+
+-- whatever the repetitions are, the option makes them one
+one_at_a_time : at ((codes "foreach", word "f") ∷ (codes "operationOptions", word "x, SEQUENTIAL ") ∷ (codes "runtimeConfiguration", paced (whole 50)) ∷ (codes "type", word "Foreach") ∷ []) ≡ foreach (datum_of "f") 1 no_actions
+unfolding type_of
+one_at_a_time = refl
+
+an_until : at ((codes "actions", graph "A") ∷ (codes "expression", word "e") ∷ (codes "type", word "Until") ∷ []) ≡ until (holds (spelled "e")) 60 false (read "A" "/actions/X/actions/A")
+unfolding type_of
+an_until = refl
+
+an_until_of_one : at ((codes "expression", word "e") ∷ (codes "limit", fields ((codes "count", whole 1) ∷ (codes "timeout", word "PT1H") ∷ [])) ∷ (codes "operationOptions", word "failWhenLimitsReached") ∷ (codes "type", word "Until") ∷ [])
+    ≡ until (holds (spelled "e")) 1 true no_actions
+unfolding type_of
+an_until_of_one = refl
+
+an_until_of_many : at ((codes "expression", word "e") ∷ (codes "limit", fields ((codes "count", whole 5000) ∷ [])) ∷ (codes "type", word "Until") ∷ []) ≡ until (holds (spelled "e")) 5000 false no_actions
+unfolding type_of
+an_until_of_many = refl
+
+-- a limit without a count
+an_until_of_a_time : at ((codes "expression", word "e") ∷ (codes "limit", fields ((codes "timeout", word "PT1H") ∷ [])) ∷ (codes "type", word "Until") ∷ []) ≡ until (holds (spelled "e")) 60 false no_actions
+unfolding type_of
+an_until_of_a_time = refl
+
+-- ---- conditions
+
+abbrev pair : ValueTree → ValueTree → ValueTree
+pair one other = list (trees (one ∷ other ∷ []))
+
+a_comparison : condition_of (fields ((codes "greaterOrEquals", pair (word "a") (whole 1)) ∷ [])) ≡ compare_by Fun.GreaterOrEquals (datum_of "a") (datum.number (pos 1))
+a_comparison = refl
+
+all_comparisons : map (λ (s : List ℕ). condition_of (fields ((s, pair null null) ∷ []))) (codes "equals" ∷ codes "greater" ∷ codes "less" ∷ codes "lessOrEquals" ∷ codes "contains" ∷ codes "startsWith" ∷ codes "endsWith" ∷ [])
+    ≡ map (λ (f : Fun). compare_by f datum.null datum.null) (Fun.Equals ∷ Fun.Greater ∷ Fun.Less ∷ Fun.LessOrEquals ∷ Fun.Contains ∷ Fun.StartsWith ∷ Fun.EndsWith ∷ [])
+all_comparisons = refl
+
+conditions_in_conditions : condition_of (fields ((codes "and", list (trees (fields ((codes "or", list (trees [])) ∷ []) ∷ fields ((codes "not", word "n") ∷ []) ∷ word "t" ∷ []))) ∷ []))
+    ≡ all_of (cond_trees (any_of (cond_trees []) ∷ not_of (holds (spelled "n")) ∷ holds (spelled "t") ∷ []))
+conditions_in_conditions = refl
+
+-- ---- numbers
+
+abbrev some_names : List (List ℕ)
+some_names = codes "b" ∷ codes "B" ∷ codes "a~" ∷ codes "a" ∷ []
+
+-- by bytes, from 0: capitals before small letters, a name before what it begins
+numbers : map (number_among some_names) some_names ≡ 3 ∷ 0 ∷ 2 ∷ 1 ∷ []
+numbers = refl
+
+-- over nested graphs: N in the Scope S is before S, and Z behind it
+abbrev nested : ValueTree
+nested = fields ((codes "S", fields ((codes "actions", graph "N") ∷ (codes "type", word "Scope") ∷ [])) ∷ (codes "Z", leaf) ∷ [])
+
+numbers_of_nested : graph_of (number_among (codes "S" ∷ codes "N" ∷ codes "Z" ∷ [])) (codes "/actions") nested
+    ≡ action_then (action (codes "S") 1 (codes "/actions/S") [] (scope (action_then (action (codes "N") 0 (codes "/actions/S/actions/N") [] (compose (datum.number (pos 1))) []) no_actions)) [])
+    (action_then (action (codes "Z") 2 (codes "/actions/Z") [] (compose (datum.number (pos 1))) []) no_actions)
+unfolding type_of
+numbers_of_nested = refl
+
+-- ---- what an action waits for
+
+abbrev statuses : Bool → Bool → Bool → Bool → After
+statuses succeeded failed skipped timed_out = record {
+  name = codes "a";
+  number = 1;
+  statuses = record { succeeded = succeeded; failed = failed; skipped = skipped; timed_out = timed_out };
+}
+
+abbrev waits : List ValueTree → List After
+waits ts = afters_of (number_among some_names) (Some (fields ((codes "a", list (trees ts)) ∷ [])))
+
+waits_for : waits (word "SUCCEEDED" ∷ []) ∷ waits (word "failed" ∷ []) ∷ waits (word "Skipped" ∷ []) ∷ waits (word "timedOUT" ∷ []) ∷ waits [] ∷ waits (word "TimedOut" ∷ word "Succeeded" ∷ word "Succeeded" ∷ []) ∷ []
+    ≡ (statuses true false false false ∷ []) ∷ (statuses false true false false ∷ []) ∷ (statuses false false true false ∷ []) ∷ (statuses false false false true ∷ [])
+    ∷ (statuses false false false false ∷ []) ∷ (statuses true false false true ∷ []) ∷ []
+waits_for = refl
+
+waits_for_nothing : afters_of (number_among some_names) None ≡ []
+waits_for_nothing = refl
+
+-- tracked properties
+tracked : action_of (λ k. 7) (codes "/actions/X") (codes "X") (fields ((codes "inputs", null) ∷ (codes "trackedProperties", fields ((codes "p", word "t") ∷ [])) ∷ (codes "type", word "Compose") ∷ []))
+    ≡ action (codes "X") 7 (codes "/actions/X") [] (compose datum.null) ((codes "p", datum_of "t") ∷ [])
+unfolding type_of
+tracked = refl
+
+-- ---- options
+
+abbrev lists : String → Bool
+lists s = lists_option (codes "Sequential") (codes s)
+
+are_options : lists "Sequential" ∷ lists "sequential" ∷ lists "  SEQUENTIAL  " ∷ lists "a,Sequential" ∷ lists "Sequential,b" ∷ lists " a , Sequential , b " ∷ lists ",,Sequential" ∷ []
+    ≡ true ∷ true ∷ true ∷ true ∷ true ∷ true ∷ true ∷ []
+are_options = refl
+
+are_no_options : lists "" ∷ lists "," ∷ lists "Sequentia" ∷ lists "Sequentials" ∷ lists "Sequential b" ∷ lists "a Sequential" ∷ lists "Sequential;" ∷ lists "Seq uential" ∷ lists "\tSequential" ∷ []
+    ≡ false ∷ false ∷ false ∷ false ∷ false ∷ false ∷ false ∷ false ∷ false ∷ []
+are_no_options = refl
+
+-- ---- sections
+
+abbrev parameter : String → Sort
+parameter s = (parameter_of (codes "p", fields ((codes "type", word s) ∷ []))).sort
+
+parameter_types : parameter "Int" ∷ parameter "String" ∷ parameter "SecureString" ∷ parameter "bool" ∷ parameter "ARRAY" ∷ parameter "object" ∷ parameter "SecureObject" ∷ []
+    ≡ Sort.Int ∷ Sort.Text ∷ Sort.Text ∷ Sort.Bool ∷ Sort.List ∷ Sort.Obj ∷ Sort.Obj ∷ []
+parameter_types = refl
+
+-- texts of parameters are no templates, and a default may be null
+a_parameter : parameter_of (codes "p", fields ((codes "allowedValues", list (trees (word "@a" ∷ null ∷ []))) ∷ (codes "defaultValue", null) ∷ (codes "type", word "String") ∷ []))
+    ≡ record { name = codes "p"; sort = Sort.Text; default = Some null; allowed = Some (word "@a" ∷ null ∷ []) }
+a_parameter = refl
+
+a_parameter_alone : parameter_of (codes "p", fields ((codes "type", word "Int") ∷ [])) ≡ record { name = codes "p"; sort = Sort.Int; default = None; allowed = None }
+a_parameter_alone = refl
+
+a_trigger : trigger_of (codes "t", fields ((codes "conditions", list (trees (fields ((codes "expression", word "c") ∷ []) ∷ fields ((codes "expression", word "d") ∷ []) ∷ []))) ∷ (codes "splitOn", word "s") ∷ (codes "type", word "Request") ∷ []))
+    ≡ record { name = codes "t"; split = Some (spelled "s"); conditions = spelled "c" ∷ spelled "d" ∷ [] }
+a_trigger = refl
+
+a_trigger_alone : trigger_of (codes "t", fields ((codes "type", word "Request") ∷ [])) ≡ record { name = codes "t"; split = None; conditions = [] }
+a_trigger_alone = refl
+
+an_output : output_of (codes "o", fields ((codes "type", word "String") ∷ (codes "value", word "v") ∷ [])) ≡ record { name = codes "o"; value = datum_of "v" }
+an_output = refl
+
+-- of what a wrapper gives, what is no object with a value gives nothing
+given : given_in ((codes "p", fields ((codes "value", whole 1) ∷ [])) ∷ (codes "q", whole 2) ∷ (codes "r", fields []) ∷ (codes "s", fields ((codes "value", null) ∷ [])) ∷ []) []
+    ≡ (codes "p", whole 1) ∷ (codes "s", null) ∷ []
+given = refl
+
+-- ---- files
+
+abbrev definition : ValueTree
+definition = fields ((codes "actions", nested)
+    ∷ (codes "outputs", fields ((codes "o", fields ((codes "value", word "v") ∷ [])) ∷ []))
+    ∷ (codes "parameters", fields ((codes "p", fields ((codes "type", word "Int") ∷ [])) ∷ []))
+    ∷ (codes "triggers", fields ((codes "t", fields ((codes "type", word "Request") ∷ [])) ∷ []))
+    ∷ [])
+
+abbrev meant : List Member → DefTree
+meant given = record {
+  digest = sha256 (json definition);
+  parameters = record { name = codes "p"; sort = Sort.Int; default = None; allowed = None } ∷ [];
+  given = given;
+  triggers = record { name = codes "t"; split = None; conditions = [] } ∷ [];
+  top = action_then (action (codes "S") 1 (codes "/actions/S") [] (scope (action_then (action (codes "N") 0 (codes "/actions/S/actions/N") [] (compose (datum.number (pos 1))) []) no_actions)) [])
+      (action_then (action (codes "Z") 2 (codes "/actions/Z") [] (compose (datum.number (pos 1))) []) no_actions);
+  outputs = record { name = codes "o"; value = datum_of "v" } ∷ [];
+}
+
+-- a file that is the definition
+a_bare_file : definition_of definition ≡ meant []
+unfolding type_of
+a_bare_file = refl
+
+-- a wrapper: the digest is that of the definition in it, pointers go from there, and it gives values also to what isn't declared
+a_wrapped_file : definition_of (fields ((codes "definition", definition) ∷ (codes "kind", word "Stateful")
+    ∷ (codes "parameters", fields ((codes "p", fields ((codes "value", whole 5) ∷ [])) ∷ (codes "q", fields ((codes "value", null) ∷ [])) ∷ [])) ∷ []))
+    ≡ meant ((codes "p", whole 5) ∷ (codes "q", null) ∷ [])
+unfolding type_of
+a_wrapped_file = refl
+
+-- what stands beside `parameters` gives nothing, nor does one that is no object
+a_wrapper_that_gives_nothing : definition_of (fields ((codes "definition", definition) ∷ (codes "parameters", whole 1) ∷ [])) ≡ meant []
+unfolding type_of
+a_wrapper_that_gives_nothing = refl
+
+-- an empty definition
+an_empty_file : (definition_of (fields [])).top ≡ no_actions
+an_empty_file = refl

@@ -1,0 +1,18 @@
+use Rattle.std.proofs.Common.{◌≡◌, ◌≤◌, [], length, sym, subst}
+use Rattle.wf_form.specs.Fault.{inner_of, offences}
+use Rattle.wf_form.specs.declared.rule.Rule.{Rule}
+use Rattle.wf_def.specs.DefTree.{DefTree}
+use Rattle.wf_def.specs.Names.{graph_names}
+use Rattle.wf_reading.specs.Meant.{names_of}
+use Rattle.wf_reading.specs.Numbers.{number_among}
+use Rattle.wf_reading.proofs.NameLemmas.{names_agree}
+use Rattle.wf_reading.proofs.OnceLemmas.{actions-few}
+use Rattle.wf_reading.proofs.ReadLemmas.{inner-fine, inner-well_formed}
+use Rattle.wf_reading.proofs.laws.actions_are_few.Goals as goal
+
+pub returns : goal.returns
+returns c = λ d r.
+    let t = inner_of r.value in
+    let fine : offences t Rule.Limits ≡ [] = (c.the_first_fault.ensures.none t (inner-fine r.value r.holds)).1.1.0 in
+    subst (λ (e : DefTree). length (graph_names e.top) ≤ 500) r.means
+    (rw (names_agree (number_among (names_of t)) t (inner-well_formed r.value r.well_formed)) (actions-few t fine))
