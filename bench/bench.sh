@@ -1,5 +1,6 @@
 #!/bin/sh
-# Times `wflow run` beside `jq -c .` on the same definition, and prints the ratio of the two. Then times the parsing of
+# Times `wflow run` beside `jq -c .` on the same definition, and prints the ratio of the two, on definitions that run and on ones that
+# are refused after all rules were looked at, or that were made to be dear for one rule. Then times the parsing of
 # texts as templates, which no command does yet, beside reading their bytes alone, with the ratio of these two, and beside
 # `jq -c .` on the same text as JSON. Then times functions on long texts beside Python's own, and what templates come to, in the looks
 # of rows, beside `jq -c .` on the same rows.
@@ -31,13 +32,15 @@ def file(name, value):
     return path
 
 
-def least(words, given=os.devnull):
+def least(words, given=os.devnull, ends=(0,)):
     times = []
     for _ in range(5):
         with open(given) as text:
             began = time.perf_counter()
-            subprocess.run(words, stdin=text, stdout=subprocess.DEVNULL, check=True)
+            ended = subprocess.run(words, stdin=text, stdout=subprocess.DEVNULL).returncode
             times.append(time.perf_counter() - began)
+        if ended not in ends:
+            raise SystemExit("%s ended with %d" % (words, ended))
     return min(times)
 
 
@@ -74,12 +77,42 @@ cases = [
     ("one action, a value of 0.9 MiB", {"actions": {"A": {"type": "Compose", "inputs": rows}}}),
     ("4 MiB that isn't looked at", {"metadata": [rows] * 4, "actions": {"A": {"type": "Compose", "inputs": 1}}}),
 ]
-print("%-34s %9s %9s %9s %7s %9s" % ("definition", "bytes", "wflow s", "jq s", "ratio", "memory"))
-for name, definition in cases:
+# Definitions that are refused: what is said of them is told too, so that one that is refused early can't be taken for a fast one.
+kinds = [
+    {"type": "Http", "inputs": {"uri": "@{body('A')}/x", "retryPolicy": {"type": "fixed", "count": 9, "interval": "PT1S"}}},
+    {"type": "Select", "inputs": {"from": "@body('A')", "select": {"id": "@item()?['id']"}}},
+    {"type": "Query", "inputs": {"from": "@body('A')", "where": "@equals(item()?['open'],true)"}},
+    {"type": "If", "expression": {"and": [{"equals": ["@body('A')", 200]}, {"not": "@false"}]}, "else": {"actions": {}}},
+    {"type": "Switch", "expression": "@body('A')", "cases": {"c%d" % k: {"case": k} for k in range(25)}},
+    {"type": "Foreach", "foreach": "@body('A')", "operationOptions": "Sequential"},
+    {"type": "Until", "expression": "@true", "limit": {"count": 9, "timeout": "PT1H"}},
+    {"type": "Compose", "inputs": rows[:850], "trackedProperties": {"id": "@action().code"}},
+]
+nested = {"D": {"type": "Compose", "inputs": 1}}
+for level in range(7):
+    width = 71 if level else 1
+    nested = {"L%d%03d" % (level, k): {"type": "Scope", "actions": nested if k == 0 else {}} for k in range(width)}
+long_name = "n" * 2**20
+refused = [
+    ("500 actions of all kinds, 4 MiB", {"actions": {name: kinds[k % 8] for k, name in enumerate(names)}}),
+    ("400 actions in 8 levels", {"actions": nested}),
+    ("500 on one cycle", graph(lambda k: [names[k - 1]])),
+    ("500, each after all others", {"actions": {
+        name: {"type": "Compose", "inputs": 1, "runAfter": {other: [] for other in names if other != name}} for name in names}}),
+    ("the name of one in each graph", {"actions": {name: {"type": "Scope", "actions": {"A": kinds[0]}} for name in names[:250]}}),
+    ("expressions, 4 MiB", {"actions": {"A": {"type": "Compose", "inputs": ["@add(1,mul(2,3))"] * 200000 + ["@add(1)"]}}}),
+    ("one condition, 4 MiB", {"actions": {"A": {"type": "If", "expression": {"and": [{"equals": ["@1", 1]}] * 180000}}}}),
+    ("statuses, 4 MiB", {"actions": {"A": {"type": "Compose", "inputs": 1, "runAfter": {"A": ["Succeeded"] * 300000}}}}),
+    ("270,000 actions", {"actions": {"A%06d" % k: {} for k in range(270000)}}),
+    ("no forms below a name of 1 MiB", {"actions": {long_name: {"type": "Scope", "actions": {"A%06d" % k: 1 for k in range(200000)}}}}),
+]
+print("%-34s %9s %9s %9s %7s %9s  %s" % ("definition", "bytes", "wflow s", "jq s", "ratio", "memory", "said"))
+for name, definition in cases + refused:
     path = file("definition.json", definition)
     run = [program, "run", path, inputs]
-    ours, theirs = least(run), least(["jq", "-c", ".", path])
-    print("%-34s %9d %9.3f %9.3f %7.1f %5d MiB" % (name, os.path.getsize(path), ours, theirs, ours / theirs, memory(run)))
+    said = subprocess.run(run, stdout=subprocess.PIPE).stdout.decode().splitlines()[-1]
+    ours, theirs = least(run, ends=(0, 1)), least(["jq", "-c", ".", path])
+    print("%-34s %9d %9.3f %9.3f %7.1f %5d MiB  %.40s" % (name, os.path.getsize(path), ours, theirs, ours / theirs, memory(run), said))
 
 # What each text is parsed as is told too, so that a parser that gives up early can't be taken for a fast one.
 program = os.path.join(top, "crates", "template_rows", "out", "template_rows")

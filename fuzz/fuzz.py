@@ -21,6 +21,7 @@ import sys
 import tempfile
 
 import functions
+import rules
 import templates
 
 
@@ -97,17 +98,39 @@ def templated(rng, names):
     return "@" + expression(rng, names)
 
 
+# What rules and the reading of definitions look at: members, with values that some of them take.
+MEMBERS = [
+    ("actions", {"In": {"type": "Compose", "inputs": 1}}), ("actions", {}), ("cases", {"c": {"case": 1}}), ("default", {}), ("else", {}),
+    ("expression", "@true"), ("expression", {"and": [{"equals": [1, "@1"]}]}), ("foreach", [1]), ("inputs", {"name": "v", "value": 1}),
+    ("inputs", {"from": [], "select": "@item()", "where": "@true", "joinWith": ","}), ("inputs", {"statusCode": 1, "runStatus": "@1"}),
+    ("inputs", {"variables": [{"name": "v", "type": "integer"}]}),
+    ("inputs", {"retryPolicy": {"type": "fixed", "count": 90, "interval": "PT1S"}}),
+    ("limit", {"count": 5000, "timeout": "P1D"}), ("limit", {"count": 0}), ("operationOptions", "Sequential"), ("operationOptions", 1),
+    ("runtimeConfiguration", {"concurrency": {"repetitions": 51}}), ("trackedProperties", {"t": "@action()"}), ("trackedProperties", {}),
+]
+TYPES = rules.LEAVES + rules.HOLDING_ONE + ["switch", "Switch", "Table", "", 1]
+
+
 def action(rng, names):
-    made = {"type": rng.choice(["Compose", "compose", "COMPOSE"] if rng.random() < 0.95 else ["Http", "", 1])}
+    made = {"type": rng.choice(["Compose", "compose", "COMPOSE"] if rng.random() < 0.95 else TYPES)}
     after = rng.sample(names, rng.randrange(min(4, len(names)) + 1)) if names and rng.random() < 0.8 else []
     if after:
         listed = [["Succeeded"], ["Failed"], STATUSES, ["Succeeded", "SKIPPED"], []]
         made["runAfter"] = {name: rng.choice(listed if rng.random() < 0.3 else listed[:1]) for name in after}
     asked = after if rng.random() < 0.97 else names
     made["inputs"] = templated(rng, asked) if rng.random() < 0.8 else value(rng)
+    if made["type"] in TYPES or rng.random() < 0.05:
+        made.update(rng.sample(MEMBERS, rng.randrange(1, 6)))
     if rng.random() < 0.05:
         made[rng.choice(["runAfter", "trackedProperties", "x"])] = value(rng)
     return made
+
+
+# The sections beside the actions.
+def section(rng):
+    name = rng.choice(["a", "/", "", "~" * 81])
+    member = rng.choice([{"type": "Int"}, {"type": "Request", "splitOn": "@triggerBody()"}, {"value": "@body('A')"}, {}, value(rng)])
+    return {name: member} if rng.random() < 0.9 else value(rng)
 
 
 # A definition whose actions wait for ones that are made before them, or in one case of twenty for any.
@@ -122,8 +145,10 @@ def definition(rng):
     rng.shuffle(actions)
     whole = {"actions": dict(actions) if rng.random() < 0.97 else value(rng)}
     if rng.random() < 0.1:
-        whole[rng.choice(["parameters", "triggers", "outputs", "definition", "x"])] = value(rng)
-    return whole
+        whole[rng.choice(["parameters", "triggers", "outputs"])] = section(rng)
+    if rng.random() < 0.05:
+        whole[rng.choice(["definition", "$schema", "contentVersion", "x"])] = rng.choice([value(rng), rules.SCHEMA, {}])
+    return whole if rng.random() < 0.8 else {"definition": whole, "kind": "Stateful"}
 
 
 def inputs(rng):
@@ -337,24 +362,6 @@ def is_name(name, most):
     return isinstance(name, str) and 1 <= len(name) <= most and not re.search("[\x00-\x1f\x7f]", name)
 
 
-def is_listed(status):
-    return any(is_word(status, word) for word in ("succeeded", "failed", "skipped", "timedout"))
-
-
-def judge_action(name, action, names):
-    needs(is_name(name, 80) and isinstance(action, dict))
-    needs(is_word(action.get("type"), "compose") and "trackedProperties" not in action)
-    after = action.get("runAfter", {})
-    needs(isinstance(after, dict))
-    for other, listed in after.items():
-        needs(other in names and isinstance(listed, list) and all(map(is_listed, listed)))
-    needs("inputs" in action)
-    try:
-        return templates.names_asked(action["inputs"])
-    except templates.Refused:
-        needs(False)
-
-
 # The actions in an order in which each stands after those that it waits for.
 def ordered(actions):
     waiting = {name: set(action.get("runAfter", {})) for name, action in actions.items()}
@@ -368,19 +375,13 @@ def ordered(actions):
     return order
 
 
+# The definition that a file's value holds.
 def judge_definition(value):
-    needs(isinstance(value, dict) and "definition" not in value)
-    for name in ("parameters", "triggers", "outputs"):
-        needs(value.get(name, {}) == {})
-    actions = value.get("actions", {})
-    needs(isinstance(actions, dict) and len(actions) <= 500)
-    asked = {name: judge_action(name, action, actions) for name, action in actions.items()}
-    before = {}
-    for name in ordered(actions):
-        needed = actions[name].get("runAfter", {})
-        before[name] = set(needed).union(*(before[other] for other in needed))
-        needs(asked[name] <= before[name])
-    return value
+    definition = rules.definition_in(value)
+    fault = rules.refusal(definition)
+    if fault is not None:
+        raise Refused(fault)
+    return definition
 
 
 # What a run is handed: its name, the seed of its words and its moment, in ticks.
