@@ -2,12 +2,14 @@
 use Rattle.std.proofs.Common.{◌≡◌, ◌⊎◌, ℕ, zero, suc, ◌+◌, ◌-◌, ◌<◌, ◌≤◌, Bool, true, false, not, ◌&&◌, ◌||◌, List, [], ◌∷◌, length, Option, Some}
 use Rattle.std.proofs.Common.{None, is_some, slice_get, inl, inr, ⊎_elim, refl, sym, ap, ◌∙◌, subst, arith, true≢false}
 use Rattle.std.specs.List.{list_any}
-use Rattle.wf_layers.specs.Definition.{Status, Succeeded, Failed, Skipped, TimedOut, Cancelled, Need, Names}
+use Rattle.wf_layers.specs.Definition.{Need, Names}
 use Rattle.wf_layers.specs.Address.{Table, address}
 use Rattle.wf_layers.proofs.Basics.{two, and_in, and_of}
 use Rattle.wf_meaning.specs.Definition.{ActionTree}
 use Rattle.wf_meaning.specs.Judged.{AnyFailed, HasFailed, IsJudged, WasSkipped, handed, last}
-use Rattle.wf_meaning.specs.Record.{Row}
+use Rattle.wf_record.specs.Record.{Row}
+use Rattle.wf_record.specs.declared.status.Status.{Status}
+use Rattle.wf_record.specs.declared.status.Status.TheVariants.{Succeeded, Failed, Skipped, TimedOut, Cancelled}
 use Rattle.wf_meaning.specs.Rounds.{all_end, depth_of, depth_within, greatest, greatest_of, is_waiting, places, waits_for}
 use Rattle.wf_meaning.specs.Status.{any_named, fails, graph_status, is_named, judge, judge_row}
 use Rattle.wf_meaning.proofs.Marks.{is_there}

@@ -7,4 +7,5 @@ pub mod Before
 pub mod Local
 pub mod Walk
 pub mod Judged
+pub mod Ordered
 mod Worked

@@ -12,7 +12,7 @@ use Rattle.wf_eval.specs.Told.{Told}
 use Rattle.wf_eval.specs.TreeValue.{tree_value}
 use Rattle.wf_template.specs.DataTree.{DataTree}
 use Rattle.wf_meaning.specs.Definition.{ActionTree, InputsTree}
-use Rattle.wf_meaning.specs.Record.{Row}
+use Rattle.wf_record.specs.Record.{Row}
 use Rattle.wf_meaning.specs.Flat.{graph_from, graph_of, source, begun}
 use Rattle.wf_meaning.specs.Look.{place_of, view_of, view_at, told_at}
 use Rattle.wf_meaning.specs.Names.{named_before, use_before, uses_before, names_before}

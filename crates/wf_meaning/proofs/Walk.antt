@@ -8,7 +8,8 @@ use Rattle.wf_layers.specs.Rule.{look}
 use Rattle.wf_layers.proofs.Basics.{two}
 use Rattle.wf_layers.proofs.Laws.{meaning_obeys_the_rule}
 use Rattle.wf_meaning.specs.Definition.{ActionTree, InputsTree}
-use Rattle.wf_meaning.specs.Record.{Row}
+use Rattle.wf_record.specs.Record.{Row}
+use Rattle.wf_meaning.specs.Statuses.{status_tree}
 use Rattle.wf_meaning.specs.Rounds.{all_end, depth_of}
 use Rattle.wf_meaning.specs.Names.{names_before}
 use Rattle.wf_meaning.specs.Flat.{graph_from, graph_of, source, skipped, ended, begun}
@@ -26,7 +27,7 @@ module _ (inputs : InputsTree) (actions : List ActionTree) where
     where
       one : (found : Option Row) → all_met (source inputs actions) needs [] known ≡ needs_met needs known → (layered.is_met (source inputs actions) need.listed found && all_met (source inputs actions) needs [] known) ≡ (is_met need.listed found && needs_met needs known)
       one None e = refl
-      one (Some r) e = ap (λ b. is_listed need.listed r.status && b) e
+      one (Some r) e = ap (λ b. is_listed need.listed (status_tree r.status) && b) e
 
   look_at : (known : Table Row) (n : ℕ) (rest : List ActionTree) (m : ℕ) (a : ActionTree) → numbered n rest m ≡ Some a → slice_get actions m ≡ Some a →
       look (source inputs actions) (graph_from n rest) [] known (address m []) ≡ Some (row_in inputs actions known a)

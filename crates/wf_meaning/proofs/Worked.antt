@@ -5,7 +5,8 @@ use Rattle.wf_val.specs.ValueTree.{null, boolean, text, object, members, no_memb
 use Rattle.wf_val.specs.declared.fault.EvalFault.{EvalFault}
 use Rattle.wf_val.specs.declared.function.Fun.{Fun}
 use Rattle.wf_json.specs.FaultText.{fault_text}
-use Rattle.wf_layers.specs.Definition.{Succeeded, Failed, Skipped, TimedOut, Cancelled}
+use Rattle.wf_record.specs.declared.status.Status.TheVariants.{Succeeded, Failed, Skipped, TimedOut, Cancelled}
+use Rattle.wf_record.specs.declared.status.RunStatus.{RunStatus}
 use Rattle.wf_eval.specs.Rows.{fitted}
 use Rattle.wf_eval.specs.Timed.{utc_now_row}
 use Rattle.wf_meaning.specs.Flat.{composed, ended, faulted, skipped}
@@ -144,8 +145,8 @@ record-single : meaning (record { digest = 1 ∷ []; actions = single }) (untrig
   run = codes "r";
   digest = 1 ∷ [];
   trigger = object (member_then (codes "name") null (member_then (codes "outputs") null no_members));
-  parameters = object no_members;
-  status = Succeeded;
+  parameters = [];
+  status = RunStatus.Succeeded;
   error = null;
   response = null;
   outputs = object no_members;

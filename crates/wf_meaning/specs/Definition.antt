@@ -12,6 +12,9 @@ pub record ActionTree : Type 0 where
   pub after : List Need
   pub inputs : DataTree
 
+abbrev pub action_name : ActionTree → List ℕ
+action_name action = action.name
+
 -- A definition: the digest of its text, and the actions of its graph in byte order of their names.
 pub record DefinitionTree : Type 0 where
   pub digest : List ℕ

@@ -3,14 +3,16 @@ use Rattle.std.specs.Prelude.{ℕ, suc, Bool, true, false, List, [], ◌∷◌, 
 use Rattle.wf_val.specs.Arguments.{Answer}
 use Rattle.wf_val.specs.ValueTree.{ValueTree, null, text, object, no_members}
 use Rattle.wf_val.specs.declared.fault.EvalFault.{EvalFault}
-use Rattle.wf_layers.specs.Definition.{Succeeded, Failed, Skipped, Leaf, Graph, done, add}
+use Rattle.wf_layers.specs.Definition.{Leaf, Graph, done, add}
 use Rattle.wf_layers.specs.Address.{Table}
 use Rattle.wf_layers.specs.Source.{Source}
 use Rattle.wf_json.specs.FaultText.{fault_text}
 use Rattle.wf_eval.specs.TreeValue.{tree_value}
 use Rattle.wf_meaning.specs.Definition.{ActionTree, InputsTree}
 use Rattle.wf_meaning.specs.Look.{told_at}
-use Rattle.wf_meaning.specs.Record.{Row}
+use Rattle.wf_meaning.specs.Statuses.{status_tree}
+use Rattle.wf_record.specs.Record.{Row}
+use Rattle.wf_record.specs.declared.status.Status.TheVariants.{Succeeded, Failed, Skipped}
 
 -- the graph of actions numbered from n on
 abbrev pub graph_from : ℕ → List ActionTree → Graph
@@ -71,7 +73,7 @@ begun inputs actions known (Some action) = (tree_value (told_at inputs actions a
 -- The source of the rows: each action is a Compose. It decides nothing, tests nothing, and keeps nothing of an older run.
 abbrev pub source : InputsTree → List ActionTree → Source Row Answer (Unit {0}) Bool
 source inputs actions = record {
-  status = λ row. row.status;
+  status = λ row. status_tree row.status;
   skipped = skipped;
   start = λ x known. begun inputs actions known (slice_get actions x.name);
   tries = λ x answer. 0;

@@ -1,9 +1,10 @@
 -- Which actions of a graph are judged, as a least set: how a graph ended is read off the rows of these alone.
 use Rattle.std.specs.Prelude.{◌≡◌, ◌⊎◌, ℕ, ◌<◌, false, List, [], length, Option, None, Some, slice_get}
-use Rattle.wf_layers.specs.Definition.{Names, Failed, Skipped, TimedOut, Cancelled}
+use Rattle.wf_layers.specs.Definition.{Names}
 use Rattle.wf_layers.specs.Address.{Table, address}
 use Rattle.wf_meaning.specs.Definition.{ActionTree}
-use Rattle.wf_meaning.specs.Record.{Row}
+use Rattle.wf_record.specs.Record.{Row}
+use Rattle.wf_record.specs.declared.status.Status.TheVariants.{Failed, Skipped, TimedOut, Cancelled}
 use Rattle.wf_meaning.specs.Status.{is_named}
 
 abbrev pub WasSkipped : Option Row → Type 0

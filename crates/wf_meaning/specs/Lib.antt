@@ -1,5 +1,5 @@
 pub mod Definition
-pub mod Record
+pub mod Statuses
 pub mod Rounds
 pub mod Marks
 pub mod Look

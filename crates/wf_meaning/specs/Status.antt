@@ -1,10 +1,11 @@
 -- The status of a graph, from its actions and their rows.
 use Rattle.std.specs.Prelude.{ℕ, zero, suc, Bool, true, false, not, ◌&&◌, List, [], length, Option, None, Some, if◌then◌else◌, nat_eq, slice_get}
 use Rattle.std.specs.List.{list_any}
-use Rattle.wf_layers.specs.Definition.{Status, Succeeded, Failed, Skipped, TimedOut, Cancelled}
 use Rattle.wf_layers.specs.Address.{Table, address}
 use Rattle.wf_meaning.specs.Definition.{ActionTree}
-use Rattle.wf_meaning.specs.Record.{Row}
+use Rattle.wf_record.specs.Record.{Row}
+use Rattle.wf_record.specs.declared.status.Status.{Status}
+use Rattle.wf_record.specs.declared.status.Status.TheVariants.{Succeeded, Failed, Skipped, TimedOut, Cancelled}
 use Rattle.wf_meaning.specs.Rounds.{places}
 
 -- An action whose row is judged fails its graph by its status; a Skipped one hands the judgement on.

@@ -5,7 +5,7 @@ use Rattle.wf_template.specs.DataTree as inputs
 use Rattle.wf_template.specs.ExprTree.{ExprTree, literal, call, no_exprs, expr_then}
 use Rattle.wf_template.specs.TemplateTree.{whole}
 use Rattle.wf_val.specs.ValueTree.{ValueTree, null, boolean, number, text, list, trees}
-use Rattle.wf_layers.specs.Definition.{Status, Succeeded, Failed, Skipped, TimedOut, Cancelled, Need}
+use Rattle.wf_layers.specs.Definition.{Need}
 use Rattle.wf_layers.specs.Address.{Table}
 use Rattle.wf_layers.specs.Source.{all_met}
 use Rattle.wf_eval.specs.Draws.{number_in}
@@ -13,13 +13,16 @@ use Rattle.wf_eval.specs.Told.{word_of}
 use Rattle.wf_meaning.specs.Definition.{ActionTree, InputsTree}
 use Rattle.wf_meaning.specs.Flat.{composed, source}
 use Rattle.wf_meaning.specs.Look.{untriggered}
-use Rattle.wf_meaning.specs.Record.{Row}
+use Rattle.wf_meaning.specs.Statuses.{status_tree}
+use Rattle.wf_record.specs.Record.{Row}
+use Rattle.wf_record.specs.declared.status.Status.{Status}
+use Rattle.wf_record.specs.declared.status.Status.TheVariants.{Succeeded, Failed, Skipped, TimedOut, Cancelled}
 
 abbrev pub action : List ℕ → List Need → ActionTree
 action name after = record { name = name; after = after; inputs = inputs.null }
 
 abbrev pub need : ℕ → List Status → Need
-need n listed = record { name = n; listed = listed }
+need n listed = record { name = n; listed = map status_tree listed }
 
 -- B comes first, A after its success; C is to come after its failure, and D after the success of C.
 abbrev pub four : List ActionTree

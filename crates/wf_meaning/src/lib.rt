@@ -2,9 +2,9 @@
 //!
 //! A definition is left here once its form is known: a list of actions, each with its name, the entries of its `runAfter`
 //! and its inputs (`specs/Definition`). Its meaning is an instance of the layered meaning of `wf_layers`: `specs/Flat` says
-//! which graph and which source of rows it is, `specs/Meaning` reads the record off the rows, in the order of their
-//! addresses, and `specs/Status` says how a graph ends by the rows of its actions, which `specs/Judged` says once more, as a least set. When the actions end is said in rounds
-//! (`specs/Rounds`). These give the depths of the layers, and say at once that `runAfter` names only actions that are there
+//! which graph and which source of rows it is, `specs/Meaning` reads the record of `wf_record` off the rows, in the order
+//! of their addresses, and `specs/Status` says how a graph ends by the rows of its actions, which `specs/Judged` says once
+//! more, as a least set. When the actions end is said in rounds (`specs/Rounds`). These give the depths of the layers, and say at once that `runAfter` names only actions that are there
 //! and has no cycle. `specs/Worked` and `proofs/Worked` have worked values.
 //!
 //! So far each action is a Compose that stands in no other. Further kinds of actions are further rows of the source and
@@ -15,18 +15,22 @@
 #![tactic(auto)]
 
 ghost use Rattle.std.specs.Prelude.{◌≡◌, ◌⊎◌, ◌∷◌, ℕ, [], false, true, List, map, codes};
-ghost use Rattle.wf_layers.specs.Definition.{Closed, Failed, IsBefore, IsDepth, Skipped, Succeeded};
+ghost use Rattle.wf_lists.specs.KeyOrder.{IsInKeyOrder};
+ghost use Rattle.wf_val.specs.Address.{address_cmp};
+ghost use Rattle.wf_val.specs.NameOrder.{IsInNameOrder};
+ghost use Rattle.wf_layers.specs.Definition.{Closed, IsBefore, IsDepth};
 ghost use Rattle.wf_layers.specs.Address.{Table};
 ghost use Rattle.wf_layers.specs.Laws.{IsInstance};
 ghost use Rattle.wf_eval.specs.Told.{words};
-ghost use Rattle.wf_meaning.specs.Definition.{ActionTree, InputsTree};
+ghost use Rattle.wf_meaning.specs.Definition.{ActionTree, InputsTree, action_name};
 ghost use Rattle.wf_meaning.specs.Flat.{graph_of, source};
 ghost use Rattle.wf_meaning.specs.Judged.{AnyFailed};
 ghost use Rattle.wf_meaning.specs.Laws.{RowsFromBefore, StepsOfWalk};
 ghost use Rattle.wf_meaning.specs.Look.{told_at, untriggered};
 ghost use Rattle.wf_meaning.specs.Meaning.{rows_of, table_of};
 ghost use Rattle.wf_meaning.specs.Names.{names_before};
-ghost use Rattle.wf_meaning.specs.Record.{Row};
+ghost use Rattle.wf_record.specs.Record.{Row, address_of};
+ghost use Rattle.wf_record.specs.declared.status.Status.TheVariants.{Failed, Skipped, Succeeded};
 ghost use Rattle.wf_meaning.specs.Rounds.{all_end, depth_of};
 ghost use Rattle.wf_meaning.specs.Status.{graph_status};
 ghost use Rattle.wf_meaning.specs.Worked.{astray, caught, cycle, drawing, drawn_at, four, missed, rows_with, seeded};
@@ -54,6 +58,11 @@ pub fn a_walk_makes_the_meanings_rows()
 {
     values_are_local();
 }
+
+/// Where the actions stand in the byte order of their names, the rows of a run stand in the order of their addresses.
+pub fn rows_are_in_order()
+    ensures { (inputs : InputsTree) (actions : List ActionTree) → IsInNameOrder action_name actions → IsInKeyOrder address_cmp address_of (rows_of inputs actions) }
+{}
 
 /// Where all actions end, no action waits for itself, at however many removes.
 pub fn no_action_waits_for_itself()

@@ -12,3 +12,4 @@ pub mod TurnLemmas
 pub mod FindLemmas
 pub mod NumberedLemmas
 pub mod ReadingRows
+pub mod TopOrderLemmas

@@ -2,7 +2,8 @@
 ghost use Rattle.std.specs.Prelude.{◌≡◌, ◌≤◌, ℕ, List, bytes_eq, is_some, length};
 ghost use Rattle.std.specs.List.{list_any};
 ghost use Rattle.wf_layers.specs.Definition.{Turns};
-ghost use Rattle.wf_def.specs.ActionTree.{ActionTrees};
+ghost use Rattle.wf_val.specs.NameOrder.{IsInNameOrder};
+ghost use Rattle.wf_def.specs.ActionTree.{ActionTrees, action_name, actions_in};
 ghost use Rattle.wf_def.specs.DefTree.{DefTree};
 ghost use Rattle.wf_def.specs.Layered.{layered};
 ghost use Rattle.wf_def.specs.Names.{find_in, graph_names};
@@ -31,6 +32,11 @@ pub fn numbers_are_places()
 {
     wf_form::the_first_fault();
 }
+
+/// The actions of the graph at the top stand in byte order of their names.
+pub fn actions_stand_in_order()
+    ensures { (d : DefTree) → IsRead d → IsInNameOrder action_name (actions_in d.top) }
+{}
 
 /// There are at most 500 actions.
 pub fn actions_are_few()

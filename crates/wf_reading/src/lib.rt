@@ -32,6 +32,6 @@ mod texts;
 pub use definition::{Def, RuleFault};
 pub use file::read_def;
 pub use laws::{
-    actions_are_few, actions_are_found_by_name, loops_may_turn, names_stand_once,
-    numbers_are_places, run_after_has_depths,
+    actions_are_few, actions_are_found_by_name, actions_stand_in_order, loops_may_turn,
+    names_stand_once, numbers_are_places, run_after_has_depths,
 };

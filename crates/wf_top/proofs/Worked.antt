@@ -1,51 +1,31 @@
 -- Worked values of the definitions of this crate: its limits, names, words and statuses.
-use Rattle.std.proofs.Common.{◌≡◌, ℕ, zero, suc, List, [], ◌∷◌, true, false, not, ◌&&◌, None, Some, Err, replicate, refl}
+use Rattle.std.proofs.Common.{◌≡◌, ℕ, zero, suc, List, [], ◌∷◌, ◌++◌, true, false, not, ◌&&◌, None, Some, Err, replicate, refl}
 use Rattle.std.specs.Prelude.{pos, codes, if◌then◌else◌}
-use Rattle.std.specs.List.{filter}
 use Rattle.std.specs.Option.{option_map}
 use Rattle.std.specs.Str.{chars}
+use Rattle.wf_json.specs.Json.{string}
+use Rattle.std.specs.Fmt.{digits}
 use Rattle.wf_val.specs.ValueTree.{ValueTree, null, number, text, list, object, Member, members, trees}
-use Rattle.wf_val.specs.Function.{functions}
-use Rattle.wf_val.specs.declared.function.Fun.{Fun}
-use Rattle.wf_template.specs.ExprTree.{ExprTrees, literal, no_exprs, expr_then}
 use Rattle.wf_fn_time.specs.Reading.{read_time}
 use Rattle.wf_meaning.specs.Look.{no_trigger}
-use Rattle.wf_layers.specs.Definition.{Succeeded, Failed, Skipped, TimedOut}
 use Rattle.wf_meaning.specs.Definition.{DefinitionTree}
 use Rattle.wf_top.specs.Commands.{command_of, run, run_definition}
 use Rattle.wf_top.specs.Form.{form_of, form_words, definition_of, inputs_of}
-use Rattle.wf_top.specs.Plain.{few_actions, is_few, is_name, is_plain_action, is_printable, listed_in, need_of, plain_actions}
+use Rattle.wf_top.specs.Names.{is_name, is_printable}
 use Rattle.wf_top.specs.Inputs.{moment_of, plain_run, run_name, seed_of}
 use Rattle.wf_top.specs.Plan.{Plan, Says, Reads, within}
 use Rattle.wf_top.specs.Served as served
-use Rattle.wf_top.specs.Templates.{is_plain_call, is_plain_function}
 use Rattle.wf_top.specs.declared.form.FormFault.{FormFault}
 use Rattle.wf_top.specs.declared.said.Verdict.TheVariants.{Done, Definition, Inputs}
 use Rattle.wf_top.specs.declared.words.Command.TheVariants.{Run}
 
 -- ---- limits
 
-compose : ValueTree
-compose = object (members ((codes "inputs", null) ∷ ((codes "type", text (codes "compose")) ∷ [])))
-
 -- so many letters `a`
 abbrev letters : ℕ → List ℕ
 letters count = replicate count 97
 
-few-500 : is_few (replicate 500 (letters 1, null)) ≡ true
-few-500 = refl
-
-few-501 : is_few (replicate 501 (letters 1, null)) ≡ false
-few-501 = refl
-
-many-501 : few_actions (replicate 501 (letters 1, null)) ≡ None
-many-501 = refl
-
--- An action's name has at most 80 characters, and a run's 64; which characters a text has is std's.
-action_name-limit : (s : List ℕ) → is_plain_action (s, compose) ≡ (is_name 80 s && true && true)
-unfolding compose
-action_name-limit s = refl
-
+-- A run's name has at most 64 characters; which characters a text has is std's.
 run_name-limit : (s : List ℕ) → run_name (Some (text s)) ≡ (if is_name 64 s then Some s else None)
 run_name-limit s = refl
 
@@ -97,6 +77,13 @@ words-too_long = refl
 words-not_json : form_words FormFault.NotJson ≡ codes "NotJson"
 words-not_json = refl
 
+words-rule : (pointer : List ℕ) → form_words (FormFault.Rule 8 pointer) ≡ codes "V8 " ++ string pointer
+unfolding digits
+words-rule pointer = refl
+
+words-not_built : (pointer : List ℕ) → form_words (FormFault.NotBuilt pointer) ≡ codes "NotYet " ++ string pointer
+words-not_built pointer = refl
+
 words-not_yet : form_words FormFault.NotYet ≡ codes "NotYet"
 words-not_yet = refl
 
@@ -109,7 +96,7 @@ status-definition = refl
 status-inputs : served.number Inputs ≡ 6
 status-inputs = refl
 
--- ---- the plain form
+-- ---- names
 
 printable-blank : is_printable 32 ≡ true
 printable-blank = refl
@@ -122,90 +109,6 @@ printable-delete = refl
 
 printable-above : is_printable 128 ≡ true
 printable-above = refl
-
-listed-four : listed_in (list (trees (text (codes "SUCCEEDED") ∷ (text (codes "failed") ∷ (text (codes "Skipped") ∷ (text (codes "timedout") ∷ []))))))
-    ≡ Some (Succeeded ∷ (Failed ∷ (Skipped ∷ (TimedOut ∷ []))))
-listed-four = refl
-
-listed-twice : listed_in (list (trees (text (codes "Failed") ∷ (text (codes "Failed") ∷ [])))) ≡ Some (Failed ∷ (Failed ∷ []))
-listed-twice = refl
-
-listed-none : listed_in (list (trees [])) ≡ Some []
-listed-none = refl
-
-listed-cancelled : listed_in (list (trees (text (codes "Cancelled") ∷ []))) ≡ None
-listed-cancelled = refl
-
-listed-null : listed_in (list (trees (null ∷ []))) ≡ None
-listed-null = refl
-
-listed-text : listed_in (text (codes "Succeeded")) ≡ None
-listed-text = refl
-
--- the actions A, B and C, and an entry of `runAfter` for one of them
-abbrev three : List Member
-three = (codes "A", null) ∷ ((codes "B", null) ∷ ((codes "C", null) ∷ []))
-
-abbrev entry : List ℕ → Member
-entry name = (name, list (trees (text (codes "Succeeded") ∷ [])))
-
-need-second : need_of three (entry (codes "B")) ≡ Some (record { name = 1; listed = Succeeded ∷ [] })
-need-second = refl
-
-need-case : need_of three (entry (codes "b")) ≡ None
-need-case = refl
-
-need-absent : need_of three (entry (codes "D")) ≡ None
-need-absent = refl
-
-actions-absent : plain_actions None ≡ Some []
-actions-absent = refl
-
-actions-not_object : plain_actions (Some null) ≡ None
-actions-not_object = refl
-
--- ---- functions
-
--- Of the functions of the language these ten stay outside.
-outside-ten : filter (λ f. not (is_plain_function f)) functions
-    ≡ Fun.Result ∷ (Fun.Action ∷ (Fun.Item ∷ (Fun.Items ∷ (Fun.IterationIndexes ∷ (Fun.Trigger ∷ (Fun.TriggerOutputs
-    ∷ (Fun.TriggerBody ∷ (Fun.Parameters ∷ (Fun.Variables ∷ [])))))))))
-outside-ten = refl
-
--- a call whose arguments are so many times null
-abbrev nulls : ℕ → ExprTrees
-nulls zero = no_exprs
-nulls (suc n) = expr_then (literal null) (nulls n)
-
-call-workflow : is_plain_call (codes "workflow") (nulls 0) ≡ true
-call-workflow = refl
-
-call-moment : is_plain_call (codes "UTCNOW") (nulls 0) ≡ true
-call-moment = refl
-
-call-words : is_plain_call (codes "guid") (nulls 1) ≡ true
-call-words = refl
-
-call-too_few : is_plain_call (codes "rand") (nulls 1) ≡ false
-call-too_few = refl
-
-call-too_many : is_plain_call (codes "guid") (nulls 2) ≡ false
-call-too_many = refl
-
-call-of_the_look : is_plain_call (codes "trigger") (nulls 0) ≡ false
-call-of_the_look = refl
-
-call-of_a_container : is_plain_call (codes "result") (expr_then (literal (text (codes "A"))) no_exprs) ≡ false
-call-of_a_container = refl
-
-call-no_function : is_plain_call (codes "condition") (nulls 1) ≡ false
-call-no_function = refl
-
-call-named : is_plain_call (codes "body") (expr_then (literal (text (codes "A"))) no_exprs) ≡ true
-call-named = refl
-
-call-unnamed : is_plain_call (codes "body") (nulls 1) ≡ false
-call-unnamed = refl
 
 -- ---- inputs
 

@@ -6,7 +6,8 @@ use Rattle.wf_meaning.specs.Definition.{DefinitionTree, InputsTree}
 use Rattle.wf_meaning.specs.Meaning.{meaning}
 use Rattle.wf_top.specs.Form.{definition_of, fault_line, form_of, inputs_of}
 use Rattle.wf_top.specs.Limits.{definition_bytes, inputs_bytes}
-use Rattle.wf_top.specs.Record.{record_line, summary_line}
+use Rattle.wf_top.specs.Summary.{summary_line}
+use Rattle.wf_record.specs.Record.{record_line}
 use Rattle.wf_top.specs.Plan.{Plan, Says, Reads}
 use Rattle.wf_top.specs.declared.words.Command.{Command}
 use Rattle.wf_top.specs.declared.words.Command.TheVariants.{Run}

@@ -7,7 +7,7 @@ use Rattle.wf_fn_time.specs.Reading.{read_time}
 use Rattle.wf_meaning.specs.Look.{no_trigger}
 use Rattle.wf_meaning.specs.Definition.{InputsTree}
 use Rattle.wf_top.specs.Limits.{run_name_chars}
-use Rattle.wf_top.specs.Plain.{is_name}
+use Rattle.wf_top.specs.Names.{is_name}
 
 -- the name of a run
 abbrev pub run_name : Option ValueTree → Option (List ℕ)

@@ -2,10 +2,8 @@ pub mod Commands
 pub mod Form
 pub mod Inputs
 pub mod Limits
-pub mod Plain
+pub mod Names
 pub mod Plan
 pub mod Ran
-pub mod Record
-pub mod Seen
+pub mod Summary
 pub mod Served
-pub mod Templates

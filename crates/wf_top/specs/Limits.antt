@@ -9,14 +9,6 @@ definition_bytes = 4194304
 abbrev pub inputs_bytes : ℕ
 inputs_bytes = 67108864
 
--- how many actions a definition may have
-abbrev pub actions_most : ℕ
-actions_most = 500
-
--- the greatest length of an action's name, in characters
-abbrev pub action_name_chars : ℕ
-action_name_chars = 80
-
 -- the greatest length of the name that the inputs give a run, in characters
 abbrev pub run_name_chars : ℕ
 run_name_chars = 64

@@ -5,7 +5,7 @@ use Rattle.std.specs.Option.{option_map}
 use Rattle.wf_outside.specs.Outside.{Held}
 use Rattle.wf_top.specs.Plan.{Plan, MaySay, ComesTo, said_by}
 use Rattle.wf_top.specs.Commands.{plan_of}
-use Rattle.wf_top.specs.Form.{printed}
+use Rattle.wf_json.specs.Json.{string}
 use Rattle.wf_top.specs.declared.said.Verdict.{Verdict}
 use Rattle.wf_top.specs.declared.said.Verdict.TheVariants.{Done, Definition, Inputs}
 use Rattle.wf_top.specs.declared.said.Said.{Said}
@@ -24,7 +24,7 @@ usage =
 
 -- the line of a file that couldn't be read
 abbrev pub cannot_read : List ℕ → List ℕ
-cannot_read name = codes "cannot read " ++ printed name ++ 10 ∷ []
+cannot_read name = codes "cannot read " ++ string name ++ 10 ∷ []
 
 abbrev pub out_of_memory : List ℕ
 out_of_memory = codes "out of memory\n"

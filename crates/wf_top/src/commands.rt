@@ -2,10 +2,9 @@
 ghost use Rattle.std.specs.Prelude.{◌≡◌, ◌≢◌, Some, IfOk, IfErr};
 ghost use Rattle.wf_top.specs.Commands.{command_of, plan, run, run_definition};
 ghost use Rattle.wf_top.specs.Form.{fault_line};
-ghost use Rattle.wf_top.specs.Seen.{definition_tree};
+ghost use Rattle.wf_plain.specs.Seen.{definition_tree};
 ghost use Rattle.wf_top.specs.Served.{Follows};
 
-use crate::definition::Definition;
 use crate::form::{FormFault, definition_form, fault_line, inputs_form};
 use crate::load::{Stop, load};
 use crate::run::run_text;
@@ -14,6 +13,7 @@ use crate::words::Command;
 use crate::{DEFINITION_LIMIT, INPUTS_LIMIT};
 use std::alloc::Global;
 use wf_outside::Files;
+use wf_plain::Definition;
 use wf_val::Text;
 
 // A fault of a file, said with the verdict on such files.

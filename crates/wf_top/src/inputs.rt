@@ -7,8 +7,7 @@ ghost use Rattle.wf_top.specs.Inputs.{hands_in_no_more, moment_of, plain_run, ru
 ghost use Rattle.wf_walk.specs.Seen.{given_tree};
 
 use crate::RUN_NAME_LIMIT;
-use crate::plain::is_name;
-use crate::record::with;
+use crate::names::is_name;
 use std::alloc::{AllocError, Global};
 use wf_fn_time::{Ticks, read_time};
 use wf_val::{Fields, Text, Val};
@@ -58,8 +57,9 @@ fn moment_of(member: Option<&Val>) -> Option<Ticks>
 fn no_trigger(alloc: Global) -> Result<Val, AllocError>
     ensures { IfOk result (λ value. tree value ≡ no_trigger) }
 {
-    let fields = with(alloc, Fields::new(alloc), "name", Val::Null)?;
-    let fields = with(alloc, fields, "outputs", Val::Null)?;
+    let mut fields = Fields::new(alloc);
+    fields.put(Text::of(alloc, "name")?, Val::Null)?;
+    fields.put(Text::of(alloc, "outputs")?, Val::Null)?;
     Ok(Val::Obj(fields))
 }
 

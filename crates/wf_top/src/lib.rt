@@ -4,24 +4,19 @@
 //! before it answers the status that the program ends with. What it says is stated as a plan: which file is read with
 //! which limit, and what follows from its bytes. Everything that is claimed of a command is a clause of this one call.
 //!
-//! The crate judges the form of definitions and inputs, makes the record of a run and prints it. It opens no file and
-//! no stream itself; that is left to the objects which it is lent.
+//! The crate reads definitions by `wf_reading`, takes of them what `wf_plain` says a run takes, judges the form of inputs, makes the
+//! record of a run and prints it. It opens no file and no stream itself; that is left to the objects which it is lent.
 #![tactic(auto)]
 
-mod action;
-mod after;
 mod commands;
-mod definition;
 mod form;
 mod inputs;
 mod load;
-mod plain;
+mod names;
 mod put;
-mod record;
 mod run;
 mod said;
 mod serve;
-mod templates;
 mod words;
 
 pub use serve::serve_words;
@@ -32,12 +27,6 @@ const DEFINITION_LIMIT: u64 = 4_194_304;
 
 /// The greatest length of an inputs file, in bytes: 64 MiB.
 const INPUTS_LIMIT: u64 = 67_108_864;
-
-/// How many actions a definition may have.
-const MOST_ACTIONS: usize = 500;
-
-/// The greatest length of an action's name, in characters.
-const ACTION_NAME_LIMIT: usize = 80;
 
 /// The greatest length of the name that the inputs give a run, in characters.
 const RUN_NAME_LIMIT: usize = 64;

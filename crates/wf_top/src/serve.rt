@@ -8,7 +8,6 @@ ghost use Rattle.wf_top.specs.Ran.{IsWhole, PassesAll, Ran, RefusedDefinition, R
 ghost use Rattle.wf_top.specs.Served.{FailedAt, IsSaid, Serves, cannot_read, say};
 
 use crate::commands::follow;
-use crate::form::printed;
 use crate::load::Stop;
 use crate::put::close;
 use crate::words::{Command, parse_words};
@@ -25,7 +24,7 @@ fn unread_line(alloc: Global, name: Text) -> Result<Vec<u8>, AllocError>
     ensures { IfOk result (λ line. line.items ≡ cannot_read name) }
 {
     let mut line = b"cannot read ".to_vec(alloc)?;
-    line.extend_from_slice(&printed(alloc, name)?)?;
+    wf_json::quote_to(&mut line, name.as_str())?;
     line.push(b'\n')?;
     Ok(line)
 }

@@ -1,5 +1,5 @@
 -- What a step of the walk keeps, over plain lists, and what it comes to.
-use Rattle.std.proofs.Common.{◌≡◌, ◌⊎◌, ◌+◌, ◌++◌, ◌&&◌, Bool, ℕ, zero, suc, ◌<◌, true, false, List, [], ◌∷◌, length, map, set, replicate, Option, Some, None, is_some, slice_get, inl, inr, ⊎_elim, refl, sym, ap, ◌∙◌, subst, arith, nat_eq, eqb-true, eq-eqb, get_or, true≢false}
+use Rattle.std.proofs.Common.{◌≡◌, Less, ◌⊎◌, ◌+◌, ◌++◌, ◌&&◌, Bool, ℕ, zero, suc, ◌<◌, true, false, List, [], ◌∷◌, length, map, set, replicate, Option, Some, None, is_some, slice_get, inl, inr, ⊎_elim, refl, sym, ap, ◌∙◌, append_assoc, append-nil, subst, arith, nat_eq, eqb-true, eq-eqb, get_or, true≢false}
 use Rattle.wf_layers.specs.Address.{Table, address}
 use Rattle.wf_layers.specs.Definition.{Need, Names, needs_of}
 use Rattle.wf_layers.proofs.Basics.{two, and_in}
@@ -8,16 +8,20 @@ use Rattle.wf_meaning.specs.Flat.{graph_of}
 use Rattle.wf_meaning.specs.Laws.{AreMeanings, AreClosed, StepsOfWalk}
 use Rattle.wf_meaning.specs.Rounds.{all_end}
 use Rattle.wf_meaning.specs.Marks.{is_marked, is_ready}
-use Rattle.wf_meaning.specs.Meaning.{table_of, row_in, rows_from, rows_of}
-use Rattle.wf_meaning.specs.Record as record_of
+use Rattle.wf_meaning.specs.Meaning.{instance, table_of, row_in, rows_from, rows_of}
+use Rattle.wf_record.specs.Record as record_of
 use Rattle.wf_meaning.proofs.Graphs.{after_in}
 use Rattle.wf_meaning.proofs.Instance.{needs_at}
-use Rattle.std.specs.List.{list_all}
-use Rattle.wf_walk.specs.Seen.{row_tree, row_at, known_of, has_row, rows_there, named_row}
-use Rattle.wf_walk.specs.Walked.{all_there, AreRight, AreNamed, AreAll}
-use Rattle.wf_walk.specs.declared.action.Row.{Row}
+use Rattle.std.specs.List.{AllByRecursion, list_all}
+use Rattle.wf_walk.specs.Seen.{row_content, row_at, known_of, has_row, rows_there}
+use Rattle.wf_record.specs.Seen.{row_tree}
+use Rattle.wf_walk.specs.Walked.{all_there, AreRight, AreNamed, AreAll, IsAboveRows}
+use Rattle.wf_lists.specs.KeyOrder.{IsInKeyOrder}
+use Rattle.wf_val.specs.Address.{address_cmp}
+use Rattle.wf_record.specs.Record.{address_of}
+use Rattle.wf_record.specs.declared.row.Row.{Row}
 
-row_here : (rows : List (Option Row)) (n : ℕ) (r : Row) → n < length rows → row_at (set rows n (Some r)) n ≡ Some (row_tree r)
+row_here : (rows : List (Option Row)) (n : ℕ) (r : Row) → n < length rows → row_at (set rows n (Some r)) n ≡ Some (row_content r)
 row_here [] n r lt = absurd (omega (arith, lt))
 row_here (x ∷ rows) zero r lt = refl
 row_here (x ∷ rows) (suc n) r lt = row_here rows n r (omega (arith, lt))
@@ -47,7 +51,7 @@ needs_there (need ∷ needs) known p all names =
     ]
 
 module _ (inputs : InputsTree) (actions : List ActionTree) (all : all_end actions ≡ true) (steps : StepsOfWalk inputs actions) (rows : List (Option Row)) (n : ℕ) (a : ActionTree) (r : Row)
-    (is : slice_get actions n ≡ Some a) (lt : n < length rows) (ready : all_there a.after (known_of rows) ≡ true) (made : row_tree r ≡ row_in inputs actions (known_of rows) a) where
+    (is : slice_get actions n ≡ Some a) (lt : n < length rows) (ready : all_there a.after (known_of rows) ≡ true) (made : row_content r ≡ row_in inputs actions (known_of rows) a) where
   -- what had a row has one
   stays : (p : ℕ) → is_some (row_at rows p) ≡ true → is_some (row_at (set rows n (Some r)) p) ≡ true
   stays p there = ⊎_elim (λ same. subst (λ q. is_some (row_at (set rows n (Some r)) q) ≡ true) (eqb-true n p same) (ap is_some (row_here rows n r lt))) (λ other. ap is_some (row_else rows n p r other) ∙ there) (two (nat_eq n p))
@@ -64,7 +68,7 @@ module _ (inputs : InputsTree) (actions : List ActionTree) (all : all_end action
           here : nat_eq n m ≡ true → table_of inputs actions (address m []) ≡ Some q
           here same =
               let place : n ≡ m = eqb-true n m same in
-              let found : Some (row_tree r) ≡ Some q = sym (row_here rows n r lt) ∙ (ap (row_at (set rows n (Some r))) place ∙ there) in
+              let found : Some (row_content r) ≡ Some q = sym (row_here rows n r lt) ∙ (ap (row_at (set rows n (Some r))) place ∙ there) in
               subst (λ k. table_of inputs actions (address k []) ≡ Some q) place (own ∙ (ap (λ x. Some x) (sym made) ∙ found))
 
           other : nat_eq n m ≡ false → table_of inputs actions (address m []) ≡ Some q
@@ -126,9 +130,9 @@ there_at bs rows tied n on = sym (marked_there rows n) ∙ subst (λ cs. is_mark
 pub there_snoc : (rows : List (Option Row)) (row : Option Row) → rows_there (rows ++ row ∷ []) ≡ rows_there rows ++ rows_there (row ∷ [])
 there_snoc [] row = refl
 there_snoc (None ∷ rows) row = there_snoc rows row
-there_snoc (Some r ∷ rows) row = ap (λ more. named_row r ∷ more) (there_snoc rows row)
+there_snoc (Some r ∷ rows) row = ap (λ more. row_tree r ∷ more) (there_snoc rows row)
 
--- ---- names
+-- ---- addresses
 
 get_set : (rows : List (Option Row)) (n m : ℕ) (r q : Row) → slice_get (set rows n (Some r)) m ≡ Some (Some q) →
     (n ≡ m) × (r ≡ q) ⊎ (slice_get rows m ≡ Some (Some q))
@@ -142,15 +146,15 @@ get_set (x ∷ rows) (suc n) zero r q is = inr is
 get_set (x ∷ rows) (suc n) (suc m) r q is = ⊎_elim (λ both. inl (ap (λ k. suc k) both.0, both.1)) (λ old. inr old) (get_set rows n m r q is)
 
 pub named_kept : (actions : List ActionTree) (rows : List (Option Row)) (n : ℕ) (a : ActionTree) (r : Row) → slice_get actions n ≡ Some a →
-    r.name ≡ a.name → AreNamed actions rows → AreNamed actions (set rows n (Some r))
+    r.address ≡ instance a → AreNamed actions rows → AreNamed actions (set rows n (Some r))
 named_kept actions rows n a r is same named m b q at found =
     ⊎_elim (λ both. here both.0 both.1) (λ old. named m b q at old) (get_set rows n m r q found)
   where
-    here : n ≡ m → r ≡ q → q.name ≡ b.name
+    here : n ≡ m → r ≡ q → q.address ≡ instance b
     here place one =
         let both : Some a ≡ Some b = sym is ∙ (ap (slice_get actions) place ∙ at) in
         let action : a ≡ b = cc in
-        sym (ap (λ x. x.name) one) ∙ (same ∙ ap (λ x. x.name) action)
+        sym (ap (λ (x : Row). x.address) one) ∙ (same ∙ ap instance action)
 
 get_none : (size n : ℕ) (r : Row) → slice_get (replicate size None) n ≡ Some (Some r) → ⊥
 get_none zero n r is = cc
@@ -170,8 +174,8 @@ rows_from_is t n [] (x ∷ rows) size are there named = absurd (omega (arith, si
 rows_from_is t n (a ∷ actions) [] size are there named = absurd (omega (arith, size))
 rows_from_is t n (a ∷ actions) (None ∷ rows) size are there named = absurd (true≢false (sym (there 0 (omega arith))))
 rows_from_is t n (a ∷ actions) (Some r ∷ rows) size are there named =
-    rw (are n 0 (row_tree r) (omega arith) refl, ← named 0 a r refl refl)
-    (ap (λ more. named_row r ∷ more) (rows_from_is t (suc n) actions rows (omega (arith, size))
+    rw (are n 0 (row_content r) (omega arith) refl, ← named 0 a r refl refl)
+    (ap (λ more. row_tree r ∷ more) (rows_from_is t (suc n) actions rows (omega (arith, size))
     (λ m j q is found. are m (suc j) q (omega (arith, is)) found) (λ j lt. there (suc j) (omega (arith, lt))) (λ m b q at found. named (suc m) b q at found)))
 
 pub rows_are : (inputs : InputsTree) (actions : List ActionTree) (rows : List (Option Row)) → AreAll inputs actions rows → rows_there rows ≡ rows_of inputs actions
@@ -181,6 +185,23 @@ rows_are inputs actions rows every =
   where
     trim : (m j : ℕ) → m ≡ 0 + j → m ≡ j
     trim m j is = omega (arith, is)
+
+-- what is made of the rows that are there, in their order: the next one is above those so far
+pub there_turned : (xs : List record_of.RowTree) (row : Option Row) (rest : List (Option Row)) →
+    (xs ++ rows_there (row ∷ [])) ++ rows_there rest ≡ xs ++ rows_there (row ∷ rest)
+there_turned xs None rest = ap (λ ys. ys ++ rows_there rest) (append-nil xs)
+there_turned xs (Some r) rest = append_assoc xs (row_tree r ∷ []) (rows_there rest)
+
+all-middle : {X : Type 0} (P : X → Type 0) (xs : List X) (y : X) (ys : List X) → AllByRecursion P (xs ++ y ∷ ys) → P y
+all-middle P [] y ys all = all.0
+all-middle P (x ∷ xs) y ys all = all-middle P xs y ys all.1
+
+pub above_others : (so_far : List Row) (row : Option Row) (rest : List (Option Row)) →
+    IsInKeyOrder address_cmp address_of (map row_tree so_far ++ rows_there (row ∷ rest)) → IsAboveRows row so_far
+above_others so_far None rest order = tt
+above_others [] (Some r) rest order = tt
+above_others (x ∷ so_far) (Some r) rest order =
+    (all-middle (λ y. address_cmp x.address (address_of y) ≡ Less) (map row_tree so_far) (row_tree r) (rows_there rest) order.0, above_others so_far (Some r) rest order.1)
 
 -- the row of each action is the meaning's
 pub known_is : (inputs : InputsTree) (actions : List ActionTree) (rows : List (Option Row)) → AreAll inputs actions rows → (n : ℕ) →

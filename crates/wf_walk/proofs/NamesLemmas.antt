@@ -1,6 +1,6 @@
 -- What the inputs ask for by name, tested call by call.
 use Rattle.std.specs.declared.alloc.Global.{Global}
-use Rattle.std.proofs.Common.{◌≡◌, ℕ, suc, ◌+◌, ◌<◌, ◌≤◌, Bool, true, false, ◌&&◌, List, [], ◌∷◌, ◌++◌, length, Option, Some, None, slice_get, refl, sym, ap, ◌∙◌, arith, bytes_eq, if◌then◌else◌, Vec}
+use Rattle.std.proofs.Common.{◌≡◌, ℕ, suc, ◌+◌, ◌<◌, ◌≤◌, zero, Bool, true, false, ◌&&◌, List, [], ◌∷◌, ◌++◌, length, Option, Some, None, slice_get, refl, sym, ap, ◌∙◌, arith, bytes_eq, if◌then◌else◌, Vec}
 use Rattle.std.specs.List.{list_all}
 use Rattle.wf_val.specs.Function.{function_of}
 use Rattle.wf_val.specs.declared.function.Fun.{Fun}
@@ -16,7 +16,7 @@ use Rattle.wf_meaning.specs.Marks.{is_marked}
 use Rattle.wf_meaning.specs.Names.{is_before, named_before, use_before, uses_before, names_before}
 use Rattle.wf_meaning.specs.Rounds.{places}
 use Rattle.wf_walk.specs.Before.{IsTable, inputs_marked, row_of}
-use Rattle.wf_walk.specs.Calls.{expr_passes, exprs_pass, piece_passes, pieces_pass, template_passes, tree_passes, trees_pass, members_pass, asked_name, is_found, is_name_marked, asks_marked}
+use Rattle.wf_walk.specs.Calls.{expr_passes, exprs_pass, piece_passes, pieces_pass, template_passes, tree_passes, trees_pass, members_pass, asked_name, is_found, is_name_marked, asks_marked, is_name_before, asks_before}
 
 and_true : (b : Bool) → (b && true) ≡ b
 and_true true = refl
@@ -147,3 +147,49 @@ pub names_same : (actions : List ActionTree) (table : List (Vec Bool Global)) �
 names_same actions table is =
     all_places (λ n. inputs_marked actions (row_of table n) (slice_get actions n)) (λ n. uses_before actions n (slice_get actions n)) 0 actions
     (λ m le lt. inputs_same actions m (row_of table m) (λ p within. is.exact m p (omega (arith, lt)) within) (slice_get actions m))
+
+-- ---- the same without a table
+
+-- the marks of what comes before an action
+abbrev marks_from : List ActionTree → ℕ → ℕ → List ActionTree → List Bool
+marks_from actions n p [] = []
+marks_from actions n p (a ∷ more) = is_before actions p n ∷ marks_from actions n (suc p) more
+
+marked_at : (actions : List ActionTree) (n p : ℕ) (more : List ActionTree) (i : ℕ) → i < length more
+    → is_marked (marks_from actions n p more) i ≡ is_before actions (p + i) n
+marked_at actions n p [] i lt = absurd (omega (arith, lt))
+marked_at actions n p (a ∷ more) zero lt = ap (λ m. is_before actions m n) (omega arith)
+marked_at actions n p (a ∷ more) (suc i) lt = marked_at actions n (suc p) more i (omega (arith, lt)) ∙ ap (λ m. is_before actions m n) (omega arith)
+
+module _ (actions : List ActionTree) (n : ℕ) where
+  abbrev own_marks : List Bool
+  own_marks = marks_from actions n 0 actions
+
+  own_exact : (p : ℕ) → p < length actions → is_marked own_marks p ≡ is_before actions p n
+  own_exact p lt = marked_at actions n 0 actions p lt ∙ ap (λ m. is_before actions m n) (omega arith)
+
+  asked_same : (asked : Option (List ℕ)) → is_name_marked actions own_marks asked ≡ is_name_before actions n asked
+  asked_same None = refl
+  asked_same (Some k) = sym (found_same actions n own_marks own_exact (place_of actions k) (λ p is. place_within 0 actions k p is))
+
+  tests_same : asks_marked actions own_marks ≡ asks_before actions n
+  tests_same = λ i name es. asked_same (asked_name es (function_of name)) i
+
+  uses_pass : (a : ActionTree) → tree_passes (asks_before actions n) a.inputs ≡ true → uses_before actions n (Some a) ≡ true
+  uses_pass a passes = sym (inputs_same actions n own_marks own_exact (Some a)) ∙ ap (λ t. tree_passes t a.inputs) tests_same ∙ passes
+
+  uses_fine : ((a : ActionTree) → slice_get actions n ≡ Some a → tree_passes (asks_before actions n) a.inputs ≡ true)
+      → (found : Option ActionTree) → slice_get actions n ≡ found → uses_before actions n found ≡ true
+  uses_fine each None is = refl
+  uses_fine each (Some a) is = uses_pass a (each a is)
+
+all_fine : (test : ℕ → Bool) (n : ℕ) (actions : List ActionTree) → ((m : ℕ) → test m ≡ true) → list_all test (places n actions) ≡ true
+all_fine test n [] fine = refl
+all_fine test n (a ∷ more) fine = ap (λ b. b && list_all test (places (suc n) more)) (fine n) ∙ all_fine test (suc n) more fine
+
+pub names_by_calls : (actions : List ActionTree)
+    → ((n : ℕ) (a : ActionTree) → slice_get actions n ≡ Some a → tree_passes (asks_before actions n) a.inputs ≡ true)
+    → names_before actions ≡ true
+names_by_calls actions each =
+    all_fine (λ n. uses_before actions n (slice_get actions n)) 0 actions
+    (λ n. uses_fine actions n (λ a is. each n a is) (slice_get actions n) refl)

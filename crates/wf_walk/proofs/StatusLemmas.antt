@@ -2,11 +2,12 @@
 use Rattle.std.proofs.Common.{◌≡◌, ◌+◌, ℕ, zero, suc, ◌<◌, ◌≤◌, Bool, true, false, ◌||◌, ◌&&◌, not, List, [], ◌∷◌, length, set, replicate, Option, Some, None, is_some, slice_get, inl, inr, ⊎_elim, refl, sym, ap, ◌∙◌, subst, arith, nat_eq, eqb-true, if◌then◌else◌, true≢false}
 use Rattle.std.specs.List.{list_all, list_any}
 use Rattle.wf_layers.specs.Address.{Table, address}
-use Rattle.wf_layers.specs.Definition.{Need, Names, Failed, Succeeded}
+use Rattle.wf_layers.specs.Definition.{Need, Names}
+use Rattle.wf_record.specs.declared.status.Status.TheVariants.{Failed, Succeeded}
 use Rattle.wf_layers.proofs.Basics.{two, and_in}
 use Rattle.wf_meaning.specs.Definition.{ActionTree}
 use Rattle.wf_meaning.specs.Marks.{is_marked, is_ready}
-use Rattle.wf_meaning.specs.Record as record_of
+use Rattle.wf_record.specs.Record as record_of
 use Rattle.wf_meaning.specs.Rounds.{waits_for, is_waiting, all_end, places}
 use Rattle.wf_meaning.specs.Status.{judge_row, any_named, fails, is_named, graph_status}
 use Rattle.wf_meaning.proofs.Instance.{waited_there}

@@ -9,6 +9,7 @@ use Rattle.wf_eval.specs.Value.{literal_name}
 use Rattle.wf_meaning.specs.Definition.{ActionTree}
 use Rattle.wf_meaning.specs.Look.{place_of}
 use Rattle.wf_meaning.specs.Marks.{is_marked}
+use Rattle.wf_meaning.specs.Names.{named_before}
 
 -- a test of a call, by its name as it is written and its arguments
 abbrev pub Test : Type 0
@@ -78,3 +79,12 @@ is_name_marked actions marks (Some k) = is_found marks (place_of actions k)
 -- a call asks for no action that isn't marked
 abbrev pub asks_marked : List ActionTree → List Bool → Test
 asks_marked actions marks name es = is_name_marked actions marks (asked_name es (function_of name))
+
+-- what is asked for by name is an action before the one of this number
+abbrev pub is_name_before : List ActionTree → ℕ → Option (List ℕ) → Bool
+is_name_before actions n None = true
+is_name_before actions n (Some k) = named_before actions n (place_of actions k)
+
+-- a call asks for no other action
+abbrev pub asks_before : List ActionTree → ℕ → Test
+asks_before actions n name es = is_name_before actions n (asked_name es (function_of name))

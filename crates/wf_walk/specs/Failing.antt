@@ -4,7 +4,7 @@ use Rattle.wf_layers.specs.Address.{Table}
 use Rattle.wf_layers.specs.Definition.{Need}
 use Rattle.wf_meaning.specs.Definition.{ActionTree}
 use Rattle.wf_meaning.specs.Marks.{is_marked}
-use Rattle.wf_meaning.specs.Record as record_of
+use Rattle.wf_record.specs.Record as record_of
 use Rattle.wf_meaning.specs.Status.{fails}
 use Rattle.wf_walk.specs.Before.{with_mark}
 

@@ -7,20 +7,12 @@ use Rattle.wf_layers.specs.Address as layered
 use Rattle.wf_layers.specs.Definition as definition
 use Rattle.wf_meaning.specs.Definition.{ActionTree, InputsTree}
 use Rattle.wf_walk.specs.declared.action.Given.{Given}
-use Rattle.wf_meaning.specs.Flat.{empty_object}
-use Rattle.wf_meaning.specs.Record as record_of
+use Rattle.wf_meaning.specs.Statuses.{status_tree}
+use Rattle.wf_record.specs.Seen.{row_tree}
+use Rattle.wf_record.specs.Record as record_of
 use Rattle.wf_walk.specs.declared.action.Action.{Action}
 use Rattle.wf_walk.specs.declared.action.After.{After}
-use Rattle.wf_walk.specs.declared.action.Row.{Row}
-use Rattle.wf_walk.specs.declared.action.Status.{Status}
-use Rattle.wf_walk.specs.declared.action.Status.TheVariants.{Succeeded, Failed, Skipped, TimedOut, Cancelled}
-
-abbrev pub status_tree : Status → definition.Status
-status_tree Succeeded = definition.Succeeded
-status_tree Failed = definition.Failed
-status_tree Skipped = definition.Skipped
-status_tree TimedOut = definition.TimedOut
-status_tree Cancelled = definition.Cancelled
+use Rattle.wf_record.specs.declared.row.Row.{Row}
 
 abbrev pub need_tree : After → definition.Need
 need_tree a = record { name = a.place; listed = map status_tree a.listed.items }
@@ -28,26 +20,15 @@ need_tree a = record { name = a.place; listed = map status_tree a.listed.items }
 abbrev pub action_tree : Action → ActionTree
 action_tree a = record { name = a.name; after = map need_tree a.after.items; inputs = data_tree a.inputs }
 
-abbrev pub row_tree : Row → record_of.Row
-row_tree r = record {
-  status = status_tree r.status;
-  code = r.code;
-  inputs = tree r.inputs;
-  outputs = tree r.outputs;
-  error = tree r.error;
-  tracked = empty_object;
-  attempts = 0;
-}
-
--- the row at its address
-abbrev pub named_row : Row → record_of.RowTree
-named_row r = record { address = record { name = r.name; at = [] }; row = row_tree r }
+-- what is known of an action that has ended, its address apart
+abbrev pub row_content : Row → record_of.Row
+row_content r = (row_tree r).row
 
 -- the rows that are there, at their addresses
 abbrev pub rows_there : List (Option Row) → List record_of.RowTree
 rows_there [] = []
 rows_there (None ∷ rows) = rows_there rows
-rows_there (Some r ∷ rows) = named_row r ∷ rows_there rows
+rows_there (Some r ∷ rows) = row_tree r ∷ rows_there rows
 
 abbrev pub has_row : Option Row → Bool
 has_row None = false
@@ -62,7 +43,7 @@ ComesTo (Err f) a = is_memory f ≡ false → a ≡ Err f
 abbrev pub known_row : Option (Option Row) → Option record_of.Row
 known_row None = None
 known_row (Some None) = None
-known_row (Some (Some r)) = Some (row_tree r)
+known_row (Some (Some r)) = Some (row_content r)
 
 abbrev pub row_at : List (Option Row) → ℕ → Option record_of.Row
 row_at rows n = known_row (slice_get rows n)

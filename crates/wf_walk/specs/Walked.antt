@@ -1,12 +1,15 @@
 -- What a walk keeps and comes to.
-use Rattle.std.specs.Prelude.{◌≡◌, ℕ, ◌<◌, Bool, true, ◌&&◌, List, [], ◌∷◌, Option, Some, is_some, length, slice_get}
+use Rattle.std.specs.Prelude.{◌≡◌, ⊤, ℕ, ◌<◌, Bool, true, ◌&&◌, List, [], ◌∷◌, Option, None, Some, is_some, length, slice_get}
+use Rattle.wf_lists.specs.KeyOrder.{IsAboveKeys}
+use Rattle.wf_val.specs.Address.{address_cmp}
 use Rattle.wf_layers.specs.Address.{Table, address}
 use Rattle.wf_layers.specs.Definition.{Need}
 use Rattle.wf_meaning.specs.Definition.{ActionTree, InputsTree}
 use Rattle.wf_meaning.specs.Laws.{AreMeanings, AreClosed}
-use Rattle.wf_meaning.specs.Record as record_of
+use Rattle.wf_meaning.specs.Meaning.{instance}
+use Rattle.wf_record.specs.Record as record_of
 use Rattle.wf_walk.specs.Seen.{known_of, row_at}
-use Rattle.wf_walk.specs.declared.action.Row.{Row}
+use Rattle.wf_record.specs.declared.row.Row.{Row}
 
 -- each action that is waited for has a row
 abbrev pub all_there : List Need → Table record_of.Row → Bool
@@ -17,9 +20,14 @@ all_there (need ∷ needs) known = is_some (known (address need.name [])) && all
 abbrev pub AreRight : InputsTree → List ActionTree → List (Option Row) → Type 0
 AreRight inputs actions rows = AreMeanings inputs actions (known_of rows) × AreClosed actions (known_of rows)
 
--- a row bears the name of its action
+-- a row stands at the address of its action
 abbrev pub AreNamed : List ActionTree → List (Option Row) → Type 0
-AreNamed actions rows = (n : ℕ) (a : ActionTree) (r : Row) → slice_get actions n ≡ Some a → slice_get rows n ≡ Some (Some r) → r.name ≡ a.name
+AreNamed actions rows = (n : ℕ) (a : ActionTree) (r : Row) → slice_get actions n ≡ Some a → slice_get rows n ≡ Some (Some r) → r.address ≡ instance a
+
+-- a row that is there stands above the others
+abbrev pub IsAboveRows : Option Row → List Row → Type 0
+IsAboveRows None rows = ⊤
+IsAboveRows (Some r) rows = IsAboveKeys address_cmp (λ x. x.address) r.address rows
 
 -- all rows are there, and are the meaning's
 pub record AreAll (inputs : InputsTree) (actions : List ActionTree) (rows : List (Option Row)) : Type 0 where

@@ -1,16 +1,7 @@
-// Actions, and the rows that they leave.
+// Actions, and what a run of them is handed.
+use wf_record::Status;
 use wf_template::Tree;
 use wf_val::{Text, Val};
-
-/// How an action or a graph ended.
-#[derive(Clone, Copy, Debug, PartialEq, Eq)]
-pub enum Status {
-    Succeeded,
-    Failed,
-    Skipped,
-    TimedOut,
-    Cancelled,
-}
 
 /// An entry of `runAfter`: the number of an action, and the statuses that are listed for it. Where it ended in none of them, the
 /// action that waits for it is Skipped.
@@ -27,18 +18,6 @@ pub struct Action {
     pub name: Text,
     pub after: Vec<After>,
     pub inputs: Tree,
-}
-
-/// What is known of an action that has ended. The code is `OK`, `InvalidTemplate` or `ActionSkipped`, and the error is the text of
-/// a fault, or null.
-#[derive(Drop)]
-pub struct Row {
-    pub name: Text,
-    pub status: Status,
-    pub code: Text,
-    pub inputs: Val,
-    pub outputs: Val,
-    pub error: Val,
 }
 
 /// What a run is handed: its name, the seed of its words, its moment in ticks of 100 ns since 0001-01-01T00:00:00, and the value of

@@ -69,8 +69,9 @@ fn no_table(alloc: Global, actions: &[Action]) -> Result<Vec<Vec<bool>>, AllocEr
     Ok(table)
 }
 
-// Of each action, the marks of those that come before it.
-fn table_of(alloc: Global, actions: &[Action]) -> Result<Vec<Vec<bool>>, AllocError>
+/// Of each action, in the order of their numbers, the marks of those that come before it: of those that it waits for, at however
+/// many removes.
+pub fn before_table(alloc: Global, actions: &[Action]) -> Result<Vec<Vec<bool>>, AllocError>
     requires { all_end (map action_tree actions.now) ≡ true }
     ensures { IfOk result (λ table. IsTable (map action_tree actions.now) table.items) }
 {
@@ -97,8 +98,8 @@ pub fn literal_name<'a>(args: &'a [Expr]) -> Option<&'a Text>
     }
 }
 
-// The name by which a function asks for the row of an action.
-fn asked_name<'a>(function: Option<Fun>, args: &'a [Expr]) -> Option<&'a Text>
+/// The name by which a function asks for the row of an action.
+pub fn asked_name<'a>(function: Option<Fun>, args: &'a [Expr]) -> Option<&'a Text>
     ensures { option_map (λ k. k.now) result ≡ asked_name (expr_trees (map expr_tree args.now)) function }
 {
     match function {
@@ -163,6 +164,6 @@ pub fn names_before(alloc: Global, actions: &[Action]) -> Result<bool, AllocErro
     requires { all_end (map action_tree actions.now) ≡ true }
     ensures { IfOk result (λ b. b ≡ names_before (map action_tree actions.now)) }
 {
-    let table = table_of(alloc, actions)?;
+    let table = before_table(alloc, actions)?;
     Ok(all_marked(actions, &table))
 }

@@ -9,6 +9,7 @@ use crate::action::{Action, After};
 use crate::topological::topological_order;
 use std::alloc::{AllocError, Global};
 
+/// Whether the action of a number is marked; one that isn't there isn't.
 pub fn is_marked(marks: &[bool], place: usize) -> bool
     ensures { result ≡ is_marked marks.now place }
 {

@@ -1,12 +1,13 @@
 // What the inputs of an action see.
 ghost use Rattle.std.specs.Prelude.{◌≡◌, IfOk, [], map, option_map};
 ghost use Rattle.wf_val.specs.Seen.{tree};
-ghost use Rattle.wf_meaning.specs.Look.{place_of, status_name, view_of, told_at};
-ghost use Rattle.wf_walk.specs.Seen.{action_tree, known_of, known_row, row_tree, status_tree};
+ghost use Rattle.wf_meaning.specs.Look.{place_of, view_of, told_at};
+ghost use Rattle.wf_walk.specs.Seen.{action_tree, known_of, known_row, row_content};
 
-use crate::action::{Action, Row, Status};
+use crate::action::Action;
 use std::alloc::{AllocError, Global};
 use wf_eval::{Look, word_of};
+use wf_record::Row;
 use wf_val::{Fields, Name, Text, Val};
 
 /// What the inputs of an action of a flat graph see: the rows of the actions that have ended.
@@ -34,22 +35,9 @@ pub fn place_of(actions: &[Action], name: &Text) -> Option<usize>
     None
 }
 
-/// The word that stands for a status in a record.
-pub fn status_name(status: Status) -> &'static str
-    ensures { result.now ≡ status_name (status_tree status) }
-{
-    match status {
-        Status::Succeeded => "Succeeded",
-        Status::Failed => "Failed",
-        Status::Skipped => "Skipped",
-        Status::TimedOut => "TimedOut",
-        Status::Cancelled => "Cancelled",
-    }
-}
-
 // What `actions` gives of an action that has ended.
 fn view_of(alloc: Global, name: &Text, row: &Row) -> Result<Val, AllocError>
-    ensures { IfOk result (λ v. tree v ≡ view_of name.now (row_tree row.now)) }
+    ensures { IfOk result (λ v. tree v ≡ view_of name.now (row_content row.now)) }
 {
     let mut fields = Fields::new(alloc);
     fields.put(Text::of(alloc, "code")?, Val::Text(row.code.copy(alloc)?))?;
@@ -59,7 +47,7 @@ fn view_of(alloc: Global, name: &Text, row: &Row) -> Result<Val, AllocError>
     fields.put(Text::of(alloc, "outputs")?, row.outputs.copy(alloc)?)?;
     fields.put(
         Text::of(alloc, "status")?,
-        Val::Text(Text::of(alloc, status_name(row.status))?),
+        Val::Text(Text::of(alloc, row.status.name())?),
     )?;
     Ok(Val::Obj(fields))
 }

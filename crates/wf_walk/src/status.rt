@@ -2,22 +2,23 @@
 ghost use Rattle.std.specs.Prelude.{◌≡◌, ◌&&◌, [], Some, true, false, map, not, option_map, replicate, length, if◌then◌else◌, IfOk};
 ghost use Rattle.std.specs.List.{list_any};
 ghost use Rattle.wf_layers.specs.Address.{address};
-ghost use Rattle.wf_layers.specs.Definition as layered;
 ghost use Rattle.wf_meaning.specs.Marks.{is_marked};
 ghost use Rattle.wf_meaning.specs.Rounds.{all_end, places};
 ghost use Rattle.wf_meaning.specs.Status.{graph_status, judge, judge_row};
 ghost use Rattle.wf_walk.specs.Failing.{AreFails, all_named, needs_named};
-ghost use Rattle.wf_walk.specs.Seen.{action_tree, known_of, known_row, need_tree, status_tree};
+ghost use Rattle.wf_walk.specs.Seen.{action_tree, known_of, known_row, need_tree};
+ghost use Rattle.wf_record.specs.declared.status.Status.TheVariants.{Failed, Succeeded};
 
-use crate::action::{Action, After, Row, Status};
+use crate::action::{Action, After};
 use crate::before::mark;
 use crate::cycles::{is_marked, next_ready};
 use crate::topological::topological_order;
 use std::alloc::{AllocError, Global};
+use wf_record::{Row, Status};
 
 // Whether a judged row fails its graph, where a Skipped one hands the judgement on.
 fn judge(status: Status, handed: bool) -> bool
-    ensures { result ≡ judge (status_tree status) handed }
+    ensures { result ≡ judge status handed }
 {
     match status {
         Status::Succeeded => false,
@@ -109,7 +110,7 @@ fn any_fails(actions: &[Action], named: &[bool], fails: &[bool]) -> bool
 }
 
 fn status_of(failed: bool) -> Status
-    ensures { status_tree result ≡ (if failed then layered.Failed else layered.Succeeded) }
+    ensures { result ≡ (if failed then Failed else Succeeded) }
 {
     if failed {
         Status::Failed
@@ -125,7 +126,7 @@ pub fn graph_status(
     rows: &[Option<Row>],
 ) -> Result<Status, AllocError>
     requires { all_end (map action_tree actions.now) ≡ true }
-    ensures { IfOk result (λ status. status_tree status ≡ graph_status (map action_tree actions.now) (known_of rows.now)) }
+    ensures { IfOk result (λ status. status ≡ graph_status (map action_tree actions.now) (known_of rows.now)) }
 {
     let fails = fails_of(alloc, actions, rows)?;
     let named = named_of(alloc, actions)?;

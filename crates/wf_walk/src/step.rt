@@ -1,22 +1,21 @@
 // The row of an action, from the rows of those that have ended.
-ghost use Rattle.std.specs.Prelude.{◌≡◌, [], IfOk, map};
+ghost use Rattle.std.specs.Prelude.{◌≡◌, [], IfOk, map, option_map};
 ghost use Rattle.wf_val.specs.Seen.{tree};
 ghost use Rattle.wf_layers.specs.Address.{address};
 ghost use Rattle.wf_layers.specs.Source.{is_listed};
-ghost use Rattle.wf_meaning.specs.Meaning.{is_met, needs_met, row_in};
+ghost use Rattle.wf_meaning.specs.Meaning.{instance, instance_of, is_met, needs_met, row_in};
 ghost use Rattle.wf_meaning.specs.Flat.{skipped, composed, faulted, ended};
-ghost use Rattle.wf_walk.specs.Seen.{action_tree, given_tree, known_of, known_row, need_tree, row_tree, status_tree};
-ghost use Rattle.std.specs.Prelude.{option_map};
-ghost use Rattle.wf_val.specs.Arguments.{Answer};
-ghost use Rattle.wf_walk.specs.Seen.{ComesTo, named_row};
-ghost use Rattle.wf_val.specs.Arguments.{seen};
+ghost use Rattle.wf_walk.specs.Seen.{ComesTo, action_tree, given_tree, known_of, known_row, need_tree, row_content};
+ghost use Rattle.wf_meaning.specs.Statuses.{status_tree};
+ghost use Rattle.wf_val.specs.Arguments.{Answer, seen};
 
-use crate::action::{Action, After, Given, Row, Status};
+use crate::action::{Action, After, Given};
 use crate::flat_look::FlatLook;
 use std::alloc::{AllocError, Global};
 use wf_eval::eval_tree;
 use wf_json::fault_text;
-use wf_val::{EvalFault, Text, Val};
+use wf_record::{Row, Status};
+use wf_val::{Address, EvalFault, Fields, Indexes, Name, Text, Val};
 
 // Whether the status is one of these.
 fn is_listed(listed: &[Status], status: Status) -> bool
@@ -58,51 +57,67 @@ pub fn needs_met(after: &[After], rows: &[Option<Row>]) -> bool
     true
 }
 
+// The address of an action that stands in no loop.
+fn outside_loops(alloc: Global, name: &Name) -> Result<Address, AllocError>
+    ensures { IfOk result (λ address. address ≡ instance_of name.now) }
+{
+    Ok(Address {
+        name: name.copy(alloc)?,
+        at: Indexes::new(alloc),
+    })
+}
+
 /// The row of an action that doesn't run.
 fn skipped(alloc: Global, name: &Text) -> Result<Row, AllocError>
-    ensures { IfOk result (λ row. (row_tree row ≡ skipped) × (row.name ≡ name.now)) }
+    ensures { IfOk result (λ row. (row_content row ≡ skipped) × (row.address ≡ instance_of name.now)) }
 {
     Ok(Row {
-        name: name.copy(alloc)?,
+        address: outside_loops(alloc, name)?,
         status: Status::Skipped,
         code: Text::of(alloc, "ActionSkipped")?,
         inputs: Val::Null,
         outputs: Val::Null,
         error: Val::Null,
+        tracked: Val::Obj(Fields::new(alloc)),
+        attempts: 0,
     })
 }
 
 /// The row of a Compose action, which takes its inputs in and gives them out.
 fn composed(alloc: Global, name: &Text, inputs: Val) -> Result<Row, AllocError>
-    ensures { IfOk result (λ row. (row_tree row ≡ composed (tree inputs)) × (row.name ≡ name.now)) }
+    ensures { IfOk result (λ row. (row_content row ≡ composed (tree inputs)) × (row.address ≡ instance_of name.now)) }
 {
     Ok(Row {
-        name: name.copy(alloc)?,
+        address: outside_loops(alloc, name)?,
         status: Status::Succeeded,
         code: Text::of(alloc, "OK")?,
         outputs: inputs.copy(alloc)?,
         inputs,
         error: Val::Null,
+        tracked: Val::Obj(Fields::new(alloc)),
+        attempts: 0,
     })
 }
 
 // The row of an action whose inputs have no value.
 fn faulted(alloc: Global, name: &Text, fault: &EvalFault) -> Result<Row, AllocError>
-    ensures { IfOk result (λ row. (row_tree row ≡ faulted fault.now) × (row.name ≡ name.now)) }
+    ensures { IfOk result (λ row. (row_content row ≡ faulted fault.now) × (row.address ≡ instance_of name.now)) }
 {
     Ok(Row {
-        name: name.copy(alloc)?,
+        address: outside_loops(alloc, name)?,
         status: Status::Failed,
         code: Text::of(alloc, "InvalidTemplate")?,
         inputs: Val::Null,
         outputs: Val::Null,
         error: Val::Text(fault_text(alloc, fault)?),
+        tracked: Val::Obj(Fields::new(alloc)),
+        attempts: 0,
     })
 }
 
 // The row that an action's inputs come to.
 fn row_of(alloc: Global, name: &Text, come_to: Result<Val, EvalFault>) -> Result<Row, AllocError>
-    ensures { IfOk result (λ row. ((a : Answer) → ComesTo (seen come_to) a → row_tree row ≡ ended a) × (row.name ≡ name.now)) }
+    ensures { IfOk result (λ row. ((a : Answer) → ComesTo (seen come_to) a → row_content row ≡ ended a) × (row.address ≡ instance_of name.now)) }
 {
     match come_to {
         Ok(value) => composed(alloc, name, value),
@@ -120,8 +135,8 @@ pub fn row_in(
     rows: &[Option<Row>],
     action: &Action,
 ) -> Result<Row, AllocError>
-    ensures row { IfOk result (λ row. row_tree row ≡ row_in (given_tree given.now) (map action_tree actions.now) (known_of rows.now) (action_tree action.now)) }
-    ensures name { IfOk result (λ row. row.name ≡ action.now.name) }
+    ensures row { IfOk result (λ row. row_content row ≡ row_in (given_tree given.now) (map action_tree actions.now) (known_of rows.now) (action_tree action.now)) }
+    ensures address { IfOk result (λ row. row.address ≡ instance (action_tree action.now)) }
 {
     if !needs_met(&action.after, rows) {
         return skipped(alloc, &action.name);

@@ -3,7 +3,7 @@ use Rattle.std.specs.Prelude.{◌≢◌, codes}
 use Rattle.std.proofs.lemmas.Result.{err_from_is_err_and}
 use Rattle.wf_top.specs.Commands.{judged_definition}
 use Rattle.wf_top.specs.Form.{definition_of, fault_line, form_of}
-use Rattle.wf_top.specs.Seen.{definition_tree}
+use Rattle.wf_plain.specs.Seen.{definition_tree}
 use Rattle.wf_top.specs.declared.form.FormFault.{FormFault}
 use Rattle.wf_top.specs.declared.said.Verdict.TheVariants.{Definition}
 use Rattle.wf_top.proofs.Following.{reaches_fault, reaches_read}

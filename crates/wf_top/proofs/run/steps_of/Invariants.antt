@@ -1,10 +1,10 @@
 use Rattle.std.proofs.Common.{◌≡◌, ◌≤◌, ◌+◌, ◌*◌, drop, map}
-use Rattle.wf_top.specs.Record.{steps_of}
-use Rattle.wf_walk.specs.Seen.{named_row}
+use Rattle.wf_top.specs.Summary.{steps_of}
+use Rattle.wf_record.specs.Seen.{row_tree}
 use Rattle.wf_top.proofs.run.steps_of.Given as goal
 
 abbrev pub invariant-loop-row : goal.invariant-loop-row
 invariant-loop-row l = record {
   bound : l.steps ≤ 2 * l.row-index;
-  whole : l.steps + steps_of (map named_row (drop l.row-index l.rows)) ≡ steps_of (map named_row l.rows);
+  whole : l.steps + steps_of (map row_tree (drop l.row-index l.rows)) ≡ steps_of (map row_tree l.rows);
 }

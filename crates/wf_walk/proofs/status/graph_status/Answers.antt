@@ -1,6 +1,6 @@
 use Rattle.std.proofs.Common.{◌≡◌, false, length, map, replicate, sym, ap, ◌∙◌, if◌then◌else◌}
 use Rattle.std.proofs.lemmas.List.{length-map}
-use Rattle.wf_layers.specs.Definition.{Failed, Succeeded}
+use Rattle.wf_record.specs.declared.status.Status.TheVariants.{Failed, Succeeded}
 use Rattle.wf_walk.specs.Failing.{all_named}
 use Rattle.wf_walk.specs.Seen.{action_tree, known_of}
 use Rattle.wf_walk.proofs.StatusLemmas.{any_fails_is}

@@ -2,10 +2,10 @@ use Rattle.std.proofs.Common.{◌≡◌, ◌<◌, true, false, List, Bool, Optio
 use Rattle.std.proofs.lemmas.List.{length-map, length-replicate}
 use Rattle.wf_meaning.proofs.Marks.{marked_less, marked_more, first_size, first_count, first_ended, one_more}
 use Rattle.wf_walk.proofs.Ends.{every_marked}
-use Rattle.wf_meaning.specs.Meaning.{row_in}
-use Rattle.wf_walk.specs.Seen.{action_tree, given_tree, known_of, row_tree}
+use Rattle.wf_meaning.specs.Meaning.{instance, row_in}
+use Rattle.wf_walk.specs.Seen.{action_tree, given_tree, known_of, row_content}
 use Rattle.wf_walk.specs.declared.action.Action.{Action}
-use Rattle.wf_walk.specs.declared.action.Row.{Row}
+use Rattle.wf_record.specs.declared.row.Row.{Row}
 use Rattle.wf_walk.proofs.Kept.{at_place, kept, none_right, set_tied, ready_there, first_tied, there_at, named_kept, none_named}
 use Rattle.wf_walk.proofs.walking.make_rows.Goals as goal
 
@@ -57,8 +57,8 @@ loop-place-preserved c =
     let is : slice_get (map action_tree xs) c.in-Some.place ≡ Some (action_tree a) =
     at_place action_tree xs c.in-Some.place a lt ∙ ap (λ b. Some (action_tree b)) (sym c.index-actions-place.is) in
     let there = ready_there bs rows (action_tree a) (slice_get (map action_tree xs) c.in-Some.place) c.loop-place.invariant.tied is ready in
-    let made : row_tree r ≡ row_in (given_tree c.args.given.now) (map action_tree xs) (known_of rows) (action_tree a) = search rules in
-    let name : r.name ≡ a.name = search rules in
+    let made : row_content r ≡ row_in (given_tree c.args.given.now) (map action_tree xs) (known_of rows) (action_tree a) = search rules in
+    let name : r.address ≡ instance (action_tree a) = search rules in
     let steps = c.a_walk_makes_the_meanings_rows.ensures (given_tree c.args.given.now) (map action_tree xs) c.requires.ends c.requires.before in
     record {
       same = length-set bs c.in-Some.place true ∙ c.loop-place.invariant.same;

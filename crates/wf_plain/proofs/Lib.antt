@@ -1,0 +1,4 @@
+pub mod RootLemmas
+pub mod UnbuiltLemmas
+pub mod FlatLemmas
+pub mod WorkedRows

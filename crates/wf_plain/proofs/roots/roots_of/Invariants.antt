@@ -1,0 +1,13 @@
+use Rattle.std.proofs.Common.{◌≡◌, ℕ, List, map, drop}
+use Rattle.std.specs.Option.{option_or}
+use Rattle.wf_def.specs.ActionSeen.{action_tree}
+use Rattle.wf_def.specs.Names.{names_in}
+use Rattle.wf_plain.specs.Flat.{place_from, root_of}
+use Rattle.wf_plain.specs.Seen.{place_found}
+use Rattle.wf_plain.proofs.roots.roots_of.Given as goal
+
+-- the places that are kept, and else those in the rest, are those in all
+abbrev pub invariant-loop-place : goal.invariant-loop-place
+invariant-loop-place l =
+    (k : List ℕ) → option_or (place_found l.roots k) (place_from names_in l.place (map action_tree (drop l.place l.tops)) k)
+    ≡ root_of (map action_tree l.tops) k

@@ -1,0 +1,5 @@
+pub mod Flat
+pub mod Unbuilt
+pub mod Plain
+pub mod Seen
+pub mod ActionOrder

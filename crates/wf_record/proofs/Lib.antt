@@ -1,0 +1,4 @@
+pub mod CostLemmas
+pub mod FoundLemmas
+pub mod LineLemmas
+mod Rows

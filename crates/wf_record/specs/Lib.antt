@@ -1,0 +1,5 @@
+pub mod Cost
+pub mod Line
+pub mod Record
+pub mod Seen
+pub mod Worked

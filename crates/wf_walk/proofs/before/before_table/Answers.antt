@@ -1,0 +1,78 @@
+use Rattle.std.specs.declared.alloc.Global.{Global}
+use Rattle.std.proofs.Common.{◌≡◌, ◌<◌, true, false, List, Bool, Vec, Some, length, map, replicate, slice_get, sym, ap, ◌∙◌, arith, rules, length-set}
+use Rattle.std.proofs.lemmas.List.{length-map}
+use Rattle.wf_meaning.proofs.Marks.{marked_less, marked_more, first_size, first_count, first_ended, one_more}
+use Rattle.wf_walk.specs.Before.{all_before}
+use Rattle.wf_walk.specs.Seen.{action_tree, need_tree}
+use Rattle.wf_walk.specs.declared.action.Action.{Action}
+use Rattle.wf_walk.proofs.BeforeLemmas.{exact_kept, none_exact}
+use Rattle.wf_walk.proofs.Ends.{every_marked}
+use Rattle.wf_walk.proofs.Kept.{at_place}
+use Rattle.wf_walk.proofs.before.before_table.Goals as goal
+
+pub loop-place-init : goal.loop-place-init
+loop-place-init c =
+    let bs : List Bool = c.in_ok-marks.marks.items in
+    let none : bs ≡ replicate (length c.args.actions.now) false = c.in_ok-marks.ensures.items_if_clones_equal (λ y h. h) in
+    let size : length (map action_tree c.args.actions.now) ≡ length c.args.actions.now = length-map c.args.actions.now action_tree in
+    record {
+      same = first_size bs _ none;
+      counted = first_count bs _ none;
+      ended = first_ended _ bs _ none;
+      size = c.in_ok-table.ensures;
+      exact = none_exact (map action_tree c.args.actions.now) bs c.in_ok-table.table.items (none ∙ ap (λ n. replicate n false) (sym size));
+    }
+
+pub overflow_add-count : goal.overflow_add-count
+overflow_add-count c =
+    let bs : List Bool = c.loop-place.marks.items in
+    let within = rw c.deref.ensures.value at c.in-Some.ensures.within in
+    let off = rw c.deref.ensures.value at c.in-Some.ensures.unmarked in
+    let less = marked_less bs c.in-Some.place within off in
+    omega (arith, less, c.loop-place.invariant.counted, c.loop-place.marks.small)
+
+pub loop-place-smaller : goal.loop-place-smaller
+loop-place-smaller c =
+    let bs : List Bool = c.loop-place.marks.items in
+    let within = rw c.deref.ensures.value at c.in-Some.ensures.within in
+    let off = rw c.deref.ensures.value at c.in-Some.ensures.unmarked in
+    let less = marked_less bs c.in-Some.place within off in
+    omega (arith, less, c.loop-place.invariant.counted, c.loop-place.invariant.same)
+
+pub loop-place-preserved : goal.loop-place-preserved
+loop-place-preserved c =
+    let xs : List Action = c.args.actions.now in
+    let bs : List Bool = c.loop-place.marks.items in
+    let table : List (Vec Bool Global) = c.loop-place.table.items in
+    let a : Action = c.index-actions-place.result in
+    let row : Vec Bool Global = c.in_ok-before.before in
+    let within : c.in-Some.place < length bs = rw c.deref.ensures.value at c.in-Some.ensures.within in
+    let off = rw c.deref.ensures.value at c.in-Some.ensures.unmarked in
+    let ready = rw c.deref.ensures.value at c.in-Some.ensures.ready in
+    let more = marked_more bs c.in-Some.place within off in
+    let lt : c.in-Some.place < length xs = omega (arith, within, c.loop-place.invariant.same) in
+    let size : length (map action_tree xs) ≡ length xs = length-map xs action_tree in
+    let is : slice_get (map action_tree xs) c.in-Some.place ≡ Some (action_tree a) =
+    at_place action_tree xs c.in-Some.place a lt ∙ ap (λ b. Some (action_tree b)) (sym c.index-actions-place.is) in
+    let made : row.items ≡ all_before table (map need_tree a.after.items) (replicate (length table) false) = search rules in
+    record {
+      same = length-set bs c.in-Some.place true ∙ c.loop-place.invariant.same;
+      counted = omega (arith, more, c.loop-place.invariant.counted);
+      ended = one_more _ bs c.in-Some.place c.loop-place.invariant.ended within off ready;
+      size = length-set table c.in-Some.place row ∙ c.loop-place.invariant.size;
+      exact = exact_kept (map action_tree xs) c.requires bs table c.in-Some.place (action_tree a) row (c.loop-place.invariant.size ∙ sym size)
+          (omega (arith, lt, size)) is ready made c.loop-place.invariant.exact;
+    }
+
+pub returns : goal.returns
+returns c =
+    let xs : List Action = c.args.actions.now in
+    let bs : List Bool = c.loop-place.marks.items in
+    let stuck = rw c.deref.ensures.value at c.in_default.ensures.stuck in
+    let size : length (map action_tree xs) ≡ length xs = length-map xs action_tree in
+    record {
+      size = c.loop-place.invariant.size ∙ sym size;
+      exact = λ n p lt within. c.loop-place.invariant.exact n p
+          (every_marked (map action_tree xs) bs (c.loop-place.invariant.same ∙ sym size) c.loop-place.invariant.ended stuck c.requires n
+          (omega (arith, lt, size, c.loop-place.invariant.same))) within;
+    }
