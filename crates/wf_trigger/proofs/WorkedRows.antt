@@ -5,10 +5,11 @@ use Rattle.std.specs.Prelude.{codes, if◌then◌else◌}
 use Rattle.wf_answers.specs.Inputs.{InputsTree}
 use Rattle.wf_def.specs.DefTree.{ParamTree, TriggerTree}
 use Rattle.wf_def.specs.declared.sort.Sort.{Sort}
-use Rattle.wf_template.specs.TemplateTree.{TemplateTree, plain}
+use Rattle.wf_template.specs.ExprTree.{ExprTree, literal, call, expr_trees}
+use Rattle.wf_template.specs.TemplateTree.{TemplateTree, plain, whole}
 use Rattle.wf_trigger.specs.Choosing.{chosen}
 use Rattle.wf_trigger.specs.Parameters.{parameters_of}
-use Rattle.wf_trigger.specs.Runs.{runs_of, started}
+use Rattle.wf_trigger.specs.Runs.{runs_of, started, value_in}
 use Rattle.wf_trigger.specs.Starts.{StartTree}
 use Rattle.wf_trigger.specs.declared.fault.TriggerFault.{TriggerFault}
 use Rattle.wf_val.specs.Arguments.{Answer, wrong_type}
@@ -230,3 +231,25 @@ runs-trigger_before_parameters = refl
 runs-parameters_before_split : runs_of (p None None ∷ []) [] (trigger (Some (plain (codes "x"))) [] ∷ []) (inputs (n 5) None [])
     ≡ Err (TriggerFault.NoParameter (codes "p"))
 runs-parameters_before_split = refl
+
+-- ---- what a template of a trigger comes to
+
+abbrev called : List ℕ → List ExprTree → Answer
+called name args =
+    value_in (Some (named (codes "t"))) (inputs (of ((codes "body", list (trees two))
+    ∷ [])) None []) (is_p 3) (whole (call name (expr_trees args)))
+
+value-body : called (codes "triggerBody") [] ≡ Ok (list (trees two))
+value-body = refl
+
+value-parameter : called (codes "parameters") (literal (text (codes "p")) ∷ []) ≡ Ok (n 3)
+value-parameter = refl
+
+value-divided : called (codes "div") (literal (n 1) ∷ literal (n 0) ∷ []) ≡ Err (EvalFault.Range Fun.Div)
+value-divided = refl
+
+value-unequal : called (codes "equals") (literal (n 1) ∷ literal (n 2) ∷ []) ≡ Ok (boolean false)
+value-unequal = refl
+
+value-no_variable : called (codes "variables") (literal (text (codes "v")) ∷ []) ≡ Err (EvalFault.NoValue (codes "v"))
+value-no_variable = refl
