@@ -1,6 +1,8 @@
 -- Worked values: what of a definition isn't built, and what a run takes of it.
-use Rattle.std.proofs.Common.{◌≡◌, ℕ, List, [], ◌∷◌, ◌++◌, true, false, None, Some, Ok, Err, refl}
+use Rattle.std.proofs.Common.{◌≡◌, ℕ, List, [], ◌∷◌, ◌++◌, true, false, not, None, Some, Ok, Err, refl}
 use Rattle.std.specs.Prelude.{codes}
+use Rattle.std.specs.List.{filter}
+use Rattle.wf_val.specs.Function.{functions}
 use Rattle.wf_val.specs.declared.function.Fun.{Fun}
 use Rattle.wf_val.specs.ValueTree as value
 use Rattle.wf_template.specs.DataTree.{null, text}
@@ -34,6 +36,12 @@ abbrev definition : ActionTrees → DefTree
 definition top = record { digest = 1 ∷ []; parameters = []; given = []; triggers = []; top = top; outputs = [] }
 
 -- ---- functions
+
+-- Of the functions of the language these ten aren't built.
+unbuilt-ten : filter (λ f. not (is_built f)) functions
+    ≡ Fun.Result ∷ (Fun.Action ∷ (Fun.Item ∷ (Fun.Items ∷ (Fun.IterationIndexes ∷ (Fun.Trigger ∷ (Fun.TriggerOutputs
+    ∷ (Fun.TriggerBody ∷ (Fun.Parameters ∷ (Fun.Variables ∷ [])))))))))
+unbuilt-ten = refl
 
 built-add : is_built Fun.Add ≡ true
 built-add = refl
