@@ -1,5 +1,5 @@
 -- What is found under a key, and how large it is.
-use Rattle.std.proofs.Common.{◌≡◌, ℕ, suc, ◌<◌, length, drop, drop-cons, get_or, add-one, ◌≤◌, ◌+◌, List, [], ◌∷◌, ◌++◌, Option, Some, None, option_map, Bool, true, false, bytes_eq, refl, sym, ap, ◌∙◌, arith}
+use Rattle.std.proofs.Common.{◌≡◌, ℕ, ◌≤◌, ◌+◌, List, [], ◌∷◌, ◌++◌, Option, Some, None, option_map, Bool, true, false, bytes_eq, refl, sym, ap, ◌∙◌, arith}
 use Rattle.std.specs.Prelude.{if◌then◌else◌}
 use Rattle.std.proofs.lemmas.Map.Text.{is_eq-slice_cmp}
 use Rattle.wf_val.specs.NameOrder.{find_named}
@@ -60,7 +60,3 @@ found_smaller key (m ∷ ms) t is = elim (bytes_eq key m.0) as (λ b. bytes_eq k
   | true ↦ λ same. let here : m.1 ≡ t = some_one (sym (value_of-here key m ms same) ∙ is) in omega (arith, ap node_count here)
   | false ↦ λ other. omega (arith, found_smaller key ms t (sym (value_of-later key m ms other) ∙ is))
 ] refl
-
--- the list from a place on
-pub drop_at_place : {X : Type 0} (xs : List X) (i : ℕ) (x : X) → i < length xs → x ≡ get_or xs i x → drop i xs ≡ x ∷ drop (i + 1) xs
-drop_at_place xs i x within is = rw add-one (drop-cons xs i x within ∙ ap (λ y. y ∷ drop (suc i) xs) (sym is))

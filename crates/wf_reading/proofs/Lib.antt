@@ -1,7 +1,5 @@
 pub mod NumberLemmas
-pub mod DataLemmas
 pub mod GraphLemmas
-pub mod ConditionLemmas
 pub mod PartLemmas
 pub mod NameLemmas
 pub mod DepthLemmas

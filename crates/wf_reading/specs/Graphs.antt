@@ -8,11 +8,11 @@ use Rattle.wf_kinds.specs.Containers.{limit, repetitions}
 use Rattle.wf_kinds.specs.ActionType.{type_of}
 use Rattle.wf_kinds.specs.declared.action_type.ActionType.{ActionType}
 use Rattle.wf_def.specs.ActionTree.{ActionTree, action, KindTree, scope, branch, switch, switch_else, foreach, until, ActionTrees, no_actions, action_trees, CaseTree, case_trees}
-use Rattle.wf_reading.specs.Texts.{data_in, members_of, template_at, text_in}
-use Rattle.wf_reading.specs.Conditions.{condition_at}
+use Rattle.wf_leaves.specs.Texts.{data_in, members_of, template_at, text_in}
+use Rattle.wf_leaves.specs.Conditions.{condition_at}
 use Rattle.wf_reading.specs.Afters.{afters_of}
-use Rattle.wf_reading.specs.Leaves.{leaf_of, nothing}
-use Rattle.wf_reading.specs.Options.{lists_option}
+use Rattle.wf_leaves.specs.Leaves.{leaf_of, nothing}
+use Rattle.wf_leaves.specs.Options.{lists_option}
 
 -- an option of an action
 abbrev pub has_option : List ℕ → ValueTree → Bool

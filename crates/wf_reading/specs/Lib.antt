@@ -1,9 +1,5 @@
-pub mod Texts
-pub mod Conditions
 pub mod Numbers
 pub mod Afters
-pub mod Options
-pub mod Leaves
 pub mod Graphs
 pub mod Sections
 pub mod Meant

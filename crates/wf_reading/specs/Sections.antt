@@ -7,7 +7,7 @@ use Rattle.wf_val.specs.NameOrder.{put_named}
 use Rattle.wf_template.specs.TemplateTree.{TemplateTree}
 use Rattle.wf_def.specs.DefTree.{ParamTree, TriggerTree, OutputTree}
 use Rattle.wf_def.specs.declared.sort.Sort.{Sort}
-use Rattle.wf_reading.specs.Texts.{data_in, template_at, template_of, text_in}
+use Rattle.wf_leaves.specs.Texts.{data_in, template_at, template_of, text_in}
 
 -- the type of a parameter
 abbrev pub parameter_sort : List ℕ → Sort

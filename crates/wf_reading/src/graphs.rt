@@ -10,15 +10,14 @@ ghost use Rattle.wf_reading.specs.Graphs.{action_of, actions_of, branch_in, bran
 ghost use Rattle.wf_reading.specs.Numbers.{number_among};
 
 use crate::afters::afters_of;
-use crate::conditions::condition_at;
-use crate::leaves::{leaf_of, nothing};
 use crate::numbers::Numbers;
-use crate::options::lists_option;
-use crate::texts::{data_in, members_of, str_in, template_at};
 use std::alloc::{AllocError, Global};
 use wf_def::{Action, Actions, Case, Cases, Graph, Kind};
 use wf_json::pointer::step_to;
 use wf_kinds::{ActionType, limit, repetitions};
+use wf_leaves::{
+    condition_at, data_in, leaf_of, lists_option, members_of, nothing, str_in, template_at,
+};
 use wf_template::TreeFields;
 use wf_val::{Fields, Text, Val};
 

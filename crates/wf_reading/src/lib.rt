@@ -2,8 +2,8 @@
 //!
 //! The value of a file (RFC 8259) is read as a workflow definition (Workflow Definition Language, schema 2016-06-01), in either form of the
 //! file: the definition itself, or a wrapper whose member `definition` it is. Texts are parsed, options are read, actions get their numbers
-//! and their pointers. What stands there is `wf_def`'s types; which of them a value means is said by functions on trees, from `specs/Texts`
-//! (texts and inputs) by `specs/Leaves` and `specs/Graphs` (actions) to `specs/Sections` (parameters, triggers, outputs).
+//! and their pointers. What stands there is `wf_def`'s types; which of them a value means is said by functions on trees: what holds no
+//! graph is read by `wf_leaves`, graphs of actions by `specs/Graphs`, parameters, triggers and outputs by `specs/Sections`.
 //!
 //! Each of these functions is total, and so is the code: where a rule of `wf_form` refuses a value, it is read as something all the same,
 //! which no one asks for, so that reading has no fault but want of memory. `read_def` asks `wf_form` first, and answers the first rule that
@@ -18,16 +18,12 @@
 #![tactic(auto)]
 
 mod afters;
-mod conditions;
 mod definition;
 mod file;
 mod graphs;
 mod laws;
-mod leaves;
 mod numbers;
-mod options;
 mod sections;
-mod texts;
 
 pub use definition::{Def, RuleFault};
 pub use file::read_def;

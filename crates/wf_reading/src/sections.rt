@@ -5,9 +5,9 @@ ghost use Rattle.wf_template.specs.TemplateSeen.{template_tree};
 ghost use Rattle.wf_def.specs.DefSeen.{output_tree, param_tree, trigger_tree};
 ghost use Rattle.wf_reading.specs.Sections.{condition_template, given_by, given_in, output_of, parameter_of, parameter_sort, template_if, templates_in, trigger_of, values_in};
 
-use crate::texts::{data_in, str_in, template_at, template_of};
 use std::alloc::{AllocError, Global};
 use wf_def::{Output, Outputs, Param, Params, Sort, Templates, Trigger, Triggers};
+use wf_leaves::{data_in, str_in, template_at, template_of};
 use wf_template::Template;
 use wf_val::{Fields, Text, Val, Vals};
 

@@ -4,7 +4,7 @@ use Rattle.wf_val.specs.declared.val.Val.{Val}
 use Rattle.wf_def.specs.declared.after.After.{After}
 use Rattle.wf_reading.specs.Afters.{after_of}
 use Rattle.wf_reading.specs.Numbers.{number_among}
-use Rattle.wf_reading.proofs.GraphLemmas.{drop_at_place}
+use Rattle.wf_def.proofs.SizeLemmas.{drop_at_place}
 use Rattle.wf_reading.proofs.afters.afters_of.Goals as goal
 
 pub loop-name-preserved : goal.loop-name-preserved

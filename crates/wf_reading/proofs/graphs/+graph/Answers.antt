@@ -10,7 +10,8 @@ use Rattle.wf_def.specs.ActionTree.{ActionTree}
 use Rattle.wf_def.specs.ActionSeen.{action_tree, actions_seen}
 use Rattle.wf_reading.specs.Graphs.{action_of, actions_of, branch_of, cases_of, graph_of}
 use Rattle.wf_reading.specs.Numbers.{number_among}
-use Rattle.wf_reading.proofs.GraphLemmas.{branch_found, branch_in_is, cases_found, cases_in_is, drop_at_place, found_smaller, graph_found, graph_in_is}
+use Rattle.wf_reading.proofs.GraphLemmas.{branch_found, branch_in_is, cases_found, cases_in_is, found_smaller, graph_found, graph_in_is}
+use Rattle.wf_def.proofs.SizeLemmas.{drop_at_place}
 use Rattle.wf_reading.proofs.graphs.+graph.Goals as goal
 
 pub actions_of-action_of-requires : goal.actions_of-action_of-requires

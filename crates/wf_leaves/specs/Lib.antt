@@ -1,0 +1,4 @@
+pub mod Texts
+pub mod Conditions
+pub mod Options
+pub mod Leaves

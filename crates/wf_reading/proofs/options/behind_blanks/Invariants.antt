@@ -1,6 +1,0 @@
-use Rattle.std.proofs.Common.{◌≡◌, drop}
-use Rattle.wf_reading.specs.Options.{behind_blanks}
-use Rattle.wf_reading.proofs.options.behind_blanks.Given as goal
-
-abbrev pub invariant-loop-place : goal.invariant-loop-place
-invariant-loop-place l = behind_blanks (drop l.place l.bytes) ≡ behind_blanks l.bytes
