@@ -4,3 +4,5 @@ pub mod PlaceLemmas
 pub mod RelationLemmas
 pub mod WalkLemmas
 pub mod WorkedRows
+pub mod SeenLaws
+pub mod InsideLaws

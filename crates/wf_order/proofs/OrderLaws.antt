@@ -7,21 +7,21 @@ use Rattle.wf_paths.proofs.PathLemmas.{or_left, or_right, or_split}
 use Rattle.wf_order.specs.Order.{Among, Before, Contains, Exclusive, around, around_in, around_any, up}
 use Rattle.wf_order.proofs.RelationLemmas.{among-append, around_has, branch_has, kind_has, own_has}
 
-two : (b : Bool) → (b ≡ true) ⊎ (b ≡ false)
+pub two : (b : Bool) → (b ≡ true) ⊎ (b ≡ false)
 two true = inl refl
 two false = inr refl
 
-clash : (b : Bool) → b ≡ true → b ≡ false → ⊥
+pub clash : (b : Bool) → b ≡ true → b ≡ false → ⊥
 clash b yes' no' = true≢false (sym yes' ∙ no')
 
 -- what stands in a container isn't the container, and what stands behind is neither
-not_first : (n y : ℕ) (kind : Kind) → holds kind n ≡ false → holds kind y ≡ true → nat_eq n y ≡ false
+pub not_first : (n y : ℕ) (kind : Kind) → holds kind n ≡ false → holds kind y ≡ true → nat_eq n y ≡ false
 not_first n y kind alone held = elim (two (nat_eq n y)) [
   | inl same ↦ absurd (clash (holds kind n) (subst (λ (k : ℕ). holds kind k ≡ true) (sym (eqb-true n y same)) held) alone)
   | inr other ↦ other
 ]
 
-first_passed : (n y : ℕ) (kind : Kind) (rest : Graph) → ((m : ℕ) → (nat_eq n m || holds kind m) ≡ true → has rest m ≡ false) →
+pub first_passed : (n y : ℕ) (kind : Kind) (rest : Graph) → ((m : ℕ) → (nat_eq n m || holds kind m) ≡ true → has rest m ≡ false) →
     has rest y ≡ true
     → nat_eq n y ≡ false
 first_passed n y kind rest once there = elim (two (nat_eq n y)) [
@@ -29,7 +29,7 @@ first_passed n y kind rest once there = elim (two (nat_eq n y)) [
   | inr other ↦ other
 ]
 
-kind_passed : (n y : ℕ) (kind : Kind) (rest : Graph) → ((m : ℕ) → (nat_eq n m || holds kind m) ≡ true → has rest m ≡ false) →
+pub kind_passed : (n y : ℕ) (kind : Kind) (rest : Graph) → ((m : ℕ) → (nat_eq n m || holds kind m) ≡ true → has rest m ≡ false) →
     has rest y ≡ true
     → holds kind y ≡ false
 kind_passed n y kind rest once there = elim (two (holds kind y)) [
@@ -37,7 +37,7 @@ kind_passed n y kind rest once there = elim (two (holds kind y)) [
   | inr other ↦ other
 ]
 
-branch_passed : (b : Graph) (rest : Branches) (y : ℕ) → ((m : ℕ) → has b m ≡ true → has_any rest m ≡ false) → has_any rest y ≡ true →
+pub branch_passed : (b : Graph) (rest : Branches) (y : ℕ) → ((m : ℕ) → has b m ≡ true → has_any rest m ≡ false) → has_any rest y ≡ true →
     has b y ≡ false
 branch_passed b rest y once there = elim (two (has b y)) [
   | inl held ↦ absurd (clash (has_any rest y) there (once y held))
@@ -46,48 +46,49 @@ branch_passed b rest y once there = elim (two (has b y)) [
 
 -- the containers round an action, by where it stands
 
-around-head : (n : ℕ) (after : List Need) (kind : Kind) (rest : Graph) (y : ℕ) → nat_eq n y ≡ true → around (add n after kind rest) y ≡ []
+pub around-head : (n : ℕ) (after : List Need) (kind : Kind) (rest : Graph) (y : ℕ) → nat_eq n y ≡ true
+    → around (add n after kind rest) y ≡ []
 around-head n after kind rest y is = ap (λ (b : Bool). cond b [] (cond (holds kind y) (n ∷ around_in kind y) (around rest y))) is
 
-around-inner : (n : ℕ) (after : List Need) (kind : Kind) (rest : Graph) (y : ℕ) → nat_eq n y ≡ false → holds kind y ≡ true
+pub around-inner : (n : ℕ) (after : List Need) (kind : Kind) (rest : Graph) (y : ℕ) → nat_eq n y ≡ false → holds kind y ≡ true
     → around (add n after kind rest) y ≡ n ∷ around_in kind y
 around-inner n after kind rest y other held =
     ap (λ (b : Bool). cond b [] (cond (holds kind y) (n ∷ around_in kind y) (around rest y))) other
     ∙ ap (λ (b : Bool). cond b (n ∷ around_in kind y) (around rest y)) held
 
-around-rest : (n : ℕ) (after : List Need) (kind : Kind) (rest : Graph) (y : ℕ) → nat_eq n y ≡ false → holds kind y ≡ false
+pub around-rest : (n : ℕ) (after : List Need) (kind : Kind) (rest : Graph) (y : ℕ) → nat_eq n y ≡ false → holds kind y ≡ false
     → around (add n after kind rest) y ≡ around rest y
 around-rest n after kind rest y other out =
     ap (λ (b : Bool). cond b [] (cond (holds kind y) (n ∷ around_in kind y) (around rest y))) other
     ∙ ap (λ (b : Bool). cond b (n ∷ around_in kind y) (around rest y)) out
 
-around-branch : (b : Graph) (rest : Branches) (y : ℕ) → has b y ≡ true → around_any (branch b rest) y ≡ around b y
+pub around-branch : (b : Graph) (rest : Branches) (y : ℕ) → has b y ≡ true → around_any (branch b rest) y ≡ around b y
 around-branch b rest y held = ap (λ (h : Bool). cond h (around b y) (around_any rest y)) held
 
-around-branches : (b : Graph) (rest : Branches) (y : ℕ) → has b y ≡ false → around_any (branch b rest) y ≡ around_any rest y
+pub around-branches : (b : Graph) (rest : Branches) (y : ℕ) → has b y ≡ false → around_any (branch b rest) y ≡ around_any rest y
 around-branches b rest y out = ap (λ (h : Bool). cond h (around b y) (around_any rest y)) out
 
 -- where an action of a graph stands
-data Stands (n : ℕ) (kind : Kind) (rest : Graph) (z : ℕ) : Type 0 where
+pub data Stands (n : ℕ) (kind : Kind) (rest : Graph) (z : ℕ) : Type 0 where
   at_first : nat_eq n z ≡ true → Stands n kind rest z
   in_first : nat_eq n z ≡ false → holds kind z ≡ true → Stands n kind rest z
   behind_first : nat_eq n z ≡ false → holds kind z ≡ false → Stands n kind rest z
 
-stands : (n : ℕ) (kind : Kind) (rest : Graph) (z : ℕ) → Stands n kind rest z
+pub stands : (n : ℕ) (kind : Kind) (rest : Graph) (z : ℕ) → Stands n kind rest z
 stands n kind rest z = elim (two (nat_eq n z)) [
   | inl same ↦ at_first same
   | inr other ↦ elim (two (holds kind z)) [ inl held ↦ in_first other held | inr out ↦ behind_first other out ]
 ]
 
-moved : (xs ys : List ℕ) (c : ℕ) → xs ≡ ys → Among xs c → Among ys c
+pub moved : (xs ys : List ℕ) (c : ℕ) → xs ≡ ys → Among xs c → Among ys c
 moved xs ys c same among = subst (λ (zs : List ℕ). Among zs c) same among
 
-append-left : (xs ys : List ℕ) (c : ℕ) → Among xs c → Among (xs ++ ys) c
+pub append-left : (xs ys : List ℕ) (c : ℕ) → Among xs c → Among (xs ++ ys) c
 append-left [] ys c among = elim among [ ]
 append-left (x ∷ xs) ys c (inl is) = inl is
 append-left (x ∷ xs) ys c (inr rest) = inr (append-left xs ys c rest)
 
-append-right : (xs ys : List ℕ) (c : ℕ) → Among ys c → Among (xs ++ ys) c
+pub append-right : (xs ys : List ℕ) (c : ℕ) → Among ys c → Among (xs ++ ys) c
 append-right [] ys c among = among
 append-right (x ∷ xs) ys c among = inr (append-right xs ys c among)
 
@@ -322,7 +323,7 @@ up_compared g once x c d in_c in_d = elim (among-append (around g x) (x ∷ []) 
 
 -- ---- what is waited for stands beside what waits
 
-own_around : (g : Graph) → Once g → (p : ℕ) → has_own g p ≡ true → around g p ≡ []
+pub own_around : (g : Graph) → Once g → (p : ℕ) → has_own g p ≡ true → around g p ≡ []
 own_around done once p own = refl
 own_around (add n after kind rest) once p own = elim (or_split (nat_eq n p) (has_own rest p) own) [
   | inl is ↦ around-head n after kind rest p is
@@ -341,11 +342,11 @@ BesideIn kind a p = (holds kind p ≡ true) × (around_in kind p ≡ around_in k
 abbrev BesideAny : Branches → ℕ → ℕ → Type 0
 BesideAny bs a p = (has_any bs p ≡ true) × (around_any bs p ≡ around_any bs a)
 
-settled : (g : Graph) → Once g → (a p : ℕ) → Beside g g a p → (has g p ≡ true) × (around g p ≡ around g a)
+pub settled : (g : Graph) → Once g → (a p : ℕ) → Beside g g a p → (has g p ≡ true) × (around g p ≡ around g a)
 settled g once a p (inl own) = (own_has g p own.0, own_around g once p own.0 ∙ sym own.1)
 settled g once a p (inr is) = is
 
-renamed : (xs ys : List Need) (p : ℕ) → xs ≡ ys → Names xs p → Names ys p
+pub renamed : (xs ys : List Need) (p : ℕ) → xs ≡ ys → Names xs p → Names ys p
 renamed xs ys p is named = subst (λ (zs : List Need). Names zs p) is named
 
 mutual
@@ -424,7 +425,7 @@ deeper g depth depths p a (more {q = q} f h) =
     let last = depths q a h in
     omega (arith, first', last)
 
-last_up : (g : Graph) (x : ℕ) → Among (up g x) x
+pub last_up : (g : Graph) (x : ℕ) → Among (up g x) x
 last_up g x = append-right (around g x) (x ∷ []) x (inl refl)
 
 pub transitive : (g : Graph) → Once g → Closed g g → (x y z : ℕ) → Before g x y → Before g y z → Before g x z

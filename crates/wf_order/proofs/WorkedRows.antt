@@ -1,8 +1,12 @@
 -- The order of a worked definition. Names are the numbers:
 --   0; a Scope 1 after 0, of 2, and 3 after 2; an If 4 after 1, of 5, and otherwise of 6 and a Foreach 7 of 8, after 6;
 --   a Switch 9 after 0, of the cases 10 and 11, and otherwise of an If 12 of 13; 14, which nothing waits for and which waits for nothing.
-use Rattle.std.proofs.Common.{◌≡◌, ℕ, List, [], ◌∷◌, true, false, Some, None, refl}
-use Rattle.wf_layers.specs.Definition.{Succeeded, Need, InTurn, Leaf, Scope, Choice, Foreach, no_branch, branch, Graph, done, add}
+use Rattle.std.proofs.Common.{◌≡◌, ℕ, List, [], ◌∷◌, true, false, Some, None, length, nat_eq, refl, arith}
+use Rattle.std.proofs.lemmas.Bool.{eqb-true}
+use Rattle.wf_layers.specs.Definition.{Succeeded, Need, InTurn, AtMost, Leaf, Scope, Choice, Foreach, Until, no_branch, branch, Graph, done, add}
+use Rattle.wf_layers.specs.Address.{address, starts}
+use Rattle.wf_layers.proofs.Basics.{and_in}
+use Rattle.wf_order.specs.Indexes.{HaveSameIndexes, loops_round}
 use Rattle.wf_order.specs.Order.{around, stand, up}
 use Rattle.wf_order.specs.Table.{OrderTree, order_of, before, contains, exclusive, redo}
 
@@ -240,3 +244,79 @@ redo-not_the_other_branch = refl
 
 redo-not_side_by_side : redo order 1 9 ≡ false
 redo-not_side_by_side = refl
+
+-- Loops round two actions: a Foreach 20 of 21, of a Scope 22 with an Until 23 of 24, and 25 after 24, and of an If 26 of 27, and otherwise
+-- of a Foreach 28 of 29; and 30 outside.
+abbrev in_until : Graph
+in_until = leaf 24 [] (leaf 25 (after_one 24) done)
+
+abbrev in_if : Graph
+in_if = add 26 [] (Choice (branch (leaf 27 [] done) (branch (add 28 [] (Foreach InTurn (leaf 29 [] done)) done) no_branch))) done
+
+abbrev looped : Graph
+looped = add 20 [] (Foreach (AtMost 20) (leaf 21 [] (add 22 [] (Scope (add 23 [] (Until 60 in_until) done)) in_if))) (leaf 30 [] done)
+
+loops-two : loops_round looped 24 25 ≡ 2
+loops-two = refl
+
+loops-of_itself : loops_round looped 24 24 ≡ 2
+loops-of_itself = refl
+
+loops-one_alone_is_deeper : loops_round looped 21 24 ≡ 1
+loops-one_alone_is_deeper = refl
+
+loops-the_other_way_round : loops_round looped 24 21 ≡ 1
+loops-the_other_way_round = refl
+
+loops-not_the_loop_itself : loops_round looped 23 24 ≡ 1
+loops-not_the_loop_itself = refl
+
+loops-two_inner_loops : loops_round looped 25 29 ≡ 1
+loops-two_inner_loops = refl
+
+loops-two_branches : loops_round looped 27 29 ≡ 1
+loops-two_branches = refl
+
+loops-in_one_branch : loops_round looped 28 29 ≡ 1
+loops-in_one_branch = refl
+
+loops-deep_in_one_branch : loops_round looped 29 29 ≡ 2
+loops-deep_in_one_branch = refl
+
+loops-top_and_inside : loops_round looped 20 24 ≡ 0
+loops-top_and_inside = refl
+
+loops-outside : loops_round looped 24 30 ≡ 0
+loops-outside = refl
+
+loops-no_action : loops_round looped 24 31 ≡ 0
+loops-no_action = refl
+
+-- the same indexes, where one address has a further one, and where they differ in a loop that is round one alone
+same_indexes-all : HaveSameIndexes looped (address 24 (3 ∷ 5 ∷ [])) (address 25 (3 ∷ 5 ∷ []))
+same_indexes-all = record { indexes = 3 ∷ 5 ∷ []; each_loop = refl; of_one = refl; of_other = refl }
+
+same_indexes-further : HaveSameIndexes looped (address 21 (3 ∷ [])) (address 24 (3 ∷ 5 ∷ []))
+same_indexes-further = record { indexes = 3 ∷ []; each_loop = refl; of_one = refl; of_other = refl }
+
+same_indexes-apart : HaveSameIndexes looped (address 24 (3 ∷ 5 ∷ [])) (address 29 (3 ∷ 7 ∷ []))
+same_indexes-apart = record { indexes = 3 ∷ []; each_loop = refl; of_one = refl; of_other = refl }
+
+-- but not where they differ in a loop that is round both, or lack its index
+same_indexes-not_another_turn : HaveSameIndexes looped (address 21 (3 ∷ [])) (address 24 (4 ∷ 5 ∷ [])) → ⊥
+same_indexes-not_another_turn s = differ s.indexes s.each_loop s.of_one s.of_other
+  where
+    three_four : (a : ℕ) → nat_eq a 3 ≡ true → nat_eq a 4 ≡ true → ⊥
+    three_four a one other = let three = eqb-true a 3 one in let four = eqb-true a 4 other in absurd (omega (arith, three, four))
+
+    differ : (k : List ℕ) → length k ≡ 1 → starts k (3 ∷ []) ≡ true → starts k (4 ∷ 5 ∷ []) ≡ true → ⊥
+    differ [] count one other = absurd (cc)
+    differ (a ∷ []) count one other = three_four a (and_in (nat_eq a 3) true one).0 (and_in (nat_eq a 4) true other).0
+    differ (a ∷ b ∷ k) count one other = absurd (cc)
+
+same_indexes-not_without : HaveSameIndexes looped (address 24 []) (address 25 (3 ∷ 5 ∷ [])) → ⊥
+same_indexes-not_without s = none s.indexes s.each_loop s.of_one
+  where
+    none : (k : List ℕ) → length k ≡ 2 → starts k [] ≡ true → ⊥
+    none [] count one = absurd (cc)
+    none (a ∷ k) count one = absurd (cc)

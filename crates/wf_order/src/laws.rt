@@ -1,8 +1,10 @@
 //! What the tables answer, in the words of a definition, and how the relations go together. Each call tells a caller so, and does
 //! nothing.
 ghost use Rattle.std.specs.Prelude.{◌≡◌, ◌↔◌, ℕ, true};
+ghost use Rattle.wf_layers.specs.Address.{Address, SeenIn, starts};
 ghost use Rattle.wf_layers.specs.Definition.{Closed, Graph, IsDepth, has};
 ghost use Rattle.wf_layers.specs.Seen.{Once};
+ghost use Rattle.wf_order.specs.Indexes.{HaveSameIndexes};
 ghost use Rattle.wf_order.specs.Order.{Before, Contains, Exclusive, IsBelow, Redo};
 ghost use Rattle.wf_order.specs.Table.{before, contains, exclusive, order_of, redo};
 
@@ -31,4 +33,17 @@ pub fn what_stands_inside_goes_along()
     ensures before { (g : Graph) → Once g → (x y z : ℕ) → Before g x y → Contains g x z → Before g z y }
     ensures after { (g : Graph) → Once g → (x y z : ℕ) → Before g x y → Contains g y z → Before g x z }
     ensures exclusive { (g : Graph) → Once g → (x y z : ℕ) → Exclusive g x y → Contains g y z → Exclusive g x z }
+{}
+
+/// What is before an action is seen by it, at each address that has the same indexes in the loops round both: however many loops the one
+/// leaves, and however many are round the other alone. So an answer that asks only for rows of actions before it looks only at what is
+/// earlier.
+pub fn what_is_before_is_seen()
+    ensures { (g : Graph) → Once g → Closed g g → (x y : Address) → Before g x.name y.name → HaveSameIndexes g x y → SeenIn g y x }
+{}
+
+/// What a container sees is seen by all that stands inside it, in each of its iterations: the list of a Foreach, and what a condition asked
+/// for.
+pub fn what_a_container_sees_is_seen_inside()
+    ensures { (g : Graph) → Once g → (c x z : Address) → Contains g c.name x.name → starts c.at x.at ≡ true → SeenIn g c z → SeenIn g x z }
 {}

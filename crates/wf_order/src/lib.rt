@@ -10,7 +10,8 @@
 //! lists. `order_is_exact` says that the answers are the relations, wherever entries of `runAfter` name actions of their own
 //! graph and numbers are below their count, which is so in every definition that was read.
 //!
-//! The crate says nothing of iterations: of two of one loop the loop itself decides. It judges no definition.
+//! Of iterations it says how many loops are round two actions (`specs/Indexes`): where the indexes in these are the same, what is before is
+//! seen in the sense of `wf_layers`; of two iterations of one loop the loop itself decides. It judges no definition.
 #![tactic(auto)]
 
 mod laws;
@@ -18,5 +19,8 @@ mod order;
 mod place;
 mod walk;
 
-pub use laws::{before_is_an_order, order_is_exact, what_stands_inside_goes_along};
+pub use laws::{
+    before_is_an_order, order_is_exact, what_a_container_sees_is_seen_inside,
+    what_is_before_is_seen, what_stands_inside_goes_along,
+};
 pub use order::Order;
