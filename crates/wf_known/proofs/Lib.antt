@@ -1,0 +1,9 @@
+mod WalkLemmas
+mod EachLemmas
+mod LevelLemmas
+mod NumberLemmas
+mod LayeredLemmas
+mod WholeDepthLemmas
+mod ReadGraphLemmas
+mod DefinitionLemmas
+mod WorkedRows
