@@ -8,4 +8,6 @@ pub mod Local
 pub mod Walk
 pub mod Judged
 pub mod Ordered
+pub mod Listed
+pub mod Layers
 mod Worked

@@ -11,7 +11,8 @@ use Rattle.wf_eval.specs.Uses.{Use, names, asks, asks_moment, asks_words, tree_u
 use Rattle.wf_eval.specs.Told.{Told}
 use Rattle.wf_eval.specs.TreeValue.{tree_value}
 use Rattle.wf_template.specs.DataTree.{DataTree}
-use Rattle.wf_meaning.specs.Definition.{ActionTree, InputsTree}
+use Rattle.wf_meaning.specs.Definition.{ActionTree}
+use Rattle.wf_meaning.specs.Environment.{Environment}
 use Rattle.wf_record.specs.Record.{Row}
 use Rattle.wf_meaning.specs.Flat.{graph_from, graph_of, source, begun}
 use Rattle.wf_meaning.specs.Look.{place_of, view_of, view_at, told_at}
@@ -27,7 +28,7 @@ use Rattle.wf_meaning.proofs.Before.{before_is, there_both, sees}
 abbrev pub ValuesAreLocal : Type 0
 ValuesAreLocal = (l m : Told) (t : DataTree) → AgreeAt l m (tree_uses t) → tree_value l t ≡ tree_value m t
 
-module _ (values : ValuesAreLocal) (inputs : InputsTree) (actions : List ActionTree) (all : all_end actions ≡ true)
+module _ (values : ValuesAreLocal) (env : Environment) (actions : List ActionTree) (all : all_end actions ≡ true)
     (named : names_before actions ≡ true) where
   -- two tables that agree on what an action sees show it the same
   module _ (n : ℕ) (name : List ℕ) (t u : Table Row) (same : AlikeBefore actions n t u) where
@@ -35,7 +36,7 @@ module _ (values : ValuesAreLocal) (inputs : InputsTree) (actions : List ActionT
     view_same k None e = refl
     view_same k (Some p) e = ap (option_map (view_of k)) (same p (before_is actions all (length actions) p n e).0)
 
-    agree_one : (asked : Use) → use_before actions n asked ≡ true → Agree (told_at inputs actions name t) (told_at inputs actions name u) asked
+    agree_one : (asked : Use) → use_before actions n asked ≡ true → Agree (told_at env actions name t) (told_at env actions name u) asked
     agree_one (names Fun.Actions k) e = view_same k (place_of actions k) e
     agree_one (names Fun.Outputs k) e = view_same k (place_of actions k) e
     agree_one (names Fun.Body k) e = view_same k (place_of actions k) e
@@ -55,7 +56,7 @@ module _ (values : ValuesAreLocal) (inputs : InputsTree) (actions : List ActionT
     agree_one asks_moment e = refl
     agree_one asks_words e = (refl, refl)
 
-    agree_all : (us : List Use) → list_all (use_before actions n) us ≡ true → AgreeAt (told_at inputs actions name t) (told_at inputs actions name u) us
+    agree_all : (us : List Use) → list_all (use_before actions n) us ≡ true → AgreeAt (told_at env actions name t) (told_at env actions name u) us
     agree_all [] e = tt
     agree_all (asked ∷ us) e = let parts = and_in _ _ e in (agree_one asked parts.0, agree_all us parts.1)
 
@@ -63,12 +64,12 @@ module _ (values : ValuesAreLocal) (inputs : InputsTree) (actions : List ActionT
   named_at n a is = subst (λ found. uses_before actions n found ≡ true) is (at_place (λ m. uses_before actions m (slice_get actions m)) actions n named (ap is_some is))
 
   -- so its inputs come to the same
-  pub begun_same : (n : ℕ) (a : ActionTree) → slice_get actions n ≡ Some a → (t u : Table Row) → AlikeBefore actions n t u → begun inputs actions t (slice_get actions n) ≡ begun inputs actions u (slice_get actions n)
+  pub begun_same : (n : ℕ) (a : ActionTree) → slice_get actions n ≡ Some a → (t u : Table Row) → AlikeBefore actions n t u → begun env actions t (slice_get actions n) ≡ begun env actions u (slice_get actions n)
   begun_same n a is t u same =
-      rw is (ap (λ r. (r 0).0) (values (told_at inputs actions a.name t) (told_at inputs actions a.name u) a.inputs (agree_all n a.name t u same (tree_uses a.inputs) (named_at n a is))))
+      rw is (ap (λ r. (r 0).0) (values (told_at env actions a.name t) (told_at env actions a.name u) a.inputs (agree_all n a.name t u same (tree_uses a.inputs) (named_at n a is))))
 
   start_local : (n : ℕ) (a : ActionTree) → slice_get actions n ≡ Some a → (i : List ℕ) → length i ≡ 0 → (t u : Table Row) → Agrees (SeenIn (graph_of actions)) (address n i) t u →
-      begun inputs actions t (slice_get actions n) ≡ begun inputs actions u (slice_get actions n)
+      begun env actions t (slice_get actions n) ≡ begun env actions u (slice_get actions n)
   start_local n a is [] none t u same = begun_same n a is t u (λ p before. same (address p []) (sees actions all p n (there_both actions all p n before)))
   start_local n a is (j ∷ js) none t u same = absurd (omega (arith, none))
 
@@ -83,7 +84,7 @@ module _ (values : ValuesAreLocal) (inputs : InputsTree) (actions : List ActionT
   at_no_index n p [] none sees = sees
   at_no_index n p (j ∷ js) none sees = absurd (omega (arith, none))
 
-  sound_from : (n : ℕ) (rest : List ActionTree) → ((m : ℕ) (a : ActionTree) → numbered n rest m ≡ Some a → slice_get actions m ≡ Some a) → Sound (source inputs actions) (SeenIn (graph_of actions)) (graph_from n rest) 0
+  sound_from : (n : ℕ) (rest : List ActionTree) → ((m : ℕ) (a : ActionTree) → numbered n rest m ≡ Some a → slice_get actions m ≡ Some a) → Sound (source env actions) (SeenIn (graph_of actions)) (graph_from n rest) 0
   sound_from n [] stands = tt
   sound_from n (a ∷ more) stands =
       let is : slice_get actions n ≡ Some a = stands n a (rw (same_self n)) in (
@@ -94,7 +95,7 @@ module _ (values : ValuesAreLocal) (inputs : InputsTree) (actions : List ActionT
         sound_from (suc n) more (λ m b e. stands m b (numbered_later n a more m b e)),
       )
 
-  pub local : Sound (source inputs actions) (SeenIn (graph_of actions)) (graph_of actions) 0
+  pub local : Sound (source env actions) (SeenIn (graph_of actions)) (graph_of actions) 0
   local = sound_from 0 actions (λ m a e. sym (numbered_is actions m) ∙ e)
 
   closed_from : (n : ℕ) (rest : List ActionTree) → ((m : ℕ) (a : ActionTree) → numbered n rest m ≡ Some a → slice_get actions m ≡ Some a) → Closed (graph_from n rest) (graph_of actions)
@@ -110,7 +111,7 @@ module _ (values : ValuesAreLocal) (inputs : InputsTree) (actions : List ActionT
   turns_from n [] = tt
   turns_from n (a ∷ more) = (tt, turns_from (suc n) more)
 
-  pub is_instance : IsInstance (graph_of actions) (source inputs actions) (depth_of actions)
+  pub is_instance : IsInstance (graph_of actions) (source env actions) (depth_of actions)
   is_instance = record {
     local = local;
     closed = closed_from 0 actions (λ m a e. sym (numbered_is actions m) ∙ e);

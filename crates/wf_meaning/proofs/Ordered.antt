@@ -7,7 +7,8 @@ use Rattle.wf_val.specs.NameOrder.{bytes_cmp, IsInNameOrder}
 use Rattle.wf_val.specs.declared.address.Address.{Address}
 use Rattle.wf_layers.specs.Address.{Table, address}
 use Rattle.wf_record.specs.Record.{Row, RowTree, address_of}
-use Rattle.wf_meaning.specs.Definition.{ActionTree, InputsTree, action_name}
+use Rattle.wf_meaning.specs.Definition.{ActionTree, action_name}
+use Rattle.wf_meaning.specs.Environment.{Environment}
 use Rattle.wf_meaning.specs.Meaning.{instance, row_then, rows_from, rows_of, table_of}
 
 abbrev IsBelow : Address → List RowTree → Type 0
@@ -39,6 +40,6 @@ module _ (known : Table Row) where
   ordered_from n (a ∷ more) order =
       then_ordered (instance a) (known (address n [])) (rows_from known (suc n) more) (below_rows a (suc n) more order.0) (ordered_from (suc n) more order.1)
 
-pub rows_ordered : (inputs : InputsTree) (actions : List ActionTree) → IsInNameOrder action_name actions →
-    IsInKeyOrder address_cmp address_of (rows_of inputs actions)
-rows_ordered inputs actions order = ordered_from (table_of inputs actions) 0 actions order
+pub rows_ordered : (env : Environment) (actions : List ActionTree) → IsInNameOrder action_name actions →
+    IsInKeyOrder address_cmp address_of (rows_of env actions)
+rows_ordered env actions order = ordered_from (table_of env actions) 0 actions order

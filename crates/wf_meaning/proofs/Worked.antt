@@ -1,21 +1,25 @@
 -- Worked values of the definitions: what is met, when actions end, how a graph ends, and what is recorded.
-use Rattle.std.proofs.Common.{◌≡◌, [], ◌∷◌, true, false, map, refl}
+use Rattle.std.proofs.Common.{◌≡◌, [], ◌∷◌, true, false, None, Ok, Err, map, refl}
 use Rattle.std.specs.Prelude.{pos, codes}
-use Rattle.wf_val.specs.ValueTree.{null, boolean, text, object, members, no_members, member_then}
+use Rattle.wf_val.specs.ValueTree.{null, boolean, number, text, list, object, trees, members, no_members, member_then}
 use Rattle.wf_val.specs.declared.fault.EvalFault.{EvalFault}
 use Rattle.wf_val.specs.declared.function.Fun.{Fun}
 use Rattle.wf_json.specs.FaultText.{fault_text}
 use Rattle.wf_record.specs.declared.status.Status.TheVariants.{Succeeded, Failed, Skipped, TimedOut, Cancelled}
 use Rattle.wf_record.specs.declared.status.RunStatus.{RunStatus}
+use Rattle.wf_eval.specs.Draws.{number_in}
 use Rattle.wf_eval.specs.Rows.{fitted}
 use Rattle.wf_eval.specs.Timed.{utc_now_row}
+use Rattle.wf_eval.specs.Told.{word_of}
+use Rattle.wf_meaning.specs.Ending.{ending, outputs_error, section}
+use Rattle.wf_meaning.specs.Environment.{facts_of, last_facts}
 use Rattle.wf_meaning.specs.Flat.{composed, ended, faulted, skipped}
-use Rattle.wf_meaning.specs.Look.{untriggered, view_of}
+use Rattle.wf_meaning.specs.Look.{told_to_outputs, view_of}
 use Rattle.wf_meaning.specs.Meaning.{meaning, rows_of, table_of}
 use Rattle.wf_meaning.specs.Names.{is_before, names_before}
 use Rattle.wf_meaning.specs.Rounds.{all_end, depth_of, is_waiting}
 use Rattle.wf_meaning.specs.Status.{graph_status}
-use Rattle.wf_meaning.specs.Worked.{action, apart, asking, chain, drawing, drawn_at, failing, four, joined, loop, met_at, need, relay, renamed, seeded, single, statuses, timed}
+use Rattle.wf_meaning.specs.Worked.{action, apart, asking, call_of, chain, drawing, drawn_at, drawn_outputs, failing, faulty, four, joined, loop, met_at, need, output, redone_in, relay, renamed, reseeded, run_told, runs_by, second, seeded, single, statuses, timed, told_of_start, triggered, under, untriggered, whole_of}
 
 -- ---- `runAfter` with each status, against an action that Succeeded, Failed, was Skipped, TimedOut or was Cancelled
 
@@ -141,7 +145,7 @@ rows-four : rows_of (untriggered (codes "r")) four
     ∷ (record { address = record { name = codes "D"; at = [] }; row = skipped } ∷ [])))
 rows-four = refl
 
-record-single : meaning (record { digest = 1 ∷ []; actions = single }) (untriggered (codes "r")) ≡ record {
+record-single : meaning (record { digest = 1 ∷ []; outputs = []; actions = single }) (untriggered (codes "r")) ≡ record {
   run = codes "r";
   digest = 1 ∷ [];
   trigger = object (member_then (codes "name") null (member_then (codes "outputs") null no_members));
@@ -223,3 +227,113 @@ names-case = refl
 -- a name may be asked for whatever status is listed
 names-failed : names_before (action (codes "A") [] ∷ (renamed (codes "B") (asking (codes "A") (need 0 (Failed ∷ []) ∷ [])) ∷ [])) ≡ true
 names-failed = refl
+
+-- ---- what a run goes by
+
+layers-none : runs_by [] (codes "A" ∷ []) ≡ codes "r" ∷ []
+layers-none = refl
+
+layers-one : runs_by (redone_in (codes "A") (codes "r2") ∷ []) (codes "A" ∷ codes "B" ∷ []) ≡ codes "r2" ∷ codes "r" ∷ []
+layers-one = refl
+
+layers-apart : runs_by (redone_in (codes "A") (codes "r2") ∷ redone_in (codes "B") (codes "r3") ∷ []) (codes "A" ∷ codes "B" ∷ codes "C" ∷ [])
+    ≡ codes "r2" ∷ codes "r3" ∷ codes "r" ∷ []
+layers-apart = refl
+
+layers-twice : runs_by (redone_in (codes "A") (codes "r2") ∷ redone_in (codes "A") (codes "r3") ∷ []) (codes "A" ∷ codes "B" ∷ []) ≡ codes "r3" ∷ codes "r" ∷ []
+layers-twice = refl
+
+last-none : (last_facts (under [])).run ≡ codes "r"
+last-none = refl
+
+-- the last layer, whatever it has
+last-two : (last_facts (under (redone_in (codes "A") (codes "r2") ∷ redone_in (codes "B") (codes "r3") ∷ []))).run ≡ codes "r3"
+last-two = refl
+
+-- the run of a split has a name and a seed of its own
+facts-second : facts_of second (codes "A") ≡ record { run = codes "r-1"; seed = codes "s-1"; moment = 5; answers = [] }
+facts-second = refl
+
+-- only what was done anew draws words of the new seed
+reseeded-rows : map (λ row. row.row) (rows_of reseeded drawing) ≡ composed (list (trees (
+    number (number_in (pos 1, pos 5) (word_of (codes "t") (codes "A") 0))
+    ∷ number (number_in (pos 1, pos 5) (word_of (codes "t") (codes "A") 1))
+    ∷ []))) ∷ drawn_at (codes "B") ∷ []
+reseeded-rows = refl
+
+-- the parameters and the trigger are seen
+started-rows : map (λ row. row.row) (rows_of triggered told_of_start) ≡ composed (number (pos 7)) ∷ composed (number (pos 3)) ∷ []
+started-rows = refl
+
+-- ---- what a run gives out
+
+outputs-none : section (told_to_outputs (untriggered (codes "r")) [] (λ x. None)) [] ≡ Ok []
+outputs-none = refl
+
+-- words are counted over the whole section
+outputs-words : section (told_to_outputs seeded [] (λ x. None)) drawn_outputs ≡ Ok (
+    (codes "a", number (number_in (pos 1, pos 5) (word_of (codes "s") (codes "@outputs") 0)))
+    ∷ (codes "b", number (number_in (pos 1, pos 5) (word_of (codes "s") (codes "@outputs") 1)))
+    ∷ [])
+outputs-words = refl
+
+-- of a layer that has no action the section still goes by it
+outputs-last : section (told_to_outputs (under (redone_in (codes "A") (codes "r2") ∷ [])) [] (λ x. None)) (run_told ∷ [])
+    ≡ Ok ((
+      codes "run",
+      object (members (
+          (codes "name", text (codes "workflow"))
+          ∷ (codes "run", object (members ((codes "name", text (codes "r2")) ∷ [])))
+          ∷ [])),
+    ) ∷ [])
+outputs-last = refl
+
+-- the first fault, in the order of names
+outputs-fault : section (told_to_outputs seeded [] (λ x. None)) (output (codes "a") (whole_of (call_of (codes "outputs") (text (codes "Z")))) ∷ faulty (codes "b") ∷ [])
+    ≡ Err (EvalFault.NoValue (codes "Z"))
+outputs-fault = refl
+
+-- the section sees the rows of all actions
+outputs-seen : section (told_to_outputs (untriggered (codes "r")) relay (table_of (untriggered (codes "r")) relay))
+    (output (codes "o") (whole_of (call_of (codes "outputs") (text (codes "C")))) ∷ []) ≡ Ok ((codes "o", boolean true) ∷ [])
+outputs-seen = refl
+
+ending-fine : ending Succeeded (Ok ((codes "o", number (pos 1)) ∷ []))
+    ≡ record { status = RunStatus.Succeeded; error = null; outputs = object (members ((codes "o", number (pos 1)) ∷ [])) }
+ending-fine = refl
+
+-- outputs that have values don't mend a graph that Failed
+ending-failed : ending Failed (Ok []) ≡ record { status = RunStatus.Failed; error = null; outputs = object no_members }
+ending-failed = refl
+
+ending-faulted : ending Succeeded (Err (EvalFault.NoValue (codes "Z"))) ≡ record {
+  status = RunStatus.Failed;
+  error = object (members ((codes "code", text (codes "InvalidTemplate")) ∷ (codes "message", text (fault_text (EvalFault.NoValue (codes "Z")))) ∷ []));
+  outputs = null;
+}
+ending-faulted = refl
+
+ending-both : (ending Failed (Err (EvalFault.NoValue (codes "Z")))).error ≡ outputs_error (EvalFault.NoValue (codes "Z"))
+ending-both = refl
+
+-- a whole record: what it was started with, its rows, and what it gives out
+record-started : meaning (record { digest = 1 ∷ []; outputs = output (codes "o") (whole_of (call_of (codes "outputs") (text (codes "A")))) ∷ []; actions = told_of_start }) triggered ≡ record {
+  run = codes "r";
+  digest = 1 ∷ [];
+  trigger = object (members ((codes "name", text (codes "t")) ∷ (codes "outputs", number (pos 3)) ∷ []));
+  parameters = (codes "p", number (pos 7)) ∷ [];
+  status = RunStatus.Succeeded;
+  error = null;
+  response = null;
+  outputs = object (members ((codes "o", number (pos 7)) ∷ []));
+  rows = record { address = record { name = codes "A"; at = [] }; row = composed (number (pos 7)) }
+      ∷ record { address = record { name = codes "B"; at = [] }; row = composed (number (pos 3)) }
+      ∷ [];
+}
+unfolding meaning
+record-started = refl
+
+-- the record of a run that was made from another has the new name
+record-last : (meaning (record { digest = 1 ∷ []; outputs = []; actions = single }) (under (redone_in (codes "B") (codes "r2") ∷ []))).run ≡ codes "r2"
+unfolding meaning
+record-last = refl

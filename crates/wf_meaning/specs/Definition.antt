@@ -1,7 +1,7 @@
--- What is left of a definition and of a run's inputs once their form is known.
-use Rattle.std.specs.Prelude.{ℕ, ℤ, List}
-use Rattle.wf_val.specs.ValueTree.{ValueTree}
+-- What is left of a definition once its form is known.
+use Rattle.std.specs.Prelude.{ℕ, List}
 use Rattle.wf_template.specs.DataTree.{DataTree}
+use Rattle.wf_def.specs.DefTree.{OutputTree}
 use Rattle.wf_layers.specs.Definition.{Need}
 
 -- An action: its name, the entries of its `runAfter`, and its `inputs`, whose texts are templates. The actions of a graph
@@ -15,14 +15,8 @@ pub record ActionTree : Type 0 where
 abbrev pub action_name : ActionTree → List ℕ
 action_name action = action.name
 
--- A definition: the digest of its text, and the actions of its graph in byte order of their names.
+-- A definition: the digest of its text, its section `outputs`, and the actions of its graph, both in byte order of names.
 pub record DefinitionTree : Type 0 where
   pub digest : List ℕ
+  pub outputs : List OutputTree
   pub actions : List ActionTree
-
--- What a run is handed: the name that it bears, the seed of its words, its moment, and the value of its trigger.
-pub record InputsTree : Type 0 where
-  pub run : List ℕ
-  pub seed : List ℕ
-  pub moment : ℤ
-  pub trigger : ValueTree

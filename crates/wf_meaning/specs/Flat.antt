@@ -8,7 +8,8 @@ use Rattle.wf_layers.specs.Address.{Table}
 use Rattle.wf_layers.specs.Source.{Source}
 use Rattle.wf_json.specs.FaultText.{fault_text}
 use Rattle.wf_eval.specs.TreeValue.{tree_value}
-use Rattle.wf_meaning.specs.Definition.{ActionTree, InputsTree}
+use Rattle.wf_meaning.specs.Definition.{ActionTree}
+use Rattle.wf_meaning.specs.Environment.{Environment}
 use Rattle.wf_meaning.specs.Look.{told_at}
 use Rattle.wf_meaning.specs.Statuses.{status_tree}
 use Rattle.wf_record.specs.Record.{Row}
@@ -66,16 +67,16 @@ ended (Ok v) = composed v
 ended (Err f) = faulted f
 
 -- what the inputs of an action come to, from the rows that are known
-abbrev pub begun : InputsTree → List ActionTree → Table Row → Option ActionTree → Answer
-begun inputs actions known None = Ok null
-begun inputs actions known (Some action) = (tree_value (told_at inputs actions action.name known) action.inputs 0).0
+abbrev pub begun : Environment → List ActionTree → Table Row → Option ActionTree → Answer
+begun e actions known None = Ok null
+begun e actions known (Some action) = (tree_value (told_at e actions action.name known) action.inputs 0).0
 
 -- The source of the rows: each action is a Compose. It decides nothing, tests nothing, and keeps nothing of an older run.
-abbrev pub source : InputsTree → List ActionTree → Source Row Answer (Unit {0}) Bool
-source inputs actions = record {
+abbrev pub source : Environment → List ActionTree → Source Row Answer (Unit {0}) Bool
+source e actions = record {
   status = λ row. status_tree row.status;
   skipped = skipped;
-  start = λ x known. begun inputs actions known (slice_get actions x.name);
+  start = λ x known. begun e actions known (slice_get actions x.name);
   tries = λ x answer. 0;
   finish = λ x answer known. ended answer;
   decide = λ x known. tt;

@@ -1,4 +1,6 @@
 pub mod Definition
+pub mod Environment
+pub mod ActionOrder
 pub mod Statuses
 pub mod Rounds
 pub mod Marks
@@ -6,6 +8,7 @@ pub mod Look
 pub mod Flat
 pub mod Names
 pub mod Status
+pub mod Ending
 pub mod Judged
 pub mod Meaning
 pub mod Laws

@@ -1,5 +1,5 @@
 -- Worked values of the definitions of this crate.
-use Rattle.std.specs.Prelude.{ℕ, ℤ, pos, zero, suc, Bool, false, List, [], ◌∷◌, map, Option, Some, slice_get, codes}
+use Rattle.std.specs.Prelude.{ℕ, ℤ, pos, zero, suc, Bool, false, List, [], ◌∷◌, map, Option, None, Some, bytes_eq, slice_get, codes}
 use Rattle.std.specs.Option.{option_map}
 use Rattle.wf_template.specs.DataTree as inputs
 use Rattle.wf_template.specs.ExprTree.{ExprTree, literal, call, no_exprs, expr_then}
@@ -10,9 +10,12 @@ use Rattle.wf_layers.specs.Address.{Table}
 use Rattle.wf_layers.specs.Source.{all_met}
 use Rattle.wf_eval.specs.Draws.{number_in}
 use Rattle.wf_eval.specs.Told.{word_of}
-use Rattle.wf_meaning.specs.Definition.{ActionTree, InputsTree}
+use Rattle.wf_meaning.specs.Definition.{ActionTree}
+use Rattle.wf_meaning.specs.Environment.{Environment, Layer, facts_of, fresh}
 use Rattle.wf_meaning.specs.Flat.{composed, source}
-use Rattle.wf_meaning.specs.Look.{untriggered}
+use Rattle.wf_answers.specs.Inputs.{InputsTree}
+use Rattle.wf_def.specs.DefTree.{OutputTree}
+use Rattle.wf_trigger.specs.Starts.{StartTree, trigger_value}
 use Rattle.wf_meaning.specs.Statuses.{status_tree}
 use Rattle.wf_record.specs.Record.{Row}
 use Rattle.wf_record.specs.declared.status.Status.{Status}
@@ -86,6 +89,18 @@ apart = action (codes "A") [] ∷ (action (codes "B") [] ∷ [])
 abbrev pub statuses : List Status → Table Row
 statuses listed x = option_map ended (slice_get listed x.name)
 
+-- inputs that name the run and say nothing else
+abbrev pub inputs_for : List ℕ → InputsTree
+inputs_for run = record { run = run; seed = []; moment = 0; trigger = None; outputs = null; parameters = []; answers = [] }
+
+-- the start of a run that no trigger starts, without parameters
+abbrev pub start_for : List ℕ → StartTree
+start_for run = record { run = run; seed = []; trigger = trigger_value null null; parameters = [] }
+
+-- a run that nothing but its name is told of
+abbrev pub untriggered : List ℕ → Environment
+untriggered run = fresh (start_for run) (inputs_for run)
+
 -- whether an entry that lists these is met, where the action that it names Succeeded, Failed, was Skipped, TimedOut or was Cancelled
 abbrev pub met_at : List Status → List Bool
 met_at listed =
@@ -134,8 +149,9 @@ abbrev pub drawing : List ActionTree
 drawing = with_inputs (action (codes "A") []) two_drawn ∷ (with_inputs (action (codes "B") []) two_drawn ∷ [])
 
 -- A run that is handed a seed, and 0001-01-01T01:00:00Z for its moment.
-abbrev pub seeded : InputsTree
-seeded = record (untriggered (codes "r")) { seed = codes "s"; moment = pos 36000000000 }
+abbrev pub seeded : Environment
+seeded = fresh (record { run = codes "r"; seed = codes "s"; trigger = trigger_value null null; parameters = [] })
+    (record (inputs_for (codes "r")) { moment = 36000000000 })
 
 -- the row of an action that drew the first two words of its place
 abbrev pub drawn_at : List ℕ → Row
@@ -148,3 +164,58 @@ abbrev pub timed : List ActionTree
 timed =
     with_inputs (action (codes "A") []) (whole_of (call (codes "utcNow") no_exprs))
     ∷ (with_inputs (action (codes "B") []) (whole_of (call (codes "UTCNOW") no_exprs)) ∷ [])
+
+-- ---- layers
+
+-- this action was done anew in a run of this name
+abbrev pub redone_in : List ℕ → List ℕ → Layer
+redone_in name run = record { redone = bytes_eq name; inputs = inputs_for run }
+
+-- a run `r` under these layers
+abbrev pub under : List Layer → Environment
+under layers = record (untriggered (codes "r")) { layers = layers }
+
+-- the names of the runs by which actions of these names go
+abbrev pub runs_by : List Layer → List (List ℕ) → List (List ℕ)
+runs_by layers names = map (λ name. (facts_of (under layers) name).run) names
+
+-- the second run of a split
+abbrev pub second : Environment
+second = fresh (record (start_for (codes "r-1")) { seed = codes "s-1" }) (record (inputs_for (codes "r")) { seed = codes "s"; moment = 5 })
+
+-- A was done anew with another seed.
+abbrev pub reseeded : Environment
+reseeded = record seeded { layers = record { redone = bytes_eq (codes "A"); inputs = record (inputs_for (codes "r2")) { seed = codes "t" } } ∷ [] }
+
+-- ---- the section `outputs`
+
+abbrev pub output : List ℕ → inputs.DataTree → OutputTree
+output name value = record { name = name; value = value }
+
+-- two outputs each of which draws a number from 1 on, below 5
+abbrev pub drawn_outputs : List OutputTree
+drawn_outputs = output (codes "a") (whole_of (rand_of (pos 1) (pos 5))) ∷ output (codes "b") (whole_of (rand_of (pos 1) (pos 5))) ∷ []
+
+-- an output that no value has
+abbrev pub faulty : List ℕ → OutputTree
+faulty name = output name (whole_of (call_of (codes "not") null))
+
+-- an output that says which run it is of
+abbrev pub run_told : OutputTree
+run_told = output (codes "run") (whole_of (call (codes "workflow") no_exprs))
+
+-- A run that was started by a trigger with an output, and with a parameter.
+abbrev pub triggered : Environment
+triggered = fresh (record {
+  run = codes "r";
+  seed = [];
+  trigger = trigger_value (text (codes "t")) (number (pos 3));
+  parameters = (codes "p", number (pos 7)) ∷ [];
+}) (inputs_for (codes "r"))
+
+-- A and B ask for the parameter and for what the trigger put out.
+abbrev pub told_of_start : List ActionTree
+told_of_start =
+    with_inputs (action (codes "A") []) (whole_of (call_of (codes "parameters") (text (codes "p"))))
+    ∷ with_inputs (action (codes "B") []) (whole_of (call (codes "triggerOutputs") no_exprs))
+    ∷ []

@@ -55,7 +55,8 @@ fn iterations(inputs: &Val, outputs: &Val) -> u64
     }
 }
 
-fn row_cost(row: &Row) -> u64
+/// What a row costs, cut to the greatest u64.
+pub fn row_cost(row: &Row) -> u64
     ensures { result ≡ cut_u64 (row_cost (row_tree row.now)) }
 {
     (row.attempts as u64)

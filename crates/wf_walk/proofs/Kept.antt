@@ -3,7 +3,8 @@ use Rattle.std.proofs.Common.{◌≡◌, Less, ◌⊎◌, ◌+◌, ◌++◌, ◌
 use Rattle.wf_layers.specs.Address.{Table, address}
 use Rattle.wf_layers.specs.Definition.{Need, Names, needs_of}
 use Rattle.wf_layers.proofs.Basics.{two, and_in}
-use Rattle.wf_meaning.specs.Definition.{ActionTree, InputsTree}
+use Rattle.wf_meaning.specs.Definition.{ActionTree}
+use Rattle.wf_meaning.specs.Environment.{Environment}
 use Rattle.wf_meaning.specs.Flat.{graph_of}
 use Rattle.wf_meaning.specs.Laws.{AreMeanings, AreClosed, StepsOfWalk}
 use Rattle.wf_meaning.specs.Rounds.{all_end}
@@ -50,28 +51,28 @@ needs_there (need ∷ needs) known p all names =
       | inr later ↦ needs_there needs known p parts.1 later
     ]
 
-module _ (inputs : InputsTree) (actions : List ActionTree) (all : all_end actions ≡ true) (steps : StepsOfWalk inputs actions) (rows : List (Option Row)) (n : ℕ) (a : ActionTree) (r : Row)
-    (is : slice_get actions n ≡ Some a) (lt : n < length rows) (ready : all_there a.after (known_of rows) ≡ true) (made : row_content r ≡ row_in inputs actions (known_of rows) a) where
+module _ (env : Environment) (actions : List ActionTree) (all : all_end actions ≡ true) (steps : StepsOfWalk env actions) (rows : List (Option Row)) (n : ℕ) (a : ActionTree) (r : Row)
+    (is : slice_get actions n ≡ Some a) (lt : n < length rows) (ready : all_there a.after (known_of rows) ≡ true) (made : row_content r ≡ row_in env actions (known_of rows) a) where
   -- what had a row has one
   stays : (p : ℕ) → is_some (row_at rows p) ≡ true → is_some (row_at (set rows n (Some r)) p) ≡ true
   stays p there = ⊎_elim (λ same. subst (λ q. is_some (row_at (set rows n (Some r)) q) ≡ true) (eqb-true n p same) (ap is_some (row_here rows n r lt))) (λ other. ap is_some (row_else rows n p r other) ∙ there) (two (nat_eq n p))
 
-  pub kept : AreRight inputs actions rows → AreRight inputs actions (set rows n (Some r))
+  pub kept : AreRight env actions rows → AreRight env actions (set rows n (Some r))
   kept before = (meanings, closed)
     where
-      own : table_of inputs actions (address n []) ≡ Some (row_in inputs actions (known_of rows) a)
+      own : table_of env actions (address n []) ≡ Some (row_in env actions (known_of rows) a)
       own = steps n a is (known_of rows) before.0 before.1 (λ p names. needs_there a.after (known_of rows) p ready names)
 
-      meanings : AreMeanings inputs actions (known_of (set rows n (Some r)))
+      meanings : AreMeanings env actions (known_of (set rows n (Some r)))
       meanings m q there = ⊎_elim here other (two (nat_eq n m))
         where
-          here : nat_eq n m ≡ true → table_of inputs actions (address m []) ≡ Some q
+          here : nat_eq n m ≡ true → table_of env actions (address m []) ≡ Some q
           here same =
               let place : n ≡ m = eqb-true n m same in
               let found : Some (row_content r) ≡ Some q = sym (row_here rows n r lt) ∙ (ap (row_at (set rows n (Some r))) place ∙ there) in
-              subst (λ k. table_of inputs actions (address k []) ≡ Some q) place (own ∙ (ap (λ x. Some x) (sym made) ∙ found))
+              subst (λ k. table_of env actions (address k []) ≡ Some q) place (own ∙ (ap (λ x. Some x) (sym made) ∙ found))
 
-          other : nat_eq n m ≡ false → table_of inputs actions (address m []) ≡ Some q
+          other : nat_eq n m ≡ false → table_of env actions (address m []) ≡ Some q
           other off = before.0 m q (sym (row_else rows n m r off) ∙ there)
 
       closed : AreClosed actions (known_of (set rows n (Some r)))
@@ -91,8 +92,8 @@ row_none zero n = refl
 row_none (suc size) zero = refl
 row_none (suc size) (suc n) = row_none size n
 
-pub none_right : (inputs : InputsTree) (actions : List ActionTree) (rows : List (Option Row)) (size : ℕ) → rows ≡ replicate size None → AreRight inputs actions rows
-none_right inputs actions rows size is = rw is ((λ n r there. absurd (true≢false (sym (ap is_some (sym (row_none size n) ∙ there))))), (λ n p there names. absurd (true≢false (sym (ap is_some (sym (row_none size n)) ∙ there)))))
+pub none_right : (env : Environment) (actions : List ActionTree) (rows : List (Option Row)) (size : ℕ) → rows ≡ replicate size None → AreRight env actions rows
+none_right env actions rows size is = rw is ((λ n r there. absurd (true≢false (sym (ap is_some (sym (row_none size n) ∙ there))))), (λ n p there names. absurd (true≢false (sym (ap is_some (sym (row_none size n)) ∙ there)))))
 
 -- ---- the marks of the actions that have rows
 
@@ -178,9 +179,9 @@ rows_from_is t n (a ∷ actions) (Some r ∷ rows) size are there named =
     (ap (λ more. row_tree r ∷ more) (rows_from_is t (suc n) actions rows (omega (arith, size))
     (λ m j q is found. are m (suc j) q (omega (arith, is)) found) (λ j lt. there (suc j) (omega (arith, lt))) (λ m b q at found. named (suc m) b q at found)))
 
-pub rows_are : (inputs : InputsTree) (actions : List ActionTree) (rows : List (Option Row)) → AreAll inputs actions rows → rows_there rows ≡ rows_of inputs actions
-rows_are inputs actions rows every =
-    sym (rows_from_is (table_of inputs actions) 0 actions rows every.size
+pub rows_are : (env : Environment) (actions : List ActionTree) (rows : List (Option Row)) → AreAll env actions rows → rows_there rows ≡ rows_of env actions
+rows_are env actions rows every =
+    sym (rows_from_is (table_of env actions) 0 actions rows every.size
     (λ m j r is found. every.meanings m r (ap (row_at rows) (trim m j is) ∙ found)) every.there every.named)
   where
     trim : (m j : ℕ) → m ≡ 0 + j → m ≡ j
@@ -204,10 +205,10 @@ above_others (x ∷ so_far) (Some r) rest order =
     (all-middle (λ y. address_cmp x.address (address_of y) ≡ Less) (map row_tree so_far) (row_tree r) (rows_there rest) order.0, above_others so_far (Some r) rest order.1)
 
 -- the row of each action is the meaning's
-pub known_is : (inputs : InputsTree) (actions : List ActionTree) (rows : List (Option Row)) → AreAll inputs actions rows → (n : ℕ) →
-    n < length actions → row_at rows n ≡ table_of inputs actions (address n [])
-known_is inputs actions rows every n lt = go (row_at rows n) refl (every.there n (omega (arith, lt, every.size)))
+pub known_is : (env : Environment) (actions : List ActionTree) (rows : List (Option Row)) → AreAll env actions rows → (n : ℕ) →
+    n < length actions → row_at rows n ≡ table_of env actions (address n [])
+known_is env actions rows every n lt = go (row_at rows n) refl (every.there n (omega (arith, lt, every.size)))
   where
-    go : (found : Option record_of.Row) → row_at rows n ≡ found → is_some (row_at rows n) ≡ true → row_at rows n ≡ table_of inputs actions (address n [])
+    go : (found : Option record_of.Row) → row_at rows n ≡ found → is_some (row_at rows n) ≡ true → row_at rows n ≡ table_of env actions (address n [])
     go None is there = absurd (true≢false (sym (sym (ap is_some is) ∙ there)))
     go (Some r) is there = is ∙ sym (every.meanings n r is)

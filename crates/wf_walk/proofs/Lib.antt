@@ -1,7 +1,6 @@
-pub mod Coming
 pub mod Kept
 pub mod Ends
-pub mod Counts
-pub mod BeforeLemmas
-pub mod NamesLemmas
+pub mod MarkLemmas
+pub mod PlaceLemmas
+pub mod OutputLemmas
 pub mod StatusLemmas

@@ -13,9 +13,8 @@ use Rattle.wf_meaning.specs.Status.{judge_row, any_named, fails, is_named, graph
 use Rattle.wf_meaning.proofs.Instance.{waited_there}
 use Rattle.wf_meaning.proofs.Marks.{is_within}
 use Rattle.wf_meaning.proofs.Waiting.{or_none, ends}
-use Rattle.wf_walk.specs.Before.{with_mark}
 use Rattle.wf_walk.specs.Failing.{AreFails, needs_named, all_named}
-use Rattle.wf_walk.proofs.BeforeLemmas.{mark_size, mark_at, set_apart, none_marked, or_false, or_assoc, size_none}
+use Rattle.wf_walk.proofs.MarkLemmas.{size_set, mark_at, set_apart, none_marked, or_false, or_assoc, size_none}
 
 -- ---- an action that ends fails the graph by its row and by those that it waited for
 
@@ -88,13 +87,13 @@ module _ (actions : List ActionTree) (known : Table record_of.Row) where
 
 needs_size : (needs : List Need) (marks : List Bool) → length (needs_named needs marks) ≡ length marks
 needs_size [] marks = refl
-needs_size (need ∷ needs) marks = needs_size needs (with_mark marks need.name true) ∙ mark_size marks need.name true
+needs_size (need ∷ needs) marks = needs_size needs (set marks need.name true) ∙ size_set marks need.name
 
 needs_at : (needs : List Need) (marks : List Bool) (p : ℕ) → p < length marks →
     is_marked (needs_named needs marks) p ≡ (is_marked marks p || list_any (λ need. nat_eq need.name p) needs)
 needs_at [] marks p lt = sym (or_false (is_marked marks p))
 needs_at (need ∷ needs) marks p lt =
-    needs_at needs (with_mark marks need.name true) p (omega (arith, lt, mark_size marks need.name true))
+    needs_at needs (set marks need.name true) p (omega (arith, lt, size_set marks need.name))
     ∙ (ap (λ b. b || list_any (λ need. nat_eq need.name p) needs) (mark_at marks need.name p lt)
     ∙ or_assoc (is_marked marks p) (nat_eq need.name p) (list_any (λ need. nat_eq need.name p) needs))
 

@@ -1,12 +1,11 @@
 -- Which actions fail their graph, and which are named, as marks.
-use Rattle.std.specs.Prelude.{◌≡◌, ℕ, ◌<◌, Bool, true, List, [], ◌∷◌, length}
+use Rattle.std.specs.Prelude.{◌≡◌, ℕ, ◌<◌, Bool, true, List, [], ◌∷◌, length, set}
 use Rattle.wf_layers.specs.Address.{Table}
 use Rattle.wf_layers.specs.Definition.{Need}
 use Rattle.wf_meaning.specs.Definition.{ActionTree}
 use Rattle.wf_meaning.specs.Marks.{is_marked}
 use Rattle.wf_record.specs.Record as record_of
 use Rattle.wf_meaning.specs.Status.{fails}
-use Rattle.wf_walk.specs.Before.{with_mark}
 
 -- the marked actions are those that fail the graph, where they are judged
 pub record AreFails (actions : List ActionTree) (known : Table record_of.Row) (marks : List Bool) : Type 0 where
@@ -16,7 +15,7 @@ pub record AreFails (actions : List ActionTree) (known : Table record_of.Row) (m
 -- marks with those of all that are waited for
 abbrev pub needs_named : List Need → List Bool → List Bool
 needs_named [] marks = marks
-needs_named (need ∷ needs) marks = needs_named needs (with_mark marks need.name true)
+needs_named (need ∷ needs) marks = needs_named needs (set marks need.name true)
 
 abbrev pub all_named : List ActionTree → List Bool → List Bool
 all_named [] marks = marks

@@ -1,5 +1,4 @@
 pub mod Seen
 pub mod Walked
-pub mod Calls
-pub mod Before
 pub mod Failing
+pub mod EndingSeen

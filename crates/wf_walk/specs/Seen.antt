@@ -1,11 +1,12 @@
 -- What the structs of the walk stand for.
-use Rattle.std.specs.Prelude.{ℕ, ◌≡◌, Bool, true, false, Ok, Err, List, [], ◌∷◌, Option, None, Some, map, slice_get}
-use Rattle.wf_val.specs.Arguments.{Answer, is_memory}
-use Rattle.wf_val.specs.Seen.{tree}
+use Rattle.std.specs.Prelude.{ℕ, Bool, true, false, List, [], ◌∷◌, Option, None, Some, map, slice_get}
 use Rattle.wf_template.specs.DataSeen.{data_tree}
 use Rattle.wf_layers.specs.Address as layered
 use Rattle.wf_layers.specs.Definition as definition
-use Rattle.wf_meaning.specs.Definition.{ActionTree, InputsTree}
+use Rattle.wf_answers.specs.InputsSeen.{inputs_tree}
+use Rattle.wf_meaning.specs.Definition.{ActionTree}
+use Rattle.wf_meaning.specs.Environment.{Environment, fresh}
+use Rattle.wf_trigger.specs.StartsSeen.{start_tree}
 use Rattle.wf_walk.specs.declared.action.Given.{Given}
 use Rattle.wf_meaning.specs.Statuses.{status_tree}
 use Rattle.wf_record.specs.Seen.{row_tree}
@@ -34,11 +35,6 @@ abbrev pub has_row : Option Row → Bool
 has_row None = false
 has_row (Some r) = true
 
--- an evaluation came to this answer, unless memory ran out
-abbrev pub ComesTo : Answer → Answer → Type 0
-ComesTo (Ok v) a = a ≡ Ok v
-ComesTo (Err f) a = is_memory f ≡ false → a ≡ Err f
-
 -- the row of the action with this number, where it has ended
 abbrev pub known_row : Option (Option Row) → Option record_of.Row
 known_row None = None
@@ -56,5 +52,6 @@ known_at rows n (i ∷ is) = None
 abbrev pub known_of : List (Option Row) → layered.Table record_of.Row
 known_of rows x = known_at rows x.name x.at
 
-abbrev pub given_tree : Given → InputsTree
-given_tree g = record { run = g.run; seed = g.seed; moment = g.moment; trigger = tree g.trigger }
+-- what a run goes by that isn't made from another
+abbrev pub environment_of : Given → Environment
+environment_of g = fresh (start_tree g.start.now) (inputs_tree g.inputs.now)

@@ -4,7 +4,8 @@ use Rattle.wf_lists.specs.KeyOrder.{IsAboveKeys}
 use Rattle.wf_val.specs.Address.{address_cmp}
 use Rattle.wf_layers.specs.Address.{Table, address}
 use Rattle.wf_layers.specs.Definition.{Need}
-use Rattle.wf_meaning.specs.Definition.{ActionTree, InputsTree}
+use Rattle.wf_meaning.specs.Definition.{ActionTree}
+use Rattle.wf_meaning.specs.Environment.{Environment}
 use Rattle.wf_meaning.specs.Laws.{AreMeanings, AreClosed}
 use Rattle.wf_meaning.specs.Meaning.{instance}
 use Rattle.wf_record.specs.Record as record_of
@@ -17,8 +18,8 @@ all_there [] known = true
 all_there (need ∷ needs) known = is_some (known (address need.name [])) && all_there needs known
 
 -- rows that are there are the meaning's, and what they waited for has rows too
-abbrev pub AreRight : InputsTree → List ActionTree → List (Option Row) → Type 0
-AreRight inputs actions rows = AreMeanings inputs actions (known_of rows) × AreClosed actions (known_of rows)
+abbrev pub AreRight : Environment → List ActionTree → List (Option Row) → Type 0
+AreRight e actions rows = AreMeanings e actions (known_of rows) × AreClosed actions (known_of rows)
 
 -- a row stands at the address of its action
 abbrev pub AreNamed : List ActionTree → List (Option Row) → Type 0
@@ -30,8 +31,8 @@ IsAboveRows None rows = ⊤
 IsAboveRows (Some r) rows = IsAboveKeys address_cmp (λ x. x.address) r.address rows
 
 -- all rows are there, and are the meaning's
-pub record AreAll (inputs : InputsTree) (actions : List ActionTree) (rows : List (Option Row)) : Type 0 where
+pub record AreAll (e : Environment) (actions : List ActionTree) (rows : List (Option Row)) : Type 0 where
   pub size : length rows ≡ length actions
-  pub meanings : AreMeanings inputs actions (known_of rows)
+  pub meanings : AreMeanings e actions (known_of rows)
   pub there : (n : ℕ) → n < length rows → is_some (row_at rows n) ≡ true
   pub named : AreNamed actions rows

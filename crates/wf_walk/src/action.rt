@@ -1,7 +1,9 @@
-// Actions, and what a run of them is handed.
+// Actions, and what a run of them goes by.
+use wf_answers::Inputs;
 use wf_record::Status;
 use wf_template::Tree;
-use wf_val::{Text, Val};
+use wf_trigger::Start;
+use wf_val::Text;
 
 /// An entry of `runAfter`: the number of an action, and the statuses that are listed for it. Where it ended in none of them, the
 /// action that waits for it is Skipped.
@@ -20,12 +22,9 @@ pub struct Action {
     pub inputs: Tree,
 }
 
-/// What a run is handed: its name, the seed of its words, its moment in ticks of 100 ns since 0001-01-01T00:00:00, and the value of
-/// its trigger.
+/// What a run goes by: what it started with, and its inputs.
 #[derive(Drop)]
-pub struct Given {
-    pub run: Text,
-    pub seed: Text,
-    pub moment: i64,
-    pub trigger: Val,
+pub struct Given<'a> {
+    pub start: &'a Start,
+    pub inputs: &'a Inputs,
 }

@@ -1,38 +1,34 @@
-// What the inputs of an action see.
+// What templates of a flat graph see.
 ghost use Rattle.std.specs.Prelude.{◌≡◌, IfOk, [], map, option_map};
+ghost use Rattle.wf_answers.specs.InputsSeen.{inputs_tree};
+ghost use Rattle.wf_meaning.specs.ActionOrder.{in_name_order-prop};
+ghost use Rattle.wf_meaning.specs.Definition.{action_name};
+ghost use Rattle.wf_meaning.specs.Environment.{first_facts, fresh};
+ghost use Rattle.wf_meaning.specs.Look.{told_by, view_of};
+ghost use Rattle.wf_trigger.specs.StartsSeen.{start_tree};
+ghost use Rattle.wf_val.specs.NameOrder.{IsInNameOrder};
 ghost use Rattle.wf_val.specs.Seen.{tree};
-ghost use Rattle.wf_meaning.specs.Look.{place_of, view_of, told_at};
 ghost use Rattle.wf_walk.specs.Seen.{action_tree, known_of, known_row, row_content};
 
 use crate::action::Action;
+use crate::place::place_of;
 use std::alloc::{AllocError, Global};
+use wf_answers::Inputs;
 use wf_eval::{Look, word_of};
 use wf_record::Row;
+use wf_trigger::Start;
 use wf_val::{Fields, Name, Text, Val};
 
-/// What the inputs of an action of a flat graph see: the rows of the actions that have ended.
+/// What the templates at a place of a flat graph see: what the run goes by, and the rows of the actions that have ended.
 #[derive(Drop)]
 pub struct FlatLook<'a> {
     pub actions: &'a [Action],
     pub rows: &'a [Option<Row>],
-    pub name: &'a Text,
-    pub run: &'a Text,
-    pub seed: &'a Text,
-    pub moment: i64,
-    pub trigger: &'a Val,
+    pub start: &'a Start,
+    pub inputs: &'a Inputs,
+    pub place: &'a Text,
     pub drawn: u64,
-}
-
-// The place of the action of a name.
-pub fn place_of(actions: &[Action], name: &Text) -> Option<usize>
-    ensures { result ≡ place_of (map action_tree actions.now) name.now }
-{
-    for (place, action) in actions.iter().enumerate() {
-        if action.name.as_str() == name.as_str() {
-            return Some(place);
-        }
-    }
-    None
+    ghost in_order: { IsInNameOrder action_name (map action_tree actions.now) } by { in_name_order-prop (map action_tree actions.now) },
 }
 
 // What `actions` gives of an action that has ended.
@@ -66,14 +62,15 @@ fn view_in(
 }
 
 impl<'a> Look for FlatLook<'a> {
-    ghost told = { λ s. told_at (record { run = s.run.now; seed = s.seed.now; moment = s.moment; trigger = tree s.trigger.now }) (map action_tree s.actions.now) s.name.now (known_of s.rows.now) };
+    ghost told = { λ s. told_by (start_tree s.start.now) (first_facts (fresh (start_tree s.start.now) (inputs_tree s.inputs.now)))
+        s.place.now (map action_tree s.actions.now) (known_of s.rows.now) };
 
     ghost drawn = { λ s. s.drawn };
 
     ghost held = { λ s. [] };
 
-    fn parameter(&self, _name: &Text) -> Option<&Val> {
-        None
+    fn parameter(&self, name: &Text) -> Option<&Val> {
+        self.start.parameters.get(name)
     }
 
     fn variable(&self, _name: &Text) -> Option<&Val> {
@@ -81,7 +78,7 @@ impl<'a> Look for FlatLook<'a> {
     }
 
     fn trigger(&self) -> &Val {
-        self.trigger
+        &self.start.trigger
     }
 
     fn view(&self, alloc: Global, name: &Name) -> Result<Option<Val>, AllocError> {
@@ -112,15 +109,15 @@ impl<'a> Look for FlatLook<'a> {
     }
 
     fn moment(&self) -> i64 {
-        self.moment
+        self.inputs.moment.get() as i64
     }
 
     fn run_name(&self) -> &Text {
-        self.run
+        &self.start.run
     }
 
     fn word(&mut self) -> [u8; 32] {
-        let word = word_of(self.seed, self.name, self.drawn);
+        let word = word_of(&self.start.seed, self.place, self.drawn);
         self.drawn = self.drawn.saturating_add(1);
         word
     }

@@ -1,5 +1,5 @@
 // How a graph ended, by the rows of its actions.
-ghost use Rattle.std.specs.Prelude.{◌≡◌, ◌&&◌, [], Some, true, false, map, not, option_map, replicate, length, if◌then◌else◌, IfOk};
+ghost use Rattle.std.specs.Prelude.{◌≡◌, ◌&&◌, [], Some, true, false, map, not, option_map, replicate, length, set, if◌then◌else◌, IfOk};
 ghost use Rattle.std.specs.List.{list_any};
 ghost use Rattle.wf_layers.specs.Address.{address};
 ghost use Rattle.wf_meaning.specs.Marks.{is_marked};
@@ -10,8 +10,7 @@ ghost use Rattle.wf_walk.specs.Seen.{action_tree, known_of, known_row, need_tree
 ghost use Rattle.wf_record.specs.declared.status.Status.TheVariants.{Failed, Succeeded};
 
 use crate::action::{Action, After};
-use crate::before::mark;
-use crate::cycles::{is_marked, next_ready};
+use crate::ready::{is_marked, next_ready};
 use crate::topological::topological_order;
 use std::alloc::{AllocError, Global};
 use wf_record::{Row, Status};
@@ -77,12 +76,21 @@ fn fails_of(
     Ok(fails)
 }
 
+// Marks an action, if it is there.
+fn mark(marks: &mut Vec<bool>, place: usize)
+    ensures { marks.new.items ≡ set marks.old.items place true }
+{
+    if place < marks.len() {
+        marks[place] = true;
+    }
+}
+
 // Marks the actions that are waited for.
 fn mark_needs(marks: &mut Vec<bool>, after: &[After])
     ensures { marks.new.items ≡ needs_named (map need_tree after.now) marks.old.items }
 {
     for need in after {
-        mark(marks, need.place, true);
+        mark(marks, need.place);
     }
 }
 

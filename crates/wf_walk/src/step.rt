@@ -1,24 +1,26 @@
 // The row of an action, from the rows of those that have ended.
-ghost use Rattle.std.specs.Prelude.{◌≡◌, [], IfOk, map, option_map};
+ghost use Rattle.std.specs.Prelude.{◌≡◌, [], IfOk, Some, map, option_map};
 ghost use Rattle.wf_val.specs.Seen.{tree};
 ghost use Rattle.wf_layers.specs.Address.{address};
 ghost use Rattle.wf_layers.specs.Source.{is_listed};
 ghost use Rattle.wf_meaning.specs.Meaning.{instance, instance_of, is_met, needs_met, row_in};
-ghost use Rattle.wf_meaning.specs.Flat.{skipped, composed, faulted, ended};
-ghost use Rattle.wf_walk.specs.Seen.{ComesTo, action_tree, given_tree, known_of, known_row, need_tree, row_content};
+ghost use Rattle.wf_meaning.specs.Definition.{action_name};
+ghost use Rattle.wf_meaning.specs.Flat.{begun, skipped, composed, faulted, ended};
+ghost use Rattle.wf_val.specs.NameOrder.{IsInNameOrder};
+ghost use Rattle.wf_walk.specs.Seen.{action_tree, environment_of, known_of, known_row, need_tree, row_content};
 ghost use Rattle.wf_meaning.specs.Statuses.{status_tree};
-ghost use Rattle.wf_val.specs.Arguments.{Answer, seen};
+ghost use Rattle.wf_val.specs.Arguments.{seen};
 
 use crate::action::{Action, After, Given};
 use crate::flat_look::FlatLook;
+use crate::value::value_in;
 use std::alloc::{AllocError, Global};
-use wf_eval::eval_tree;
 use wf_json::fault_text;
 use wf_record::{Row, Status};
 use wf_val::{Address, EvalFault, Fields, Indexes, Name, Text, Val};
 
-// Whether the status is one of these.
-fn is_listed(listed: &[Status], status: Status) -> bool
+/// Whether the status is one of these.
+pub fn is_listed(listed: &[Status], status: Status) -> bool
     ensures { result ≡ is_listed (map status_tree listed.now) (status_tree status) }
 {
     for one in listed {
@@ -68,7 +70,7 @@ fn outside_loops(alloc: Global, name: &Name) -> Result<Address, AllocError>
 }
 
 /// The row of an action that doesn't run.
-fn skipped(alloc: Global, name: &Text) -> Result<Row, AllocError>
+pub fn skipped(alloc: Global, name: &Text) -> Result<Row, AllocError>
     ensures { IfOk result (λ row. (row_content row ≡ skipped) × (row.address ≡ instance_of name.now)) }
 {
     Ok(Row {
@@ -115,19 +117,52 @@ fn faulted(alloc: Global, name: &Text, fault: &EvalFault) -> Result<Row, AllocEr
     })
 }
 
-// The row that an action's inputs come to.
-fn row_of(alloc: Global, name: &Text, come_to: Result<Val, EvalFault>) -> Result<Row, AllocError>
-    ensures { IfOk result (λ row. ((a : Answer) → ComesTo (seen come_to) a → row_content row ≡ ended a) × (row.address ≡ instance_of name.now)) }
+/// What the inputs of an action come to, from the rows of those that have ended.
+pub fn begin(
+    alloc: Global,
+    given: &Given,
+    actions: &[Action],
+    rows: &[Option<Row>],
+    action: &Action,
+) -> Result<Result<Val, EvalFault>, AllocError>
+    requires in_order { IsInNameOrder action_name (map action_tree actions.now) }
+    ensures { IfOk result (λ r. seen r ≡ begun (environment_of given.now) (map action_tree actions.now) (known_of rows.now) (Some (action_tree action.now))) }
 {
-    match come_to {
+    let mut look = FlatLook {
+        actions,
+        rows,
+        start: given.start,
+        inputs: given.inputs,
+        place: &action.name,
+        drawn: 0,
+    };
+    let begun = value_in(alloc, &action.inputs, &mut look)?;
+    Ok(begun)
+}
+
+/// The row of an action whose inputs came to this.
+pub fn end(alloc: Global, name: &Text, begun: &Result<Val, EvalFault>) -> Result<Row, AllocError>
+    ensures row { IfOk result (λ row. row_content row ≡ ended (seen begun.now)) }
+    ensures address { IfOk result (λ row. row.address ≡ instance_of name.now) }
+{
+    match begun {
+        Ok(value) => composed(alloc, name, value.copy(alloc)?),
+        Err(fault) => faulted(alloc, name, fault),
+    }
+}
+
+// The same, of what isn't wanted any more.
+fn into_row(alloc: Global, name: &Text, begun: Result<Val, EvalFault>) -> Result<Row, AllocError>
+    ensures row { IfOk result (λ row. row_content row ≡ ended (seen begun)) }
+    ensures address { IfOk result (λ row. row.address ≡ instance_of name.now) }
+{
+    match begun {
         Ok(value) => composed(alloc, name, value),
-        Err(EvalFault::Memory) => Err(AllocError),
         Err(fault) => faulted(alloc, name, &fault),
     }
 }
 
 /// The row of an action, from the rows of those that have ended.
-#[tactic(auto, using(crate::proofs::Coming::comes_to))]
 pub fn row_in(
     alloc: Global,
     given: &Given,
@@ -135,25 +170,13 @@ pub fn row_in(
     rows: &[Option<Row>],
     action: &Action,
 ) -> Result<Row, AllocError>
-    ensures row { IfOk result (λ row. row_content row ≡ row_in (given_tree given.now) (map action_tree actions.now) (known_of rows.now) (action_tree action.now)) }
+    requires in_order { IsInNameOrder action_name (map action_tree actions.now) }
+    ensures row { IfOk result (λ row. row_content row ≡ row_in (environment_of given.now) (map action_tree actions.now) (known_of rows.now) (action_tree action.now)) }
     ensures address { IfOk result (λ row. row.address ≡ instance (action_tree action.now)) }
 {
     if !needs_met(&action.after, rows) {
         return skipped(alloc, &action.name);
     }
-    let mut look = FlatLook {
-        actions,
-        rows,
-        name: &action.name,
-        run: &given.run,
-        seed: &given.seed,
-        moment: given.moment,
-        trigger: &given.trigger,
-        drawn: 0,
-    };
-    row_of(
-        alloc,
-        &action.name,
-        eval_tree(alloc, &action.inputs, &mut look),
-    )
+    let begun = begin(alloc, given, actions, rows, action)?;
+    into_row(alloc, &action.name, begun)
 }

@@ -6,21 +6,31 @@ ghost use Rattle.wf_val.specs.NameOrder.{IsInNameOrder};
 ghost use Rattle.wf_record.specs.Record.{address_of};
 ghost use Rattle.wf_record.specs.Seen.{row_tree};
 ghost use Rattle.wf_meaning.specs.Definition.{action_name};
-ghost use Rattle.wf_meaning.specs.Meaning.{rows_of, table_of};
+ghost use Rattle.wf_answers.specs.InputsSeen.{inputs_tree};
+ghost use Rattle.wf_def.specs.DefSeen.{output_tree};
+ghost use Rattle.wf_meaning.specs.Environment.{fresh};
+ghost use Rattle.wf_meaning.specs.Meaning.{ending_of, meaning, rows_of, table_of};
+ghost use Rattle.wf_record.specs.Seen.{record_tree};
+ghost use Rattle.wf_trigger.specs.StartsSeen.{start_tree};
+ghost use Rattle.wf_walk.specs.EndingSeen.{ending_tree};
 ghost use Rattle.wf_meaning.specs.Names.{names_before};
 ghost use Rattle.wf_meaning.specs.Rounds.{all_end};
-ghost use Rattle.wf_meaning.specs.Status.{graph_status};
-ghost use Rattle.wf_walk.specs.Seen.{action_tree, given_tree, rows_there};
+ghost use Rattle.wf_walk.specs.Seen.{action_tree, environment_of, rows_there};
 ghost use Rattle.wf_walk.specs.Walked.{AreAll, IsAboveRows};
 
 use crate::action::{Action, Given};
-use crate::cycles::next_ready;
+use crate::outputs::{Ending, outputs_of, run_ending};
+use crate::ready::next_ready;
 use crate::status::graph_status;
 use crate::step::row_in;
 use crate::topological::topological_order;
 use std::alloc::{AllocError, Global};
+use wf_answers::Inputs;
+use wf_def::Output;
 use wf_meaning::a_walk_makes_the_meanings_rows;
-use wf_record::{Row, Rows, Status};
+use wf_record::{Record, Row, Rows};
+use wf_trigger::Start;
+use wf_val::{Digest, Val};
 
 // No row for any action.
 fn no_rows(alloc: Global, actions: &[Action]) -> Result<Vec<Option<Row>>, AllocError>
@@ -39,9 +49,10 @@ fn make_rows(
     given: &Given,
     actions: &[Action],
 ) -> Result<Vec<Option<Row>>, AllocError>
+    requires in_order { IsInNameOrder action_name (map action_tree actions.now) }
     requires ends { all_end (map action_tree actions.now) ≡ true }
     requires before { names_before (map action_tree actions.now) ≡ true }
-    ensures { IfOk result (λ rows. AreAll (given_tree given.now) (map action_tree actions.now) rows.items) }
+    ensures { IfOk result (λ rows. AreAll (environment_of given.now) (map action_tree actions.now) rows.items) }
 {
     a_walk_makes_the_meanings_rows();
     let order = topological_order(alloc, actions)?;
@@ -69,8 +80,8 @@ fn push_row(there: &mut Rows, row: Option<Row>) -> Result<(), AllocError>
     Ok(())
 }
 
-// The rows that are there.
-fn rows_there(alloc: Global, rows: Vec<Option<Row>>) -> Result<Rows, AllocError>
+/// The rows that are there.
+pub fn rows_there(alloc: Global, rows: Vec<Option<Row>>) -> Result<Rows, AllocError>
     requires { IsInKeyOrder address_cmp address_of (rows_there rows.items) }
     ensures { IfOk result (λ there. map row_tree there ≡ rows_there rows.items) }
 {
@@ -81,26 +92,66 @@ fn rows_there(alloc: Global, rows: Vec<Option<Row>>) -> Result<Rows, AllocError>
     Ok(there)
 }
 
-/// What the actions of a graph leave: their rows in the order of their numbers, and how the graph ended.
+/// What a run of a flat definition leaves: the rows of its actions in the order of their addresses, how it ended, and what it gives out.
 #[derive(Drop)]
 pub struct Walked {
     pub rows: Rows,
-    pub status: Status,
+    pub ending: Ending,
 }
 
-/// Makes the rows of the actions of a graph, and the graph's status.
-pub fn walk(alloc: Global, given: &Given, actions: &[Action]) -> Result<Walked, AllocError>
+/// Makes the rows of the actions of a graph, and then the section `outputs`, which sees all of them.
+pub fn walk(
+    alloc: Global,
+    given: &Given,
+    actions: &[Action],
+    outputs: &[Output],
+) -> Result<Walked, AllocError>
     requires in_order { IsInNameOrder action_name (map action_tree actions.now) }
     requires ends { all_end (map action_tree actions.now) ≡ true }
     requires before { names_before (map action_tree actions.now) ≡ true }
-    ensures rows { IfOk result (λ walked. map row_tree walked.rows ≡ rows_of (given_tree given.now) (map action_tree actions.now)) }
-    ensures status { IfOk result (λ walked. let trees = map action_tree actions.now in
-        walked.status ≡ graph_status trees (table_of (given_tree given.now) trees)) }
+    ensures rows { IfOk result (λ walked. map row_tree walked.rows ≡ rows_of (environment_of given.now) (map action_tree actions.now)) }
+    ensures ending { IfOk result (λ walked. let trees = map action_tree actions.now in
+        ending_tree walked.ending ≡ ending_of (map output_tree outputs.now) (environment_of given.now) trees (table_of (environment_of given.now) trees)) }
 {
     let rows = make_rows(alloc, given, actions)?;
     let status = graph_status(alloc, actions, &rows)?;
+    let outputs = outputs_of(alloc, given, actions, &rows, outputs)?;
     Ok(Walked {
+        ending: run_ending(alloc, status, outputs)?,
         rows: rows_there(alloc, rows)?,
-        status,
+    })
+}
+
+/// The record that a run of a flat definition leaves, which goes by its start and its inputs.
+pub fn record_of(
+    alloc: Global,
+    digest: Digest,
+    start: Start,
+    inputs: &Inputs,
+    actions: &[Action],
+    outputs: &[Output],
+) -> Result<Record, AllocError>
+    requires in_order { IsInNameOrder action_name (map action_tree actions.now) }
+    requires ends { all_end (map action_tree actions.now) ≡ true }
+    requires before { names_before (map action_tree actions.now) ≡ true }
+    ensures { IfOk result (λ r. record_tree r
+        ≡ meaning (record { digest = digest.bytes; outputs = map output_tree outputs.now; actions = map action_tree actions.now })
+        (fresh (start_tree start) (inputs_tree inputs.now))) }
+{
+    let given = Given {
+        start: &start,
+        inputs,
+    };
+    let walked = walk(alloc, &given, actions, outputs)?;
+    Ok(Record {
+        run: start.run,
+        digest,
+        trigger: start.trigger,
+        parameters: start.parameters,
+        status: walked.ending.status,
+        error: walked.ending.error,
+        response: Val::Null,
+        outputs: walked.ending.outputs,
+        rows: walked.rows,
     })
 }

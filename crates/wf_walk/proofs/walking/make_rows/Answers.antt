@@ -3,7 +3,7 @@ use Rattle.std.proofs.lemmas.List.{length-map, length-replicate}
 use Rattle.wf_meaning.proofs.Marks.{marked_less, marked_more, first_size, first_count, first_ended, one_more}
 use Rattle.wf_walk.proofs.Ends.{every_marked}
 use Rattle.wf_meaning.specs.Meaning.{instance, row_in}
-use Rattle.wf_walk.specs.Seen.{action_tree, given_tree, known_of, row_content}
+use Rattle.wf_walk.specs.Seen.{action_tree, environment_of, known_of, row_content}
 use Rattle.wf_walk.specs.declared.action.Action.{Action}
 use Rattle.wf_record.specs.declared.row.Row.{Row}
 use Rattle.wf_walk.proofs.Kept.{at_place, kept, none_right, set_tied, ready_there, first_tied, there_at, named_kept, none_named}
@@ -21,7 +21,7 @@ loop-place-init c =
       ended = first_ended _ bs _ none;
       size = ap length absent ∙ length-replicate {A = Option Row} (length c.args.actions.now) None;
       tied = first_tied bs rows _ none absent;
-      right = none_right _ _ rows _ absent;
+      right = none_right (environment_of c.args.given.now) (map action_tree c.args.actions.now) rows (length c.args.actions.now) absent;
       named = none_named _ rows _ absent;
     }
 
@@ -57,16 +57,16 @@ loop-place-preserved c =
     let is : slice_get (map action_tree xs) c.in-Some.place ≡ Some (action_tree a) =
     at_place action_tree xs c.in-Some.place a lt ∙ ap (λ b. Some (action_tree b)) (sym c.index-actions-place.is) in
     let there = ready_there bs rows (action_tree a) (slice_get (map action_tree xs) c.in-Some.place) c.loop-place.invariant.tied is ready in
-    let made : row_content r ≡ row_in (given_tree c.args.given.now) (map action_tree xs) (known_of rows) (action_tree a) = search rules in
+    let made : row_content r ≡ row_in (environment_of c.args.given.now) (map action_tree xs) (known_of rows) (action_tree a) = search rules in
     let name : r.address ≡ instance (action_tree a) = search rules in
-    let steps = c.a_walk_makes_the_meanings_rows.ensures (given_tree c.args.given.now) (map action_tree xs) c.requires.ends c.requires.before in
+    let steps = c.a_walk_makes_the_meanings_rows.ensures (environment_of c.args.given.now) (map action_tree xs) c.requires.ends c.requires.before in
     record {
       same = length-set bs c.in-Some.place true ∙ c.loop-place.invariant.same;
       counted = omega (arith, more, c.loop-place.invariant.counted);
       ended = one_more _ bs c.in-Some.place c.loop-place.invariant.ended within off ready;
       size = length-set rows c.in-Some.place (Some r) ∙ c.loop-place.invariant.size;
       tied = ap (λ cs. set cs c.in-Some.place true) c.loop-place.invariant.tied ∙ sym (set_tied rows c.in-Some.place r);
-      right = kept (given_tree c.args.given.now) (map action_tree xs) c.requires.ends steps rows c.in-Some.place (action_tree a) r is lt_rows
+      right = kept (environment_of c.args.given.now) (map action_tree xs) c.requires.ends steps rows c.in-Some.place (action_tree a) r is lt_rows
           there made c.loop-place.invariant.right;
       named = named_kept (map action_tree xs) rows c.in-Some.place (action_tree a) r is name c.loop-place.invariant.named;
     }

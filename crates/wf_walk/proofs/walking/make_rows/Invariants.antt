@@ -1,6 +1,6 @@
 use Rattle.std.proofs.Common.{◌≡◌, ◌-◌, length, map}
 use Rattle.wf_meaning.proofs.Marks.{marked, HaveEnded}
-use Rattle.wf_walk.specs.Seen.{action_tree, given_tree, has_row}
+use Rattle.wf_walk.specs.Seen.{action_tree, environment_of, has_row}
 use Rattle.wf_walk.specs.Walked.{AreRight, AreNamed}
 use Rattle.wf_walk.proofs.walking.make_rows.Given as goal
 
@@ -14,6 +14,6 @@ invariant-loop-place l = record {
   ended : HaveEnded (map action_tree l.actions) l.marks.items;
   size : length l.rows.items ≡ length l.actions;
   tied : l.marks.items ≡ map has_row l.rows.items;
-  right : AreRight (given_tree l.given) (map action_tree l.actions) l.rows.items;
+  right : AreRight (environment_of l.given) (map action_tree l.actions) l.rows.items;
   named : AreNamed (map action_tree l.actions) l.rows.items;
 }
