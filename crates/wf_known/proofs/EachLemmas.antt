@@ -28,7 +28,7 @@ use Rattle.wf_def.specs.declared.after.After.{After}
 use Rattle.wf_reading.specs.Afters.{after_of, entries}
 use Rattle.wf_reading.specs.Facts.{HasDepths}
 use Rattle.wf_reading.specs.Graphs.{graph_of, has_option, kind_at, kind_with, number_in, repetitions_of, switch_of, within}
-use Rattle.wf_reading.specs.Leaves.{leaf_of, or_standard, policy_in}
+use Rattle.wf_leaves.specs.Leaves.{leaf_of, or_standard, policy_in}
 use Rattle.wf_reading.proofs.DepthLemmas.{PathsAreExact}
 use Rattle.wf_reading.proofs.RunAfterLemmas.{append-first, graph-depths}
 use Rattle.wf_known.specs.Each.{EachCase, EachGraph, EachIn, EachInside}

@@ -12,7 +12,7 @@ use Rattle.wf_form.specs.Whole.{Whole}
 use Rattle.wf_form.specs.declared.role.Role.{Role}
 use Rattle.wf_form.specs.declared.rule.Rule.{Rule}
 use Rattle.wf_def.specs.ActionTree.{ActionTrees, KindTree, CaseTrees}
-use Rattle.wf_reading.specs.Leaves.{leaf_of}
+use Rattle.wf_leaves.specs.Leaves.{leaf_of}
 use Rattle.wf_reading.proofs.RunAfterLemmas.{append-first}
 use Rattle.wf_known.specs.Held.{levels, levels_among, levels_in}
 use Rattle.wf_known.proofs.WalkLemmas.{Fine, Steps}

@@ -22,7 +22,7 @@ use Rattle.wf_form.specs.declared.role.Holder.{Holder}
 use Rattle.wf_form.specs.declared.rule.Rule.{Rule}
 use Rattle.wf_def.specs.ActionTree.{KindTree, scope, branch, switch, switch_else, foreach, until, ActionTrees, no_actions, action_then, CaseTree, case_trees, CaseTrees, no_cases, case_then}
 use Rattle.wf_reading.specs.Graphs.{action_with, branch_in, branch_of, cases_in, cases_of, each_case, graph_in, graph_of, kind_at, kind_with, switch_of}
-use Rattle.wf_reading.specs.Leaves.{leaf_of, nothing}
+use Rattle.wf_leaves.specs.Leaves.{leaf_of, nothing}
 use Rattle.wf_reading.specs.Meant.{top_at}
 use Rattle.wf_reading.proofs.GraphLemmas.{value_of-here, value_of-later}
 use Rattle.wf_reading.proofs.PartLemmas.{equal_keys}

@@ -1,0 +1,7 @@
+mod ChainLemmas
+mod LoopLemmas
+pub mod NameLemmas
+pub mod NumberLemmas
+mod SiteLemmas
+mod TableLemmas
+mod WorkedRows

@@ -1,0 +1,5 @@
+pub mod Actions
+pub mod Named
+pub mod Seen
+pub mod Sites
+pub mod UsesTree
