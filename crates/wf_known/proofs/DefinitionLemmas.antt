@@ -12,8 +12,8 @@ use Rattle.wf_reading.specs.Read.{IsRead}
 use Rattle.wf_reading.proofs.DepthLemmas.{PathsAreExact}
 use Rattle.wf_reading.proofs.ReadLemmas.{inner-well_formed}
 use Rattle.wf_known.specs.Each.{EachCase, EachGraph, EachIn, EachInside}
-use Rattle.wf_known.specs.Held.{AreInRange}
-use Rattle.wf_known.proofs.EachLemmas.{depth_steps, HaveNumbers, range_steps, sound_steps}
+use Rattle.wf_known.specs.Held.{AreInRange, EntriesAreNumbered}
+use Rattle.wf_known.proofs.EachLemmas.{depth_steps, entry_steps, HaveNumbers, range_steps, sound_steps}
 use Rattle.wf_known.proofs.WalkLemmas.{top-shown}
 
 module _ (d : DefTree) (r : IsRead d) (fine : offences (inner_of r.value) Rule.RunAfter ≡ []) where
@@ -34,6 +34,12 @@ module _ (d : DefTree) (r : IsRead d) (fine : offences (inner_of r.value) Rule.R
         (λ l. EachIn HasDepths)
         (λ l. EachCase HasDepths) (depth_steps (whole_of (inner_of r.value)) number_of exact) (inner_of r.value)
         (inner-well_formed r.value r.well_formed) fine)
+
+    pub read-entries : EachGraph EntriesAreNumbered d.top
+    read-entries = subst (λ (e : DefTree). EachGraph EntriesAreNumbered e.top) r.means
+        (top-shown Rule.RunAfter (whole_of (inner_of r.value)) number_of (λ l. EachGraph EntriesAreNumbered)
+        (λ l. EachInside EntriesAreNumbered) (λ l. EachIn EntriesAreNumbered) (λ l. EachCase EntriesAreNumbered)
+        (entry_steps number_of (whole_of (inner_of r.value)) exact) (inner_of r.value) (inner-well_formed r.value r.well_formed) fine)
 
     abbrev pub Sound : ActionTrees → Type 0
     Sound g = HasDepths g × HaveNumbers number_of g

@@ -1,6 +1,6 @@
 -- Each graph of a definition that breaks no rule, at any depth: its `runAfter` has depths, its actions are numbered by their names, and its
 -- numbers have their ranges.
-use Rattle.std.proofs.Common.{◌≡◌, ◌≤◌, ℕ, ℤ, pos, Bool, true, false, List, [], ◌∷◌, ◌++◌, Option, Some, None, Result, Ok, Err, map, refl, arith}
+use Rattle.std.proofs.Common.{◌≡◌, ◌≤◌, ℕ, ℤ, pos, Bool, true, false, List, [], ◌∷◌, ◌++◌, Option, Some, None, Result, Ok, Err, map, refl, arith, sym, ap, ◌∙◌}
 use Rattle.std.specs.Prelude.{◌||◌, nat_le, if◌then◌else◌, codes}
 use Rattle.std.specs.List.{AllByRecursion}
 use Rattle.std.specs.Str.{str_eq_ignore_ascii_case}
@@ -30,9 +30,10 @@ use Rattle.wf_reading.specs.Facts.{HasDepths}
 use Rattle.wf_reading.specs.Graphs.{graph_of, has_option, kind_at, kind_with, number_in, repetitions_of, switch_of, within}
 use Rattle.wf_leaves.specs.Leaves.{leaf_of, or_standard, policy_in}
 use Rattle.wf_reading.proofs.DepthLemmas.{PathsAreExact}
+use Rattle.wf_reading.proofs.PartLemmas.{equal_keys}
 use Rattle.wf_reading.proofs.RunAfterLemmas.{append-first, graph-depths}
 use Rattle.wf_known.specs.Each.{EachCase, EachGraph, EachIn, EachInside}
-use Rattle.wf_known.specs.Held.{AreInRange, IsInRange, IsPolicyInRange}
+use Rattle.wf_known.specs.Held.{AreInRange, EntriesAreNumbered, IsInRange, IsNumberOf, IsPolicyInRange}
 use Rattle.wf_known.proofs.WalkLemmas.{Fine, Steps}
 
 -- ---- what holds of each graph by itself
@@ -125,6 +126,33 @@ module _ (whole : Whole) (number_of : List ℕ → ℕ) (exact : PathsAreExact) 
       (λ l. EachCase Sound)
   sound_steps = each_steps Rule.RunAfter whole number_of Sound (no_depths, tt)
       (λ l key p ms order fine. (graph-depths number_of p exact ms order (graph-fine whole l key ms fine), graph-numbered p ms))
+
+-- so an entry has the number of the action whose name it has
+module _ (number_of : List ℕ → ℕ) where
+  number-is : (e : After) → e.number ≡ number_of e.name → (as' : List ActionTree) → AllByRecursion (HasNumbers number_of) as'
+      → AllByRecursion (IsNumberOf e) as'
+  number-is e is [] all = tt
+  number-is e is (a ∷ more) all =
+      ((λ same. all.0.0 ∙ ap number_of (sym (equal_keys e.name (action_name a) same)) ∙ sym is), number-is e is more all.1)
+
+  entries-are : (as' : List ActionTree) → AllByRecursion (HasNumbers number_of) as' → (es : List After)
+      → AllByRecursion (λ (e : After). e.number ≡ number_of e.name) es → AllByRecursion (λ e. AllByRecursion (IsNumberOf e) as') es
+  entries-are as' all [] each = tt
+  entries-are as' all (e ∷ es) each = (number-is e each.0 as' all, entries-are as' all es each.1)
+
+  actions-are : (all_actions as' : List ActionTree) → AllByRecursion (HasNumbers number_of) all_actions
+      → AllByRecursion (HasNumbers number_of) as'
+      → AllByRecursion (λ a. AllByRecursion (λ e. AllByRecursion (IsNumberOf e) all_actions) (action_after a)) as'
+  actions-are all_actions [] all each = tt
+  actions-are all_actions (a ∷ more) all each =
+      (entries-are all_actions all (action_after a) each.0.1, actions-are all_actions more all each.1)
+
+  pub entry_steps : (whole : Whole) → PathsAreExact → Steps Rule.RunAfter whole number_of (λ l. EachGraph EntriesAreNumbered)
+      (λ l. EachInside EntriesAreNumbered) (λ l. EachIn EntriesAreNumbered) (λ l. EachCase EntriesAreNumbered)
+  entry_steps whole exact = each_steps Rule.RunAfter whole number_of EntriesAreNumbered tt
+      (λ l key p ms order fine.
+      let numbers = graph-numbered whole number_of exact p ms in
+      actions-are (actions_in (graph_of number_of p (object ms))) (actions_in (graph_of number_of p (object ms))) numbers numbers)
 
 -- ---- ranges
 

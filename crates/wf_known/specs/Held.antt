@@ -1,8 +1,9 @@
--- Which ranges the numbers of an action have, and how deep graphs stand in one another.
-use Rattle.std.specs.Prelude.{ℕ, ◌+◌, ◌≤◌, max}
+-- Which ranges the numbers of an action have, how deep graphs stand in one another, and what the entries of `runAfter` name.
+use Rattle.std.specs.Prelude.{◌≡◌, ℕ, ◌+◌, ◌≤◌, max, true, bytes_eq}
 use Rattle.std.specs.List.{AllByRecursion}
 use Rattle.wf_retry.specs.declared.policy.Policy.{Policy}
-use Rattle.wf_def.specs.ActionTree.{action, action_kind, KindTree, compose, connector, wait, response, terminate, select, query, join, parse_json, initialize, set_to, increment, decrement, append_array, append_string, scope, branch, switch, switch_else, foreach, until, ActionTrees, no_actions, action_then, actions_in, CaseTrees, no_cases, case_then}
+use Rattle.wf_def.specs.ActionTree.{ActionTree, action, action_after, action_kind, action_name, action_number, KindTree, compose, connector, wait, response, terminate, select, query, join, parse_json, initialize, set_to, increment, decrement, append_array, append_string, scope, branch, switch, switch_else, foreach, until, ActionTrees, no_actions, action_then, actions_in, CaseTrees, no_cases, case_then}
+use Rattle.wf_def.specs.declared.after.After.{After}
 
 -- a request is sent again at most 90 times, and once at least where the number is told
 abbrev pub IsPolicyInRange : Policy → Type 0
@@ -52,3 +53,12 @@ abbrev mutual
   pub levels_among : CaseTrees → ℕ
   levels_among no_cases = 0
   levels_among (case_then name value graph rest) = max (levels graph) (levels_among rest)
+
+-- an entry of a `runAfter` has the number of the action whose name it has
+abbrev pub IsNumberOf : After → ActionTree → Type 0
+IsNumberOf e a = bytes_eq e.name (action_name a) ≡ true → action_number a ≡ e.number
+
+-- so does each entry of a graph
+abbrev pub EntriesAreNumbered : ActionTrees → Type 0
+EntriesAreNumbered graph =
+    AllByRecursion (λ a. AllByRecursion (λ e. AllByRecursion (IsNumberOf e) (actions_in graph)) (action_after a)) (actions_in graph)

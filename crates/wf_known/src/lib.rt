@@ -7,7 +7,7 @@
 //! often a request is sent again, and how deep graphs stand in one another.
 //!
 //! It has no code. Each public function has an empty body but for the laws that it calls, and its contract is a law; what of each graph
-//! holds in a definition, at any depth, is said by `specs/Each`, and the ranges by `specs/Held`.
+//! holds in a definition, at any depth, is said by `specs/Each` and `specs/Held`.
 #![tactic(auto)]
 
 ghost use Rattle.std.specs.Prelude.{◌≡◌, ◌≤◌, ℕ, Bool, List, length, nat_eq, true};
@@ -17,7 +17,7 @@ ghost use Rattle.wf_def.specs.DefTree.{DefTree};
 ghost use Rattle.wf_def.specs.Layered.{layered};
 ghost use Rattle.wf_def.specs.Names.{graph_names};
 ghost use Rattle.wf_known.specs.Each.{EachGraph};
-ghost use Rattle.wf_known.specs.Held.{AreInRange, levels};
+ghost use Rattle.wf_known.specs.Held.{AreInRange, EntriesAreNumbered, levels};
 ghost use Rattle.wf_layers.specs.Definition.{Closed, IsDepth, has};
 ghost use Rattle.wf_layers.specs.Seen.{Once};
 ghost use Rattle.wf_order.specs.Order.{IsBelow};
@@ -48,6 +48,14 @@ pub fn numbers_are_below()
 /// their names, that fall along every entry.
 pub fn each_graph_has_depths()
     ensures { (d : DefTree) → IsRead d → EachGraph HasDepths d.top }
+{
+    wf_paths::paths_are_exact();
+    wf_form::the_first_fault();
+}
+
+/// In each graph of a definition an entry of a `runAfter` has the number of the action that it names.
+pub fn entries_are_numbered()
+    ensures { (d : DefTree) → IsRead d → EachGraph EntriesAreNumbered d.top }
 {
     wf_paths::paths_are_exact();
     wf_form::the_first_fault();
