@@ -1,0 +1,6 @@
+mod FaultLemmas
+mod StandingLemmas
+mod ToldLemmas
+mod NameLemmas
+mod InitialLemmas
+mod WorkedRows

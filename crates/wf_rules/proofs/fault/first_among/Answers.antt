@@ -1,0 +1,27 @@
+use Rattle.std.proofs.Common.{◌≡◌, ◌+◌, ℕ, List, Option, Some, None, drop, get_or, option_map, string_bytes, ap, sym, ◌∙◌, arith}
+use Rattle.wf_def.specs.DefTree.{DefTree}
+use Rattle.wf_json.specs.Pointer.{least}
+use Rattle.wf_reading.specs.ReadSeen.{def_tree}
+use Rattle.wf_rules.specs.Broken.{offences, or_later, first_broken, rules_in_order}
+use Rattle.wf_rules.specs.declared.rule.Rule.{Rule}
+use Rattle.wf_rules.proofs.FaultLemmas.{first_step}
+use Rattle.wf_rules.proofs.fault.first_among.Goals as goal
+
+pub returns-in-Some : goal.returns-in-Some
+returns-in-Some c =
+    let d : DefTree = def_tree c.args.def.now in
+    let i = c.loop-rule.rule-index in
+    let r : Rule = get_or rules_in_order i Rule.References in
+    let there : least (offences d r) ≡ Some c.from_string.result = sym c.in_ok-pointer.ensures
+    ∙ ap (option_map string_bytes) c.in-Some.is ∙ ap Some (sym c.from_string.ensures) in
+    sym (ap (λ (o : Option (List ℕ)). or_later r o (first_broken d (drop (i + 1) rules_in_order))) there)
+    ∙ sym (first_step d rules_in_order i Rule.References (omega arith)) ∙ c.loop-rule.invariant
+
+pub loop-rule-preserved : goal.loop-rule-preserved
+loop-rule-preserved c =
+    let d : DefTree = def_tree c.args.def.now in
+    let i = c.loop-rule.rule-index in
+    let r : Rule = get_or rules_in_order i Rule.References in
+    let none : least (offences d r) ≡ None = sym c.in_ok-pointer.ensures ∙ ap (option_map string_bytes) c.in_default.is in
+    sym (ap (λ (o : Option (List ℕ)). or_later r o (first_broken d (drop (i + 1) rules_in_order))) none)
+    ∙ sym (first_step d rules_in_order i Rule.References (omega arith)) ∙ c.loop-rule.invariant

@@ -1,0 +1,14 @@
+use Rattle.std.proofs.Common.{◌≡◌, codes, drop, map, option_map, string_bytes}
+use Rattle.wf_def.specs.DefSeen.{trigger_tree}
+use Rattle.wf_json.specs.Pointer.{lesser, least}
+use Rattle.wf_rules.specs.Broken.{told_in}
+use Rattle.wf_rules.specs.KnownSeen.{whole_seen}
+use Rattle.wf_rules.specs.Rules.{trigger_breaks}
+use Rattle.wf_rules.proofs.fault.least_trigger.Given as goal
+
+abbrev pub invariant-loop-place : goal.invariant-loop-place
+invariant-loop-place l =
+    lesser (option_map string_bytes l.best)
+    (least (told_in (codes "/triggers")
+    (trigger_breaks (whole_seen l.known) l.rule) l.place (map (λ x. x.name) (map trigger_tree (drop l.place l.triggers)))))
+    ≡ least (told_in (codes "/triggers") (trigger_breaks (whole_seen l.known) l.rule) 0 (map (λ x. x.name) (map trigger_tree l.triggers)))

@@ -1,0 +1,81 @@
+-- Which rule on what it names a definition breaks first, and where.
+use Rattle.std.specs.Prelude.{◌≡◌, ℕ, suc, List, [], ◌∷◌, ◌++◌, map, Bool, cond, codes, Option, Some, None, option_map, ◌⊎◌}
+use Rattle.wf_json.specs.Pointer.{least, IsLeast, member_step}
+use Rattle.wf_val.specs.Cut.{cut_u32}
+use Rattle.wf_def.specs.DefTree.{DefTree, ParamTree}
+use Rattle.wf_reading.specs.ReadSeen.{rule_fault}
+use Rattle.wf_reading.specs.declared.definition.RuleFault.{RuleFault}
+use Rattle.wf_rules.specs.Rules.{action_breaks, output_breaks, parameter_breaks, trigger_breaks}
+use Rattle.wf_rules.specs.Standing.{pointer_at, standings_of}
+use Rattle.wf_rules.specs.Whole.{whole_of}
+use Rattle.wf_rules.specs.declared.rule.Rule.{Rule}
+
+-- the pointers of what is broken
+abbrev pub told : {X : Type 0} → (X → Bool) → (X → List ℕ) → List X → List (List ℕ)
+told broken pointer [] = []
+told broken pointer (x ∷ xs) = cond (broken x) (pointer x ∷ []) [] ++ told broken pointer xs
+
+-- Of the members of a section that have these names, from the place i on, those of the broken ones. A place is cut as that of a site is.
+abbrev pub told_in : List ℕ → (ℕ → Bool) → ℕ → List (List ℕ) → List (List ℕ)
+told_in section broken i [] = []
+told_in section broken i (name ∷ names) = cond (broken (cut_u32 i)) ((section ++ member_step name) ∷ []) []
+    ++ told_in section broken (suc i) names
+
+abbrev pub parameter_pointer : ParamTree → List ℕ
+parameter_pointer p = codes "/parameters" ++ member_step p.name
+
+-- the pointers of all that breaks a rule
+abbrev pub offences : DefTree → Rule → List (List ℕ)
+offences d rule =
+    told (action_breaks (whole_of d) rule) pointer_at (standings_of d.top)
+    ++ (told_in (codes "/outputs") (output_breaks (whole_of d) rule) 0 (map (λ o. o.name) d.outputs)
+    ++ (told (parameter_breaks d.given rule) parameter_pointer d.parameters
+    ++ told_in (codes "/triggers") (trigger_breaks (whole_of d) rule) 0 (map (λ t. t.name) d.triggers)))
+
+abbrev pub or_later : Rule → Option (List ℕ) → Option (Rule × List ℕ) → Option (Rule × List ℕ)
+or_later rule None later = later
+or_later rule (Some p) later = Some (rule, p)
+
+-- the first of these rules that is broken, with the least pointer
+abbrev pub first_broken : DefTree → List Rule → Option (Rule × List ℕ)
+first_broken d [] = None
+first_broken d (rule ∷ rules) = or_later rule (least (offences d rule)) (first_broken d rules)
+
+-- The rules that are tried, in the order of their numbers. V13, V15 and V16 aren't tried yet.
+abbrev pub rules_in_order : List Rule
+rules_in_order =
+    Rule.References ∷ Rule.Parameters ∷ Rule.Variables ∷ Rule.Initialised ∷ Rule.Items ∷ Rule.Ends ∷ Rule.LoopsLeft ∷ Rule.Results
+    ∷ Rule.Tracked ∷ Rule.Triggers ∷ []
+
+abbrev pub rule_number : Rule → ℕ
+rule_number Rule.References = 9
+rule_number Rule.Parameters = 10
+rule_number Rule.Variables = 11
+rule_number Rule.Initialised = 12
+rule_number Rule.Items = 14
+rule_number Rule.Ends = 17
+rule_number Rule.LoopsLeft = 18
+rule_number Rule.Results = 19
+rule_number Rule.Tracked = 20
+rule_number Rule.Triggers = 21
+
+-- the first rule that a definition breaks, as a fault
+abbrev pub broken_of : DefTree → Option RuleFault
+broken_of d = option_map (λ f. rule_fault (rule_number f.0, f.1)) (first_broken d rules_in_order)
+
+-- ---- in words of its own
+
+-- no rule before this one is broken
+abbrev pub HoldBefore : DefTree → Rule → List Rule → Type 0
+HoldBefore d rule [] = ⊥
+HoldBefore d rule (r ∷ rules) = (r ≡ rule) ⊎ ((offences d r ≡ []) × HoldBefore d rule rules)
+
+-- all rules before this one hold, and the pointer is the least of those that break it
+pub record IsFirstBroken (d : DefTree) (rule : Rule) (pointer : List ℕ) : Type 0 where
+  pub before : HoldBefore d rule rules_in_order
+  pub least : IsLeast (offences d rule) pointer
+
+-- all rules hold
+abbrev pub Hold : DefTree → List Rule → Type 0
+Hold d [] = Unit {0}
+Hold d (r ∷ rules) = (offences d r ≡ []) × Hold d rules

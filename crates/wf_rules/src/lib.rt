@@ -1,0 +1,33 @@
+//! Which rule on what it names a definition breaks first.
+//!
+//! A definition that was read (`wf_reading`) has its form. What is left are the rules on the names in its expressions, V9 to V21: an
+//! action names only actions before it, a variable is initialised once and before it is read, `items` stands inside its Foreach, a
+//! reference leaves at most one loop, and so on (`specs/Rules`, one short test for each). `check` tries them in the order of their
+//! numbers, and answers the first that is broken with the least pointer of what breaks it, or the definition as a `Checked`, whose type
+//! keeps that it breaks none.
+//!
+//! The tests ask for the uses of names at each site (`wf_refs`), for the order of two actions (`wf_order`), and for the containers round an
+//! action (`specs/Standing`). Names are looked up in ordered lists, and what is compared then are numbers, so a definition in which each
+//! action names all others takes little more than the look-ups of those names.
+//!
+//! V13, V15 and V16, on variables that are written side by side, on Terminate and on Response, aren't tried here yet.
+#![tactic(auto)]
+
+mod breaks;
+mod checked;
+mod checking;
+mod fault;
+mod initials;
+mod kinds;
+mod known;
+mod laws;
+mod names;
+mod rule;
+mod sites;
+mod standing;
+mod wrong;
+
+pub use checked::Checked;
+pub use checking::check;
+pub use laws::the_first_broken_rule;
+pub use rule::Rule;

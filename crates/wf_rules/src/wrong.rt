@@ -1,0 +1,279 @@
+//! What may be wrong with a name at a site.
+ghost use Rattle.std.specs.List.{list_any};
+ghost use Rattle.std.specs.Ordering.{is_lt};
+ghost use Rattle.std.specs.Prelude.{◌≡◌, count_by, map, nat_eq, option_map};
+ghost use Rattle.wf_rules.specs.KnownSeen.{whole_seen};
+ghost use Rattle.wf_rules.specs.Rules.{initialises_again, is_again, is_early, is_found_unseen, is_misread, is_miswritten, is_nested, is_no_container, is_seen, is_uninitialised, is_unseen, leaves_two, leaves_two_for, suits_at};
+ghost use Rattle.wf_rules.specs.Seen.{initialised_in, initialised_tree, standing_tree};
+ghost use Rattle.wf_rules.specs.Standing.{number_at, pointer_at};
+ghost use Rattle.wf_rules.specs.Wrong.{is_wrong};
+ghost use Rattle.wf_val.specs.NameOrder.{bytes_cmp};
+
+use crate::initials::{Initialised, Variable};
+use crate::kinds::{Loop, is_container, is_initialize, is_loop, suits};
+use crate::known::Known;
+use crate::sites::{is_outside, is_test, loops_left};
+use crate::standing::Standing;
+use wf_def::Sort;
+use wf_refs::Site;
+use wf_val::Name;
+
+/// What may be wrong with a name, by what it is the name of and by how it is used.
+#[derive(Clone, Copy, PartialEq, Eq, Debug)]
+pub(crate) enum Wrong {
+    /// No action has it, or the one that has it isn't before the site.
+    Unseen,
+    /// No parameter of the name is declared.
+    Undeclared,
+    /// The variable isn't initialised, or not at the top.
+    Misread,
+    /// The same of a variable that is written, or it is of a type that doesn't suit, or is initialised once more.
+    Miswritten,
+    /// The variable isn't initialised before.
+    Uninitialised,
+    /// No Foreach of the name is round the site.
+    NoForeach,
+    /// No Until of the name is round the site.
+    NoUntil,
+    /// The action stands in two loops or more that aren't round the site.
+    LoopsLeft,
+    /// The same, where the action counts if it is a loop.
+    LoopsLeftForResult,
+    /// The action is no container.
+    NoContainer,
+}
+
+// ---- of references
+
+fn is_found_unseen(
+    known: &Known<'_, '_>,
+    site: Site,
+    at: Option<&Standing<'_>>,
+    found: Option<&Standing<'_>>,
+) -> bool
+    ensures { result ≡ is_found_unseen
+        (whole_seen known.now) site (option_map (λ s. standing_tree s.now) at.entry) (option_map (λ s. standing_tree s.now) found.entry) }
+{
+    match found {
+        None => true,
+        Some(x) => match at {
+            None => false,
+            Some(y) => !(known.before(x, y) || (is_test(site) && known.contains(y, x))),
+        },
+    }
+}
+
+fn leaves_two(site: Site, at: Option<&Standing<'_>>, found: Option<&Standing<'_>>) -> bool
+    ensures { result ≡ leaves_two site
+        (option_map (λ s. standing_tree s.now) at.entry) (option_map (λ s. standing_tree s.now) found.entry) }
+{
+    match found {
+        None => false,
+        Some(x) => loops_left(site, at, x) > 1,
+    }
+}
+
+fn leaves_two_for(site: Site, at: Option<&Standing<'_>>, found: Option<&Standing<'_>>) -> bool
+    ensures { result ≡ leaves_two_for site
+        (option_map (λ s. standing_tree s.now) at.entry) (option_map (λ s. standing_tree s.now) found.entry) }
+{
+    match found {
+        None => false,
+        Some(x) => {
+            let left = loops_left(site, at, x);
+            left > 1 || (is_loop(&x.action.kind) && left > 0)
+        }
+    }
+}
+
+fn is_no_container(found: Option<&Standing<'_>>) -> bool
+    ensures { result ≡ is_no_container (option_map (λ s. standing_tree s.now) found.entry) }
+{
+    match found {
+        None => true,
+        Some(x) => !is_container(&x.action.kind),
+    }
+}
+
+// ---- of variables
+
+fn is_nested(standing: &Standing<'_>) -> bool
+    ensures { result ≡ is_nested (standing_tree standing.now).round }
+{
+    !standing.round.is_empty()
+}
+
+fn any_lesser(standing: &Standing<'_>, by: &[Initialised<'_, '_>]) -> bool
+    ensures { result ≡ list_any
+        (λ i. is_lt (bytes_cmp (pointer_at i.standing) (pointer_at (standing_tree standing.now)))) (map initialised_tree by.now) }
+{
+    for one in by {
+        if one
+            .standing
+            .action
+            .pointer
+            .order(&standing.action.pointer)
+            .is_lt()
+        {
+            return true;
+        }
+    }
+    false
+}
+
+fn count_own(standing: &Standing<'_>, by: &[Initialised<'_, '_>]) -> usize
+    ensures { result ≡ count_by
+        (λ i. nat_eq (number_at i.standing) (number_at (standing_tree standing.now))) (map initialised_tree by.now) }
+{
+    let mut count = 0;
+    for one in by {
+        if one.standing.action.number == standing.action.number {
+            count += 1;
+        }
+    }
+    count
+}
+
+fn initialises_again(at: Option<&Standing<'_>>, by: &[Initialised<'_, '_>]) -> bool
+    ensures { result ≡ initialises_again (option_map (λ s. standing_tree s.now) at.entry) (map initialised_tree by.now) }
+{
+    match at {
+        None => false,
+        Some(standing) => {
+            is_initialize(&standing.action.kind)
+                && (any_lesser(standing, by) || count_own(standing, by) > 1)
+        }
+    }
+}
+
+fn suits_at(at: Option<&Standing<'_>>, sort: Sort) -> bool
+    ensures { result ≡ suits_at (option_map (λ s. standing_tree s.now) at.entry) sort }
+{
+    match at {
+        None => true,
+        Some(standing) => suits(&standing.action.kind, sort),
+    }
+}
+
+fn is_misread_by(by: &[Initialised<'_, '_>]) -> bool
+    ensures { result ≡ is_misread (map initialised_tree by.now) }
+{
+    match by {
+        [] => true,
+        [only] => is_nested(only.standing),
+        _ => false,
+    }
+}
+
+fn is_misread(found: Option<&Variable<'_, '_>>) -> bool
+    ensures { result ≡ is_misread (initialised_in (option_map (λ v. v.now) found.entry)) }
+{
+    match found {
+        None => true,
+        Some(variable) => is_misread_by(&variable.by),
+    }
+}
+
+fn is_miswritten_by(at: Option<&Standing<'_>>, by: &[Initialised<'_, '_>]) -> bool
+    ensures { result ≡ is_miswritten (option_map (λ s. standing_tree s.now) at.entry) (map initialised_tree by.now) }
+{
+    match by {
+        [] => true,
+        [only] => is_nested(only.standing) || !suits_at(at, only.sort),
+        _ => initialises_again(at, by),
+    }
+}
+
+fn is_miswritten(at: Option<&Standing<'_>>, found: Option<&Variable<'_, '_>>) -> bool
+    ensures { result ≡ is_miswritten
+        (option_map (λ s. standing_tree s.now) at.entry) (initialised_in (option_map (λ v. v.now) found.entry)) }
+{
+    match found {
+        None => true,
+        Some(variable) => is_miswritten_by(at, &variable.by),
+    }
+}
+
+fn is_early(known: &Known<'_, '_>, standing: &Standing<'_>, one: &Initialised<'_, '_>) -> bool
+    ensures { result ≡ is_early (whole_seen known.now) (standing_tree standing.now) (initialised_tree one.now) }
+{
+    one.standing.action.number != standing.action.number && !known.before(one.standing, standing)
+}
+
+fn any_early(known: &Known<'_, '_>, standing: &Standing<'_>, by: &[Initialised<'_, '_>]) -> bool
+    ensures { result ≡ list_any (is_early (whole_seen known.now) (standing_tree standing.now)) (map initialised_tree by.now) }
+{
+    for one in by {
+        if is_early(known, standing, one) {
+            return true;
+        }
+    }
+    false
+}
+
+fn is_early_for(
+    known: &Known<'_, '_>,
+    standing: &Standing<'_>,
+    found: Option<&Variable<'_, '_>>,
+) -> bool
+    ensures { result ≡ list_any
+        (is_early (whole_seen known.now) (standing_tree standing.now)) (initialised_in (option_map (λ v. v.now) found.entry)) }
+{
+    match found {
+        None => false,
+        Some(variable) => any_early(known, standing, &variable.by),
+    }
+}
+
+fn is_uninitialised(known: &Known<'_, '_>, at: Option<&Standing<'_>>, name: &Name) -> bool
+    ensures { result ≡ is_uninitialised (whole_seen known.now) (option_map (λ s. standing_tree s.now) at.entry) name.now }
+{
+    match at {
+        None => false,
+        Some(standing) => is_early_for(known, standing, known.initialised(name)),
+    }
+}
+
+// ---- of any
+
+fn is_wrong(
+    known: &Known<'_, '_>,
+    wrong: Wrong,
+    site: Site,
+    at: Option<&Standing<'_>>,
+    name: &Name,
+) -> bool
+    ensures { result ≡ is_wrong (whole_seen known.now) wrong site (option_map (λ s. standing_tree s.now) at.entry) name.now }
+{
+    match wrong {
+        Wrong::Unseen => is_found_unseen(known, site, at, known.named(name)),
+        Wrong::Undeclared => !known.declares(name),
+        Wrong::Misread => is_misread(known.initialised(name)),
+        Wrong::Miswritten => is_miswritten(at, known.initialised(name)),
+        Wrong::Uninitialised => is_uninitialised(known, at, name),
+        Wrong::NoForeach => is_outside(Loop::Foreach, site, at, name),
+        Wrong::NoUntil => is_outside(Loop::Until, site, at, name),
+        Wrong::LoopsLeft => leaves_two(site, at, known.named(name)),
+        Wrong::LoopsLeftForResult => leaves_two_for(site, at, known.named(name)),
+        Wrong::NoContainer => is_no_container(known.named(name)),
+    }
+}
+
+/// Whether something of that kind is wrong with one of these names.
+pub(crate) fn any_wrong(
+    known: &Known<'_, '_>,
+    wrong: Wrong,
+    site: Site,
+    at: Option<&Standing<'_>>,
+    names: &[&Name],
+) -> bool
+    ensures { result ≡ list_any
+        (is_wrong (whole_seen known.now) wrong site (option_map (λ s. standing_tree s.now) at.entry)) (map (λ n. n.now) names.now) }
+{
+    for name in names {
+        if is_wrong(known, wrong, site, at, name) {
+            return true;
+        }
+    }
+    false
+}
