@@ -1,0 +1,8 @@
+pub mod Keys
+pub mod ListedLemmas
+pub mod KeptLemmas
+pub mod Reached
+pub mod CostLemmas
+pub mod Steps
+pub mod WholeLemmas
+mod WorkedRows

@@ -1,0 +1,6 @@
+pub mod Seen
+pub mod Machine
+pub mod Held
+pub mod Cost
+pub mod Kept
+pub mod Listed
