@@ -1,4 +1,10 @@
-pub mod RootLemmas
+pub mod PlaceLemmas
 pub mod UnbuiltLemmas
 pub mod FlatLemmas
+pub mod EndLemmas
+pub mod AlikeLemmas
+pub mod NamesLemmas
+pub mod ReferenceLemmas
+pub mod KeptLemmas
+pub mod InsertLemmas
 pub mod WorkedRows

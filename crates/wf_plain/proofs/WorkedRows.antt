@@ -1,148 +1,183 @@
--- Worked values: what of a definition isn't built, and what a run takes of it.
-use Rattle.std.proofs.Common.{◌≡◌, ℕ, List, [], ◌∷◌, ◌++◌, true, false, not, None, Some, Ok, Err, refl}
+-- Worked values: which actions aren't built, the least pointer to one, and what runs take of a definition.
+use Rattle.std.proofs.Common.{◌≡◌, ℕ, List, [], ◌∷◌, ◌++◌, true, false, None, Some, map, refl}
 use Rattle.std.specs.Prelude.{codes}
-use Rattle.std.specs.List.{filter}
-use Rattle.wf_val.specs.Function.{functions}
-use Rattle.wf_val.specs.declared.function.Fun.{Fun}
 use Rattle.wf_val.specs.ValueTree as value
-use Rattle.wf_template.specs.DataTree.{null, text}
-use Rattle.wf_template.specs.ExprTree.{literal, call, no_exprs, expr_then}
-use Rattle.wf_template.specs.TemplateTree.{whole}
-use Rattle.wf_layers.specs.Definition.{Succeeded}
-use Rattle.wf_def.specs.ActionTree.{ActionTree, action, KindTree, compose, wait, scope, ActionTrees, no_actions, action_then}
-use Rattle.wf_def.specs.DefTree.{DefTree}
+use Rattle.wf_template.specs.CondTree as condition
+use Rattle.wf_template.specs.DataTree.{DataMember, null}
+use Rattle.wf_template.specs.TemplateTree.{plain}
+use Rattle.wf_layers.specs.Definition.{Failed, Skipped, Succeeded, TimedOut}
+use Rattle.wf_retry.specs.declared.policy.Policy.{Policy}
+use Rattle.wf_def.specs.ActionTree.{ActionTree, action, KindTree, compose, connector, wait, response, terminate, select, query, join, parse_json, initialize, set_to, increment, decrement, append_array, append_string, scope, branch, switch, switch_else, foreach, until, ActionTrees, no_actions, action_then, no_cases, case_then}
+use Rattle.wf_def.specs.DefTree.{DefTree, OutputTree, ParamTree, TriggerTree}
 use Rattle.wf_def.specs.declared.after.After.{After}
 use Rattle.wf_def.specs.declared.sort.Sort.{Sort}
-use Rattle.wf_plain.specs.Flat.{flat, place_of, root_of}
+use Rattle.wf_plain.specs.Flat.{flat, place_of}
 use Rattle.wf_plain.specs.Plain.{plain_of}
-use Rattle.wf_plain.specs.Unbuilt.{is_built, not_yet, unbuilt_actions}
-use Rattle.wf_plain.specs.declared.plain.PlainFault.{PlainFault}
+use Rattle.wf_plain.specs.Unbuilt.{is_judged, is_run, not_yet}
+use Rattle.wf_plain.specs.declared.unbuilt.Purpose.{Purpose}
 
--- an action of this name that waits for these, in the top graph
+-- an action of this name that waits for these, at the pointer
+abbrev at : List ℕ → List ℕ → List After → KindTree → ActionTree
+at name pointer after kind = action name 0 pointer after kind []
+
+-- the same in the top graph
 abbrev top : List ℕ → List After → KindTree → ActionTree
-top name after kind = action name 0 (codes "/actions/" ++ name) after kind []
+top name after kind = at name (codes "/actions/" ++ name) after kind
 
 -- what waits for the success of an action
 abbrev after : List ℕ → After
 after name = record { name = name; number = 7; statuses = record { succeeded = true; failed = false; skipped = false; timed_out = false } }
 
-abbrev calls : List ℕ → List ℕ → KindTree
-calls f name = compose (text (whole (call f (expr_then (literal (value.text name)) no_exprs))))
-
-abbrev asks : List ℕ → KindTree
-asks f = compose (text (whole (call f no_exprs)))
-
 abbrev definition : ActionTrees → DefTree
 definition top = record { digest = 1 ∷ []; parameters = []; given = []; triggers = []; top = top; outputs = [] }
 
--- ---- functions
+abbrev only : ActionTree → DefTree
+only a = definition (action_then a no_actions)
 
--- Of the functions of the language these ten aren't built.
-unbuilt-ten : filter (λ f. not (is_built f)) functions
-    ≡ Fun.Result ∷ (Fun.Action ∷ (Fun.Item ∷ (Fun.Items ∷ (Fun.IterationIndexes ∷ (Fun.Trigger ∷ (Fun.TriggerOutputs
-    ∷ (Fun.TriggerBody ∷ (Fun.Parameters ∷ (Fun.Variables ∷ [])))))))))
-unbuilt-ten = refl
+abbrev of_kind : KindTree → ActionTree
+of_kind kind = top (codes "A") [] kind
 
-built-add : is_built Fun.Add ≡ true
-built-add = refl
+abbrev some_test : condition.CondTree
+some_test = condition.holds (plain [])
 
-built-outputs : is_built Fun.Outputs ≡ true
-built-outputs = refl
+-- an action of each kind
+abbrev kinds : Policy → List KindTree
+kinds policy =
+    compose null ∷ (connector null policy ∷ (wait null ∷ (select null null ∷ (query null (plain []) ∷ (join null null ∷ (parse_json null
+    ∷ (scope no_actions ∷ (branch some_test no_actions no_actions ∷ (switch (plain []) no_cases ∷ (switch_else (plain []) no_cases no_actions
+    ∷ (foreach null 20 no_actions ∷ (until some_test 60 false no_actions ∷ []))))))))))))
 
-built-utc_now : is_built Fun.UtcNow ≡ true
-built-utc_now = refl
+abbrev unjudged_kinds : List KindTree
+unjudged_kinds =
+    response null ∷ (terminate null ∷ (initialize [] ∷ (set_to [] null ∷ (increment [] None ∷ (decrement [] None ∷ (append_array [] null
+    ∷ (append_string [] null ∷ [])))))))
 
-built-item : is_built Fun.Item ≡ false
-built-item = refl
+-- ---- what runs make: a Compose that tracks nothing
 
-built-result : is_built Fun.Result ≡ false
-built-result = refl
+run-compose : is_run (of_kind (compose null)) ≡ true
+run-compose = refl
 
-built-parameters : is_built Fun.Parameters ≡ false
-built-parameters = refl
+run-kinds : (policy : Policy) → map (λ k. is_run (of_kind k)) (kinds policy)
+    ≡ true ∷ (false ∷ (false ∷ (false ∷ (false ∷ (false ∷ (false ∷ (false ∷ (false ∷ (false ∷ (false ∷ (false ∷ (false ∷ []))))))))))))
+run-kinds policy = refl
 
-built-trigger_body : is_built Fun.TriggerBody ≡ false
-built-trigger_body = refl
+run-unjudged : map (λ k. is_run (of_kind k)) unjudged_kinds ≡ false ∷ (false ∷ (false ∷ (false ∷ (false ∷ (false ∷ (false ∷ (false ∷ [])))))))
+run-unjudged = refl
 
--- ---- where names stand
+abbrev tracking : List DataMember → ActionTree
+tracking properties = action (codes "A") 0 (codes "/actions/A") [] (compose null) properties
 
-inside : ActionTree
-inside = top (codes "S") [] (scope (action_then (top (codes "X") [] (compose null)) no_actions))
+run-tracked : is_run (tracking ((codes "p", null) ∷ [])) ≡ false
+run-tracked = refl
 
-root-own : root_of (top (codes "A") [] (compose null) ∷ (inside ∷ [])) (codes "S") ≡ Some 1
-unfolding inside
-root-own = refl
+run-two_tracked : is_run (tracking ((codes "p", null) ∷ ((codes "q", null) ∷ []))) ≡ false
+run-two_tracked = refl
 
-root-within : root_of (top (codes "A") [] (compose null) ∷ (inside ∷ [])) (codes "X") ≡ Some 1
-unfolding inside
-root-within = refl
+-- ---- what the rules judge: all but variables, Terminate and Response
 
-root-none : root_of (top (codes "A") [] (compose null) ∷ (inside ∷ [])) (codes "B") ≡ None
-unfolding inside
-root-none = refl
+judged-kinds : (policy : Policy) → map (λ k. is_judged (of_kind k)) (kinds policy)
+    ≡ true ∷ (true ∷ (true ∷ (true ∷ (true ∷ (true ∷ (true ∷ (true ∷ (true ∷ (true ∷ (true ∷ (true ∷ (true ∷ []))))))))))))
+judged-kinds policy = refl
 
--- ---- actions
+judged-none : map (λ k. is_judged (of_kind k)) unjudged_kinds ≡ false ∷ (false ∷ (false ∷ (false ∷ (false ∷ (false ∷ (false ∷ (false ∷ [])))))))
+judged-none = refl
 
-runs-null : unbuilt_actions (top (codes "A") [] (compose null) ∷ []) ≡ []
-runs-null = refl
+judged-tracked : is_judged (tracking ((codes "p", null) ∷ [])) ≡ true
+judged-tracked = refl
 
-runs-add : unbuilt_actions (top (codes "A") [] (calls (codes "add") (codes "x")) ∷ []) ≡ []
-runs-add = refl
+-- ---- the least pointer
 
-waits : unbuilt_actions (top (codes "A") [] (wait null) ∷ []) ≡ codes "/actions/A" ∷ []
-waits = refl
+none-empty : not_yet Purpose.Run (definition no_actions) ≡ None
+none-empty = refl
 
-container : unbuilt_actions (inside ∷ []) ≡ codes "/actions/S" ∷ []
-unfolding inside
-container = refl
+none-composed : not_yet Purpose.Run (only (of_kind (compose null))) ≡ None
+none-composed = refl
 
-tracked : unbuilt_actions (action (codes "A") 0 (codes "/actions/A") [] (compose null) ((codes "p", null) ∷ []) ∷ []) ≡ codes "/actions/A" ∷ []
-tracked = refl
+unbuilt-wait : not_yet Purpose.Run (only (of_kind (wait null))) ≡ Some (codes "/actions/A")
+unbuilt-wait = refl
 
-asks-item : unbuilt_actions (top (codes "A") [] (asks (codes "item")) ∷ []) ≡ codes "/actions/A" ∷ []
-asks-item = refl
+judged-wait : not_yet Purpose.Check (only (of_kind (wait null))) ≡ None
+judged-wait = refl
 
--- function names have no letter case
-asks-trigger : unbuilt_actions (top (codes "A") [] (asks (codes "TRIGGERBODY")) ∷ []) ≡ codes "/actions/A" ∷ []
-asks-trigger = refl
+unjudged-terminate : not_yet Purpose.Check (only (of_kind (terminate null))) ≡ Some (codes "/actions/A")
+unjudged-terminate = refl
 
-names-before : unbuilt_actions (top (codes "A") [] (compose null) ∷ (top (codes "B") (after (codes "A") ∷ []) (calls (codes "body") (codes "A")) ∷ [])) ≡ []
-names-before = refl
+-- S holds T, a Terminate, and X
+abbrev nested : ActionTree
+nested =
+    top (codes "S") []
+    (scope (action_then (at (codes "T") (codes "/actions/S/actions/T") [] (terminate null))
+    (action_then (at (codes "X") (codes "/actions/S/actions/X") [] (compose null)) no_actions)))
 
-names-beside : unbuilt_actions (top (codes "A") [] (compose null) ∷ (top (codes "B") [] (calls (codes "body") (codes "A")) ∷ [])) ≡ codes "/actions/B" ∷ []
-names-beside = refl
+-- to be run, the container is named, whose pointer is less than those in it
+run-nested : not_yet Purpose.Run (only nested) ≡ Some (codes "/actions/S")
+run-nested = refl
 
-names-behind : unbuilt_actions (top (codes "A") (after (codes "B") ∷ []) (compose null) ∷ (top (codes "B") [] (calls (codes "outputs") (codes "A")) ∷ [])) ≡ codes "/actions/B" ∷ []
-names-behind = refl
+-- to be judged, what stands in it
+check-nested : not_yet Purpose.Check (only nested) ≡ Some (codes "/actions/S/actions/T")
+check-nested = refl
 
-names-itself : unbuilt_actions (top (codes "A") [] (calls (codes "actions") (codes "A")) ∷ []) ≡ codes "/actions/A" ∷ []
-names-itself = refl
+-- in any branch
+check-else : not_yet Purpose.Check (only (of_kind (branch some_test no_actions
+    (action_then (at (codes "R") (codes "/actions/A/else/actions/R") [] (response null)) no_actions)))) ≡ Some (codes "/actions/A/else/actions/R")
+check-else = refl
 
-names-none : unbuilt_actions (top (codes "A") [] (calls (codes "actions") (codes "B")) ∷ []) ≡ codes "/actions/A" ∷ []
-names-none = refl
+check-case : not_yet Purpose.Check (only (of_kind (switch (plain []) (case_then (codes "c") (value.text [])
+    (action_then (at (codes "R") (codes "/actions/A/cases/c/actions/R") [] (response null)) no_actions) no_cases)))) ≡ Some (codes "/actions/A/cases/c/actions/R")
+check-case = refl
 
--- X stands in S, which comes before A: only the Scope isn't built
-names-within : unbuilt_actions (top (codes "A") (after (codes "S") ∷ []) (calls (codes "outputs") (codes "X")) ∷ (inside ∷ [])) ≡ codes "/actions/S" ∷ []
-unfolding inside
-names-within = refl
+check-default : not_yet Purpose.Check (only (of_kind (switch_else (plain []) no_cases
+    (action_then (at (codes "R") (codes "/actions/A/default/actions/R") [] (response null)) no_actions)))) ≡ Some (codes "/actions/A/default/actions/R")
+check-default = refl
 
--- before at two removes
-names-far : unbuilt_actions (
-    top (codes "A") [] (compose null)
-    ∷ (top (codes "B") (after (codes "A") ∷ []) (compose null)
-    ∷ (top (codes "C") (after (codes "B") ∷ []) (calls (codes "body") (codes "A")) ∷ []))) ≡ []
-names-far = refl
+check-loops : not_yet Purpose.Check (only (of_kind (foreach null 1 (action_then
+    (at (codes "U") (codes "/actions/A/actions/U") [] (until some_test 1 false (action_then
+    (at (codes "V") (codes "/actions/A/actions/U/actions/V") [] (set_to [] null)) no_actions))) no_actions)))) ≡ Some (codes "/actions/A/actions/U/actions/V")
+check-loops = refl
 
--- ---- whole definitions
+-- the least by bytes, and not the first: a name with a slash comes behind those with letters
+least-escaped : not_yet Purpose.Run (definition (
+    action_then (at (codes "a/") (codes "/actions/a~1") [] (wait null)) (action_then (at (codes "aa") (codes "/actions/aa") [] (wait null)) no_actions)))
+    ≡ Some (codes "/actions/aa")
+least-escaped = refl
 
-fine : plain_of (definition (action_then (top (codes "A") [] (compose null)) no_actions))
-    ≡ Ok (record { digest = 1 ∷ []; actions = record { name = codes "A"; after = []; inputs = null } ∷ [] })
-unfolding plain_of
-fine = refl
+-- one that is built in front of it isn't told
+least-built : not_yet Purpose.Run (definition (action_then (top (codes "A") [] (compose null)) (action_then (top (codes "B") [] (wait null)) no_actions)))
+    ≡ Some (codes "/actions/B")
+least-built = refl
 
-empty : plain_of (definition no_actions) ≡ Ok (record { digest = 1 ∷ []; actions = [] })
-unfolding plain_of
-empty = refl
+-- parameters, triggers and outputs are built
+abbrev param : ParamTree
+param = record { name = codes "p"; sort = Sort.Int; default = None; allowed = None }
+
+abbrev trigger : TriggerTree
+trigger = record { name = codes "t"; split = None; conditions = [] }
+
+abbrev output : OutputTree
+output = record { name = codes "o"; value = null }
+
+abbrev whole : DefTree
+whole = record {
+  digest = 1 ∷ [];
+  parameters = param ∷ [];
+  given = (codes "p", value.null) ∷ [];
+  triggers = trigger ∷ [];
+  top = action_then (top (codes "A") [] (compose null)) no_actions;
+  outputs = output ∷ [];
+}
+
+none-whole : not_yet Purpose.Run whole ≡ None
+none-whole = refl
+
+-- ---- what runs take
+
+taken : plain_of whole ≡ record {
+  parameters = param ∷ [];
+  given = (codes "p", value.null) ∷ [];
+  triggers = trigger ∷ [];
+  definition = record { digest = 1 ∷ []; outputs = output ∷ []; actions = record { name = codes "A"; after = []; inputs = null } ∷ [] };
+}
+taken = refl
 
 -- the place of an entry is that of its action among those of the graph, not its number
 placed : flat (top (codes "A") [] (compose null) ∷ (top (codes "B") (after (codes "A") ∷ []) (compose null) ∷ []))
@@ -150,60 +185,25 @@ placed : flat (top (codes "A") [] (compose null) ∷ (top (codes "B") (after (co
     ∷ (record { name = codes "B"; after = record { name = 0; listed = Succeeded ∷ [] } ∷ []; inputs = null } ∷ [])
 placed = refl
 
-sections : DefTree
-sections = record {
-  digest = [];
-  parameters = record { name = codes "p"; sort = Sort.Int; default = None; allowed = None } ∷ [];
-  given = [];
-  triggers = record { name = codes "t~/"; split = None; conditions = [] } ∷ [];
-  top = action_then (top (codes "W") [] (wait null)) no_actions;
-  outputs = record { name = codes "o"; value = null } ∷ [];
-}
+-- all four statuses, and none
+listed : flat (top (codes "A") (record {
+  name = codes "A";
+  number = 0;
+  statuses = record { succeeded = true; failed = true; skipped = true; timed_out = true };
+} ∷ (record {
+  name = codes "B";
+  number = 0;
+  statuses = record { succeeded = false; failed = false; skipped = false; timed_out = false };
+} ∷ [])) (compose null) ∷ []) ≡ record {
+  name = codes "A";
+  after = record { name = 0; listed = Succeeded ∷ (Failed ∷ (Skipped ∷ (TimedOut ∷ []))) } ∷ (record { name = 1; listed = [] } ∷ []);
+  inputs = null;
+} ∷ []
+listed = refl
 
--- the least of the pointers of all sections
-least-of_all : not_yet sections ≡ Some (codes "/actions/W")
-unfolding sections
-least-of_all = refl
-
-outputs-before_parameters : not_yet (record {
-  digest = [];
-  parameters = record { name = codes "p"; sort = Sort.Int; default = None; allowed = None } ∷ [];
-  given = [];
-  triggers = [];
-  top = no_actions;
-  outputs = record { name = codes "o"; value = null } ∷ [];
-}) ≡ Some (codes "/outputs/o")
-outputs-before_parameters = refl
-
--- names are escaped in pointers
-trigger-escaped : not_yet (record {
-  digest = [];
-  parameters = [];
-  given = [];
-  triggers = record { name = codes "t~/"; split = None; conditions = [] } ∷ [];
-  top = no_actions;
-  outputs = [];
-}) ≡ Some (codes "/triggers/t~0~1")
-trigger-escaped = refl
-
--- A name with a slash comes behind those with letters, by the bytes of the pointers
-escaped-behind : not_yet (definition (
-    action_then (action (codes "a/") 0 (codes "/actions/a~1") [] (wait null) [])
-    (action_then (action (codes "aa") 1 (codes "/actions/aa") [] (wait null) []) no_actions))) ≡ Some (codes "/actions/aa")
-escaped-behind = refl
-
--- all that never ends
-cycle : plain_of (definition (
-    action_then (top (codes "A") (after (codes "B") ∷ []) (compose null)) (action_then (top (codes "B") (after (codes "A") ∷ []) (compose null)) no_actions)))
-    ≡ Err (PlainFault.NotYet [])
-unfolding plain_of
-cycle = refl
-
--- an entry of `runAfter` goes to the action that has the name, not to one that holds it
-place-within : place_of (top (codes "A") [] (compose null) ∷ (inside ∷ [])) (codes "X") ≡ None
-unfolding inside
-place-within = refl
-
-place-own : place_of (top (codes "A") [] (compose null) ∷ (inside ∷ [])) (codes "S") ≡ Some 1
-unfolding inside
+-- an entry goes to the action at the top that has the name, and to none that stands inside one
+place-own : place_of (top (codes "A") [] (compose null) ∷ (nested ∷ [])) (codes "S") ≡ Some 1
 place-own = refl
+
+place-within : place_of (top (codes "A") [] (compose null) ∷ (nested ∷ [])) (codes "X") ≡ None
+place-within = refl

@@ -1,34 +1,21 @@
--- The graph at the top of a definition as a run takes it so far, where each action is a Compose. What is none stands in it without
+-- The graph at the top of a definition as runs take it so far, where each action is a Compose. What is none stands in it without
 -- inputs, and is said not to be built (specs/Unbuilt).
-use Rattle.std.specs.Prelude.{ℕ, suc, Bool, List, [], ◌∷◌, length, map, Option, None, Some, unwrap_or, if◌then◌else◌, bytes_eq}
-use Rattle.std.specs.List.{list_any}
+use Rattle.std.specs.Prelude.{ℕ, suc, List, [], ◌∷◌, length, map, Option, None, Some, unwrap_or, if◌then◌else◌, bytes_eq}
 use Rattle.wf_template.specs.DataTree as inputs
 use Rattle.wf_layers.specs.Definition.{Need}
 use Rattle.wf_def.specs.ActionTree.{ActionTree, action, action_name, KindTree, compose}
 use Rattle.wf_def.specs.Layered.{listed_of}
-use Rattle.wf_def.specs.Names.{names_in}
 use Rattle.wf_def.specs.declared.after.After.{After}
 use Rattle.wf_meaning.specs.Definition as meaning
 
--- a name is one of these
-abbrev pub is_among : List (List ℕ) → List ℕ → Bool
-is_among names k = list_any (λ x. bytes_eq x k) names
-
--- the place, counted from n on, of the first of these actions that has the name among its own
-abbrev pub place_from : (ActionTree → List (List ℕ)) → ℕ → List ActionTree → List ℕ → Option ℕ
-place_from names n [] k = None
-place_from names n (a ∷ more) k = if is_among (names a) k then Some n else place_from names (suc n) more k
-
-abbrev pub own_name : ActionTree → List (List ℕ)
-own_name a = action_name a ∷ []
+-- the place, counted from n on, of the first of these actions that has the name
+abbrev pub place_from : ℕ → List ActionTree → List ℕ → Option ℕ
+place_from n [] k = None
+place_from n (a ∷ more) k = if bytes_eq (action_name a) k then Some n else place_from (suc n) more k
 
 -- the place of the action that has the name
 abbrev pub place_of : List ActionTree → List ℕ → Option ℕ
-place_of tops k = place_from own_name 0 tops k
-
--- the place of the action that has the name, or in which the action of the name stands
-abbrev pub root_of : List ActionTree → List ℕ → Option ℕ
-root_of tops k = place_from names_in 0 tops k
+place_of tops k = place_from 0 tops k
 
 -- An entry of `runAfter`, by the place of its action among so many. One that named no action would wait for one that isn't there.
 abbrev pub need_at : (List ℕ → Option ℕ) → ℕ → After → Need

@@ -2,4 +2,3 @@ pub mod Flat
 pub mod Unbuilt
 pub mod Plain
 pub mod Seen
-pub mod ActionOrder

@@ -1,22 +1,24 @@
--- Which definitions a run takes.
-use Rattle.std.specs.Prelude.{ℕ, List, [], Option, None, Some, Result, Ok, Err, if◌then◌else◌}
+-- What runs take of a definition.
+use Rattle.std.specs.Prelude.{List}
+use Rattle.wf_val.specs.ValueTree.{Member}
 use Rattle.wf_def.specs.ActionTree.{actions_in}
-use Rattle.wf_def.specs.DefTree.{DefTree}
+use Rattle.wf_def.specs.DefTree.{DefTree, ParamTree, TriggerTree}
 use Rattle.wf_meaning.specs.Definition.{DefinitionTree}
-use Rattle.wf_meaning.specs.Rounds.{all_end}
 use Rattle.wf_plain.specs.Flat.{flat}
-use Rattle.wf_plain.specs.Unbuilt.{not_yet}
-use Rattle.wf_plain.specs.declared.plain.PlainFault.{PlainFault}
 
--- what a run takes of a definition
-abbrev pub flat_definition : DefTree → DefinitionTree
-flat_definition d = record { digest = d.digest; actions = flat (actions_in d.top) }
+-- A definition as runs take it: what decides which runs start, that is the parameters that it declares, the values that a wrapper
+-- round it gives them, and its triggers; and what each of the runs means.
+pub record PlainTree : Type 0 where
+  pub parameters : List ParamTree
+  pub given : List Member
+  pub triggers : List TriggerTree
+  pub definition : DefinitionTree
 
-abbrev pub or_not_yet : Option (List ℕ) → DefinitionTree → Result DefinitionTree PlainFault
-or_not_yet None d = Ok d
-or_not_yet (Some pointer) d = Err (PlainFault.NotYet pointer)
-
--- What a run takes of a definition, or the pointer of what isn't built. In a definition that was accepted all actions end, since no
--- `runAfter` has a cycle; of another the whole isn't built.
-unfoldable pub plain_of : DefTree → Result DefinitionTree PlainFault
-plain_of d = if all_end (flat (actions_in d.top)) then or_not_yet (not_yet d) (flat_definition d) else Err (PlainFault.NotYet [])
+-- what runs take of a definition
+abbrev pub plain_of : DefTree → PlainTree
+plain_of d = record {
+  parameters = d.parameters;
+  given = d.given;
+  triggers = d.triggers;
+  definition = record { digest = d.digest; outputs = d.outputs; actions = flat (actions_in d.top) };
+}

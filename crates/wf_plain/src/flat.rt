@@ -1,14 +1,14 @@
 // The actions of the top graph, as a run takes them.
-ghost use Rattle.std.specs.Prelude.{◌≡◌, ◌++◌, ℕ, List, length, map, IfOk, OnOk};
+ghost use Rattle.std.specs.Prelude.{◌≡◌, ◌++◌, length, map, IfOk, OnOk};
 ghost use Rattle.wf_def.specs.ActionSeen.{action_tree, kind_tree};
 ghost use Rattle.wf_def.specs.Layered.{listed_of, where_listed};
 ghost use Rattle.wf_meaning.specs.Statuses.{status_tree};
-ghost use Rattle.wf_plain.specs.Flat.{flat, flat_action, inputs_of, need_at, place_of};
+ghost use Rattle.wf_plain.specs.Flat.{flat, flat_action, inputs_of, need_at};
 ghost use Rattle.wf_plain.specs.Seen.{place_found};
 ghost use Rattle.wf_template.specs.DataSeen.{data_tree};
 ghost use Rattle.wf_walk.specs.Seen as walk;
 
-use crate::roots::{Roots, place_found};
+use crate::places::{Places, place_found, places_of};
 use std::alloc::{AllocError, Global};
 use wf_def::{Action, Kind, Statuses};
 use wf_record::Status;
@@ -39,7 +39,7 @@ fn listed_of(alloc: Global, statuses: Statuses) -> Result<Vec<Status>, AllocErro
 // An entry of `runAfter`, by the place of its action among so many.
 fn need_at(
     alloc: Global,
-    places: &Roots,
+    places: &Places,
     count: usize,
     entry: &wf_def::After,
 ) -> Result<After, AllocError>
@@ -64,7 +64,7 @@ fn inputs_of(alloc: Global, kind: &Kind) -> Result<Tree, AllocError>
 
 fn needs_at(
     alloc: Global,
-    places: &Roots,
+    places: &Places,
     count: usize,
     entries: &[wf_def::After],
 ) -> Result<Vec<After>, AllocError>
@@ -81,7 +81,7 @@ fn needs_at(
 // An action, by the places that are kept.
 fn flat_action(
     alloc: Global,
-    places: &Roots,
+    places: &Places,
     count: usize,
     action: &Action,
 ) -> Result<wf_walk::Action, AllocError>
@@ -96,7 +96,7 @@ fn flat_action(
 
 fn flat_with(
     alloc: Global,
-    places: &Roots,
+    places: &Places,
     tops: &[Action],
 ) -> Result<Vec<wf_walk::Action>, AllocError>
     ensures { IfOk result (λ flat. map walk.action_tree flat.items
@@ -110,14 +110,10 @@ fn flat_with(
 }
 
 /// The actions of the top graph, numbered by their places.
-pub(crate) fn flat_of(
-    alloc: Global,
-    places: &Roots,
-    tops: &[Action],
-) -> Result<Vec<wf_walk::Action>, AllocError>
-    requires { (k : List ℕ) → place_found places.now k ≡ place_of (map action_tree tops.now) k }
+pub(crate) fn flat_of(alloc: Global, tops: &[Action]) -> Result<Vec<wf_walk::Action>, AllocError>
     ensures { IfOk result (λ actions. map walk.action_tree actions.items ≡ flat (map action_tree tops.now)) }
 {
-    let actions = flat_with(alloc, places, tops)?;
+    let places = places_of(alloc, tops)?;
+    let actions = flat_with(alloc, &places, tops)?;
     Ok(actions)
 }

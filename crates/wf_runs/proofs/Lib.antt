@@ -1,0 +1,4 @@
+pub mod TextLemmas
+pub mod RunLemmas
+pub mod SummaryLemmas
+mod WorkedRows

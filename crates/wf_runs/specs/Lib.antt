@@ -1,0 +1,4 @@
+pub mod Summary
+pub mod Text
+pub mod Runs
+pub mod Seen

@@ -1,0 +1,23 @@
+//! What is said of the runs of a definition that start with inputs.
+//!
+//! `runs_text` starts them all, makes each, and writes its record's line and below it a summary line, one run after the other into one
+//! text; or it says why no run can start, or that all of them together cost too much. Which runs start is said by `wf_trigger`, what a
+//! run leaves by `wf_meaning`, what a record costs and how it is printed by `wf_record`; this crate says how these come together
+//! (`specs/Runs`, `specs/Text`, `specs/Summary`).
+//!
+//! Of a run only its text is kept, and no start is made before its turn, so a split of many items takes the memory of its text and its
+//! items. The text is handed out whole: where the runs cost too much there is none.
+#![tactic(auto)]
+
+mod fault;
+mod laws;
+mod runs;
+mod summary;
+mod written;
+
+pub use fault::RunsFault;
+pub use laws::{
+    a_fault_of_the_trigger_is_told, no_run_is_said_where_none_starts,
+    runs_are_too_large_where_they_cost_more, steps_are_counted, texts_stand_in_a_row,
+};
+pub use runs::runs_text;
