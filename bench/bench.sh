@@ -1,14 +1,15 @@
 #!/bin/sh
 # Times `wflow run` beside `jq -c .` on the same definition, and prints the ratio of the two, on definitions that run and on ones that
-# are refused after all rules were looked at, or that were made to be dear for one rule. Then times the parsing of
+# are refused after all rules were looked at, or that were made to be dear for one rule; then `wflow check` beside it, on definitions that
+# name much, with how the time grows from a half of them on; then `wflow run` on large inputs beside it on these. Then times the parsing of
 # texts as templates, which no command does yet, beside reading their bytes alone, with the ratio of these two, and beside
 # `jq -c .` on the same text as JSON. Then times functions on long texts beside Python's own, and what templates come to, in the looks
 # of rows, beside `jq -c .` on the same rows.
 #
 #   bench/bench.sh
 #
-# It makes its files in a folder of its own, installs jq from Debian's packages where it is missing, and takes the least of
-# five runs of each.
+# It takes the programs that `rt ci` built, and builds those of rows that aren't there; makes its files in a folder of its own; installs jq
+# from Debian's packages where it is missing; and takes the least of five runs of each.
 set -eu
 top=$(CDPATH='' cd -P -- "$(dirname -- "$0")/.." && pwd -P)
 command -v jq >/dev/null || { apt-get update -qq && apt-get install -y -qq jq; } >&2
@@ -16,9 +17,10 @@ folder=$(mktemp -d)
 trap 'rm -rf "$folder"' EXIT
 wflow=$("$top/bin/program")
 export top folder wflow
-(cd "$top/crates/template_rows" && rt run -- parse <stdin) >"$folder/log" 2>&1 || { cat "$folder/log" >&2 && exit 1; }
-(cd "$top/crates/function_rows" && rt run <stdin) >"$folder/log" 2>&1 || { cat "$folder/log" >&2 && exit 1; }
-(cd "$top/crates/evaluation_rows" && rt run <stdin) >"$folder/log" 2>&1 || { cat "$folder/log" >&2 && exit 1; }
+for rows in template_rows function_rows evaluation_rows; do
+    [ -x "$top/crates/$rows/out/$rows" ] && continue
+    (cd "$top/crates/$rows" && rt run </dev/null) >"$folder/log" 2>&1 || { cat "$folder/log" >&2 && exit 1; }
+done
 python3 - <<'PROGRAM'
 import calendar, datetime, json, os, random, subprocess, time, urllib.parse
 
@@ -112,6 +114,84 @@ for name, definition in cases + refused:
     run = [program, "run", path, inputs]
     said = subprocess.run(run, stdout=subprocess.PIPE).stdout.decode().splitlines()[-1]
     ours, theirs = least(run, ends=(0, 1)), least(["jq", "-c", ".", path])
+    print("%-34s %9d %9.3f %9.3f %7.1f %5d MiB  %.40s" % (name, os.path.getsize(path), ours, theirs, ours / theirs, memory(run), said))
+
+# `check` on definitions whose expressions name much, and on one of 4 MiB. The growth is that from a half of the actions on.
+def naming(names):
+    return "@concat(%s)" % ",".join("string(outputs('%s'))" % name for name in names) if names else 1
+
+
+# Each action of the chain names all before it, as far as an expression's 8,192 characters reach: the nearest 300 or so in each text.
+def chain(count, named):
+    texts = [[naming(names[max(k - named, at):min(at + 300, k)]) for at in range(max(k - named, 0) // 300 * 300, k, 300)]
+             for k in range(count)]
+    return {"actions": {name: {"type": "Compose", "inputs": texts[k], "runAfter": {other: ["Succeeded"] for other in names[k - 1:k]}}
+                        for k, name in enumerate(names[:count])}}
+
+
+# Eight levels, an eighth of the actions in each, whose last holds the next level; each names the last actions of all levels above.
+def levels(count):
+    graph, held = {}, None
+    for level in range(8, 0, -1):
+        mine = ["L%dA%03d" % (level, k) for k in range(count // 8)]
+        above = ["L%dA%03d" % (other, count // 8 - 2) for other in range(1, level)]
+        graph = {name: {"type": "Compose", "inputs": naming(above), "runAfter": {other: ["Succeeded"] for other in mine[k - 1:k]}}
+                 for k, name in enumerate(mine)}
+        if held is not None:
+            graph[mine[-1]].update({"type": "Scope", "actions": held})
+        held = graph
+    return {"actions": graph}
+
+
+checks = [
+    ("actions in a chain", lambda count: chain(count, 1)),
+    ("each naming all before it", lambda count: chain(count, count)),
+    ("in 8 levels, naming those above", levels),
+    ("4 MiB of names", lambda count: {"actions": {name: {
+        "type": "Compose", "inputs": [naming(names[:min(k, 300)])], "runAfter": {other: ["Succeeded"] for other in names[:k][-170:]}}
+        for k, name in enumerate(names[:count])}}),
+    ("loops, each with items named", lambda count: {"actions": {"L%03d" % k: {"type": "Foreach", "foreach": "@range(0,9)", "actions": {
+        "C%03d" % k: {"type": "Compose", "inputs": "@concat(items('L%03d'),item())" % k}}} for k in range(count // 2)}}),
+]
+print()
+print("%-34s %9s %9s %9s %7s %7s %9s  %s" % ("checked: 500 actions", "bytes", "wflow s", "jq s", "ratio", "growth", "memory", "said"))
+for name, made in checks:
+    path, half = file("definition.json", made(500)), file("half.json", made(250))
+    check = [program, "check", path]
+    said = subprocess.run(check, stdout=subprocess.PIPE).stdout.decode().strip()
+    ours, theirs = least(check), least(["jq", "-c", ".", path])
+    print("%-34s %9d %9.3f %9.3f %7.1f %7.1f %5d MiB  %.40s" % (
+        name, os.path.getsize(path), ours, theirs, ours / theirs, ours / least([program, "check", half]), memory(check), said))
+
+
+# Inputs near their 64 MiB, beside `jq -c .` on the same; 100,000 answers; and splits, of which all runs are written.
+def handed(**more):
+    return {"run": "bench", "moment": "2024-05-01T12:00:00Z"} | more
+
+
+def answers(count, body):
+    return [{"action": "A%d" % (k % 100), "at": [k // 100], "status": 200, "body": body} for k in range(count)]
+
+
+one = {"actions": {"A": {"type": "Compose", "inputs": 1}}}
+split = {"triggers": {"t": {"type": "Request", "splitOn": "@triggerBody()"}}}
+larges = [
+    ("64 MiB that isn't looked at", one, handed(x=[rows] * 67)),
+    ("64 parameters of 0.9 MiB", one, handed(parameters={"p%d" % k: "x" * 960000 for k in range(69)})),
+    ("64 MiB of answers", one, handed(answers=answers(190000, rows[0] | {"text": "x" * 200}))),
+    ("100,000 answers", one, handed(answers=answers(100000, None))),
+    ("a split of 10,000 items", split | one, handed(outputs={"body": list(range(10000))})),
+    ("a split of 100,000 items", split | one, handed(outputs={"body": list(range(100000))})),
+    ("a split of 100,000, no action", split, handed(outputs={"body": list(range(100000))})),
+    ("a split of 100,000, too large", split | graph(lambda k: []), handed(outputs={"body": list(range(100000))})),
+]
+print()
+print("%-34s %9s %9s %9s %7s %9s  %s" % ("inputs", "bytes", "wflow s", "jq s", "ratio", "memory", "said"))
+for name, definition, given in larges:
+    path = file("large.json", given)
+    run = [program, "run", file("definition.json", definition), path]
+    said = subprocess.run(run, stdout=subprocess.PIPE).stdout.decode().splitlines()[-1]
+    ours, theirs = least(run, ends=(0, 8)), least(["jq", "-c", ".", path])
     print("%-34s %9d %9.3f %9.3f %7.1f %5d MiB  %.40s" % (name, os.path.getsize(path), ours, theirs, ours / theirs, memory(run), said))
 
 # What each text is parsed as is told too, so that a parser that gives up early can't be taken for a fast one.

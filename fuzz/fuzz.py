@@ -3,26 +3,26 @@
 
   fuzz/fuzz.py [--count N] [--seed N] [--program PATH]
 
-For each case it makes a definition and an inputs file, from nothing but bytes or by mutating files of the right form, and
-decides for itself, with a reader of JSON and a judge of its own, what `wflow run` owes on them: the record and its summary
-line, or the one fault and its place. So a program that refuses what is of the form fails, and so does one that takes what
-isn't, and one that is ended by a signal. It fails too where fewer than one case in ten is of the form, since it would try
-little then. Of the functions of the expression language the judge has all but what a URL's parts are where the URL isn't plain:
-a case that asks for these isn't tried, and counted. The last line is 'N passed, M failed'."""
+For each case it makes a definition, for `wflow check` or with an inputs file for `wflow run`, from nothing but bytes or by mutating files
+of the right form, and decides for itself, with a reader of JSON and a judge of its own, what the call owes on them: the count of actions,
+the records and their summary lines, or the one fault and its place. So a program that refuses what is of the form fails, and so does one
+that takes what isn't, and one that is ended by a signal. It fails too where fewer than one case in ten of either command is of the form,
+since it would try little then. Of the functions of the expression language the judge has all but what a URL's parts are where the URL
+isn't plain: a case that asks for these isn't tried, and counted. The last line is 'N passed, M failed'."""
 import argparse
 import collections
-import hashlib
 import json
 import os
 import random
-import re
 import subprocess
 import sys
 import tempfile
 
 import functions
+import graphs
 import rules
-import templates
+import runs
+from reading import DEFINITION_BYTES, INPUTS_BYTES, Refused, read
 
 
 def value(rng, depth=0):
@@ -69,10 +69,15 @@ LITERALS = {
 }
 LITERALS["V"] = ["null"] + LITERALS["I"] + LITERALS["B"] + LITERALS["T"] + LITERALS["L"]
 
+# What is asked of the trigger and the parameters.
+GIVEN = ["parameters('p')", "Parameters('q')", "trigger()", "triggerBody()", "triggerBody()?['k']", "triggerOutputs()", "trigger().name"]
+
 
 # An expression over the rows of some actions, where it is wanted of a kind.
 def expression(rng, names, depth=0, wanted="V"):
     kind = rng.randrange(10 if depth < 3 else 4)
+    if kind < 4 and rng.random() < 0.15:
+        return rng.choice(GIVEN)
     if depth and kind < 6 or kind < 2 or kind < 4 and not names:
         return rng.choice(LITERALS[wanted if rng.random() < 0.9 else "V"])
     if kind < 4 and names:
@@ -112,21 +117,53 @@ TYPES = rules.LEAVES + rules.HOLDING_ONE + ["switch", "Switch", "Table", "", 1]
 
 
 def action(rng, names):
-    made = {"type": rng.choice(["Compose", "compose", "COMPOSE"] if rng.random() < 0.95 else TYPES)}
+    made = {"type": rng.choice(["Compose", "compose", "COMPOSE"] if rng.random() < 0.99 else TYPES)}
     after = rng.sample(names, rng.randrange(min(4, len(names)) + 1)) if names and rng.random() < 0.8 else []
     if after:
         listed = [["Succeeded"], ["Failed"], STATUSES, ["Succeeded", "SKIPPED"], []]
         made["runAfter"] = {name: rng.choice(listed if rng.random() < 0.3 else listed[:1]) for name in after}
     asked = after if rng.random() < 0.97 else names
     made["inputs"] = templated(rng, asked) if rng.random() < 0.8 else value(rng)
-    if made["type"] in TYPES or rng.random() < 0.05:
+    if made["type"] in TYPES or rng.random() < 0.02:
         made.update(rng.sample(MEMBERS, rng.randrange(1, 6)))
-    if rng.random() < 0.05:
+    if rng.random() < 0.02:
         made[rng.choice(["runAfter", "trackedProperties", "x"])] = value(rng)
     return made
 
 
-# The sections beside the actions.
+# The sections beside the actions: parameters, most of the time those that expressions ask for, triggers and outputs.
+KINDS = {"int": [0, 7], "String": ["", "a"], "bool": [True], "array": [[], [1]], "object": [{}, {"k": 1}], "secureString": ["s"]}
+
+
+def parameters(rng):
+    made = {}
+    for name in ("p", "q"):
+        kind = rng.choice(list(KINDS))
+        made[name] = {"type": kind}
+        if rng.random() < 0.95:
+            made[name]["defaultValue"] = rng.choice(KINDS[kind])
+        if rng.random() < 0.2:
+            made[name]["allowedValues"] = KINDS[kind][:rng.randrange(3)]
+    return made
+
+
+SPLITS = ["@triggerBody()", "@range(0,3)", "@createArray()", "@triggerOutputs()", "@parameters('p')", "@div(1,0)", "x",
+          "@createArray(utcNow(),1)", "@body('A')", "@rand(0,1)"]
+CONDITIONS = ["@true", "@equals(1,2)", "@not(empty(triggerBody()))", "@equals(parameters('p'),7)", "@div(1,0)", "@1",
+              "@equals(workflow().run.name,'r1')", "@greater(length(utcNow()),9)", "x"]
+
+
+def triggers(rng):
+    made = {}
+    for name in rng.sample(["t", "manual"], rng.choice([1] * 7 + [2])):
+        made[name] = {"type": rng.choice(["Request", "Recurrence"])}
+        if rng.random() < 0.4:
+            made[name]["splitOn"] = rng.choice(SPLITS if rng.random() < 0.4 else SPLITS[:3])
+        if rng.random() < 0.4:
+            made[name]["conditions"] = [{"expression": rng.choice(CONDITIONS)} for _ in range(rng.randrange(3))]
+    return made
+
+
 def section(rng):
     name = rng.choice(["a", "/", "", "~" * 81])
     member = rng.choice([{"type": "Int"}, {"type": "Request", "splitOn": "@triggerBody()"}, {"value": "@body('A')"}, {}, value(rng)])
@@ -136,7 +173,7 @@ def section(rng):
 # A definition whose actions wait for ones that are made before them, or in one case of twenty for any.
 def definition(rng):
     names = ["A", "B", "b", "é" * 80, "😀", "A0", "Z z"]
-    if rng.random() < 0.1:
+    if rng.random() < 0.05:
         names[rng.randrange(len(names))] = rng.choice(["", "a" * 81, "a\tb", "\x7f"])
     rng.shuffle(names)
     names = names[:rng.choice([0, 1, 1, 2, 3, 5, 7])]
@@ -144,28 +181,62 @@ def definition(rng):
     actions = [(name, action(rng, names if astray else names[:place])) for place, name in enumerate(names)]
     rng.shuffle(actions)
     whole = {"actions": dict(actions) if rng.random() < 0.97 else value(rng)}
-    if rng.random() < 0.1:
+    if rng.random() < 0.95:
+        whole["parameters"] = parameters(rng)
+    if rng.random() < 0.5:
+        whole["triggers"] = triggers(rng)
+    if rng.random() < 0.4:
+        whole["outputs"] = {name: {"value": templated(rng, names)} for name in rng.sample("oxé", rng.choice([1, 2]))}
+    if rng.random() < 0.03:
         whole[rng.choice(["parameters", "triggers", "outputs"])] = section(rng)
     if rng.random() < 0.05:
         whole[rng.choice(["definition", "$schema", "contentVersion", "x"])] = rng.choice([value(rng), rules.SCHEMA, {}])
-    return whole if rng.random() < 0.8 else {"definition": whole, "kind": "Stateful"}
+    if rng.random() < 0.8:
+        return whole
+    return {"definition": whole, "kind": "Stateful", "parameters": {name: {"value": one_of(rng)} for name in "pqz" if rng.random() < 0.3}}
+
+
+def checked(rng):
+    return definition(rng) if rng.random() < 0.2 else graphs.Maker(rng).definition()
+
+
+# A value for a parameter.
+def one_of(rng):
+    return rng.choice([part for kinds in KINDS.values() for part in kinds] + [None])
+
+
+def answer(rng):
+    made = {"action": rng.choice("AB"), "status": rng.choice([100, 200, 599, "timedOut", "noConnection"])}
+    more = [("at", []), ("at", [0, rng.randrange(3)]), ("attempt", 1), ("attempt", 91), ("headers", {"h": 1}), ("body", value(rng))]
+    made.update(rng.sample(more, rng.randrange(4)))
+    if rng.random() < 0.05:
+        made[rng.choice(["action", "at", "attempt", "status", "headers"])] = rng.choice([None, 0, 92, "x", [-1], {}])
+    return made
 
 
 def inputs(rng):
     whole = {"run": rng.choice(["r1", "", "x" * 65, "é", 1]), "moment": rng.choice(["2024-05-01T12:00:00Z", "", 1, "now", "2023-02-29"])}
-    if rng.random() < 0.8:
+    if rng.random() < 0.93:
         moments = ["2024-05-01T12:00:00Z", "0001-01-01", "9999-12-31T23:59:59.9999999Z", "2024-02-29T00:30+01:00"]
         whole = {"run": "r1", "moment": rng.choice(moments)}
     if rng.random() < 0.5:
         whole["seed"] = rng.choice(["", "s", "é\0", value(rng)])
+    if rng.random() < 0.7:
+        whole["outputs"] = rng.choice([{"body": [1, {"k": 2}]}, {"body": "no", "headers": {}}, {"body": {"k": [1]}}, [1], 5, value(rng)])
+    if rng.random() < 0.4:
+        whole["parameters"] = {name: one_of(rng) for name in "pqz" if rng.random() < 0.3}
     if rng.random() < 0.1:
+        whole["trigger"] = rng.choice(["t", "manual"])
+    if rng.random() < 0.2:
+        whole["answers"] = [answer(rng) for _ in range(rng.randrange(4))]
+    if rng.random() < 0.05:
         whole[rng.choice(["trigger", "outputs", "parameters", "answers", "x"])] = value(rng)
     return whole
 
 
 def mutated(rng, data):
     data = bytearray(data)
-    for _ in range(rng.choice([0, 0, 0, 0, 0, 1, 2, 8])):
+    for _ in range(rng.choice([0] * 27 + [1, 2, 8])):
         place = rng.randrange(len(data) + 1)
         change = rng.randrange(4)
         if change == 0:
@@ -180,286 +251,37 @@ def mutated(rng, data):
 
 
 def made(rng, form):
-    if rng.random() < 0.05:
+    if rng.random() < 0.03:
         return bytes(rng.randrange(256) for _ in range(rng.randrange(64)))
     return mutated(rng, json.dumps(form(rng), ensure_ascii=rng.random() < 0.5).encode())
 
 
-def compact(value):
-    return json.dumps(value, separators=(",", ":"), ensure_ascii=False, sort_keys=True)
-
-
-# ---- what the program has to answer, decided here: a reader of JSON of its own, the forms, and the record
-
-DEFINITION_BYTES, INPUTS_BYTES = 4 * 2**20, 64 * 2**20
-NESTED_AT_MOST, READ_AT_MOST = 120, 127
-NUMBER = re.compile(r"-?(0|[1-9][0-9]*)(\.[0-9]+)?([eE][-+]?[0-9]+)?")
-BLANKS = re.compile("[ \t\r\n]*")
-WORDS = {"null": None, "true": True, "false": False}
-ESCAPES = {'"': '"', "\\": "\\", "/": "/", "b": "\b", "f": "\f", "n": "\n", "r": "\r", "t": "\t"}
-
-
-class Refused(Exception):
-    """A file isn't of its form; the words are its fault as it is printed."""
-
-
-class NotWhole:
-    """A number that is no whole one of 64 bits."""
-
-
-# A reader of RFC 8259 over a text, by recursion; the place moves on as it reads.
-class Reader:
-    def __init__(self, text):
-        self.text, self.place = text, 0
-
-    def next(self):
-        return self.text[self.place:self.place + 1]
-
-    def take(self, word):
-        if not self.text.startswith(word, self.place):
-            raise Refused("NotJson")
-        self.place += len(word)
-
-    def blanks(self):
-        self.place = BLANKS.match(self.text, self.place).end()
-
-    def whole(self):
-        self.blanks()
-        value = self.value(0)
-        self.blanks()
-        if self.next():
-            raise Refused("NotJson")
-        return value
-
-    def value(self, within):
-        if self.next() in ("[", "{"):
-            if within == READ_AT_MOST:
-                raise Refused("NotJson")
-            return self.list(within + 1) if self.next() == "[" else self.object(within + 1)
-        if self.next() == '"':
-            return self.string()
-        for word, value in WORDS.items():
-            if self.text.startswith(word, self.place):
-                self.place += len(word)
-                return value
-        return self.number()
-
-    def list(self, within):
-        items = []
-        self.take("[")
-        self.blanks()
-        while self.next() != "]":
-            if items:
-                self.take(",")
-                self.blanks()
-            items.append(self.value(within))
-            self.blanks()
-        self.take("]")
-        return items
-
-    def object(self, within):
-        members, count = {}, 0
-        self.take("{")
-        self.blanks()
-        while self.next() != "}":
-            if count:
-                self.take(",")
-                self.blanks()
-            name = self.string()
-            self.blanks()
-            self.take(":")
-            self.blanks()
-            members[name] = self.value(within)
-            count += 1
-            self.blanks()
-        self.take("}")
-        return members
-
-    def unit(self):
-        digits = self.text[self.place:self.place + 4]
-        if not re.fullmatch("[0-9a-fA-F]{4}", digits):
-            raise Refused("NotJson")
-        self.place += 4
-        return int(digits, 16)
-
-    def escape(self):
-        letter = self.next()
-        self.place += 1
-        if letter in ESCAPES:
-            return ESCAPES[letter]
-        if letter != "u":
-            raise Refused("NotJson")
-        first = self.unit()
-        if 0xD800 <= first < 0xDC00:
-            self.take("\\u")
-            second = self.unit()
-            if not 0xDC00 <= second < 0xE000:
-                raise Refused("NotJson")
-            return chr(0x10000 + (first - 0xD800) * 0x400 + second - 0xDC00)
-        if 0xDC00 <= first < 0xE000:
-            raise Refused("NotJson")
-        return chr(first)
-
-    def string(self):
-        self.take('"')
-        letters = []
-        while self.next() != '"':
-            letter = self.next()
-            if letter < " ":
-                raise Refused("NotJson")
-            self.place += 1
-            letters.append(self.escape() if letter == "\\" else letter)
-        self.place += 1
-        return "".join(letters)
-
-    def number(self):
-        found = NUMBER.match(self.text, self.place)
-        if not found or float(found.group()) in (float("inf"), float("-inf")):
-            raise Refused("NotJson")
-        self.place = found.end()
-        plain = not found.group(2) and not found.group(3) and found.group() != "-0"
-        return int(found.group()) if plain and -(2**63) <= int(found.group()) < 2**63 else NotWhole()
-
-
-# The pointers of all places below a value of which the test says so, by its bytes and how many lists and objects it stands in.
-def places(value, test, pointer=b"", within=0):
-    if test(value, within):
-        yield pointer
-    parts = value.items() if isinstance(value, dict) else enumerate(value) if isinstance(value, list) else ()
-    for step, part in parts:
-        step = str(step).replace("~", "~0").replace("/", "~1").encode()
-        yield from places(part, test, pointer + b"/" + step, within + 1)
-
-
-def read(data, limit):
-    if len(data) > limit:
-        raise Refused("too long")
-    try:
-        value = Reader(data.removeprefix(b"\xef\xbb\xbf").decode("utf-8")).whole()
-    except UnicodeDecodeError:
-        raise Refused("NotJson")
-    tests = [
-        ("NotWhole", lambda part, within: isinstance(part, NotWhole)),
-        ("TooDeep", lambda part, within: isinstance(part, (list, dict)) and within >= NESTED_AT_MOST),
-    ]
-    for word, test in tests:
-        least = min(places(value, test), default=None)
-        if least is not None:
-            raise Refused(word + " " + compact(least.decode()))
-    return value
-
-
-def needs(holds):
-    if not holds:
-        raise Refused("NotYet")
-
-
-def is_word(value, word):
-    return isinstance(value, str) and value.isascii() and value.lower() == word
-
-
-def is_name(name, most):
-    return isinstance(name, str) and 1 <= len(name) <= most and not re.search("[\x00-\x1f\x7f]", name)
-
-
-# The actions in an order in which each stands after those that it waits for.
-def ordered(actions):
-    waiting = {name: set(action.get("runAfter", {})) for name, action in actions.items()}
-    order = []
-    while waiting:
-        ended = sorted(name for name, others in waiting.items() if not others & waiting.keys())
-        needs(ended)
-        order += ended
-        for name in ended:
-            del waiting[name]
-    return order
-
-
-# The definition that a file's value holds.
-def judge_definition(value):
-    definition = rules.definition_in(value)
-    fault = rules.refusal(definition)
+# The words of the fault of a file that is read, with what the file is.
+def wanted_of_definition(data, command):
+    value = read(data, DEFINITION_BYTES)
+    fault = rules.refusal(value, command)
     if fault is not None:
         raise Refused(fault)
-    return definition
+    return rules.definition_in(value), rules.given_in(value)
 
 
-# What a run is handed: its name, the seed of its words and its moment, in ticks.
-def judge_inputs(value):
-    needs(isinstance(value, dict) and not {"trigger", "outputs", "parameters", "answers"} & value.keys() and is_name(value.get("run"), 64))
-    seed, moment = value.get("seed", ""), value.get("moment")
-    needs(isinstance(seed, str) and isinstance(moment, str) and functions.moment_of(moment) is not None)
-    return {"run": value["run"], "seed": seed, "moment": functions.moment_of(moment)}
-
-
-# The value of a text inside a run; ValueError where it is none.
-def read_text(text):
+# The status and the text that a command owes on these files; None where the judge doesn't know what a function gives.
+def wanted(command, definition, inputs=None):
     try:
-        return read(text.encode(), len(text.encode()))
-    except Refused:
-        raise ValueError
-
-
-def row_of(name, status, code, inputs, error):
-    return {"at": [], "attempts": 0, "code": code, "error": error, "inputs": inputs, "name": name, "outputs": inputs, "status": status,
-            "tracked": {}}
-
-
-# The rows of the actions, by their names.
-def rows_of(actions, run):
-    rows = {}
-
-    def view(name):
-        return {member: rows[name][member] for member in ("code", "error", "inputs", "name", "outputs", "status")}
-
-    for name in ordered(actions):
-        needed = actions[name].get("runAfter", {})
-        if not all(any(is_word(one, rows[other]["status"].lower()) for one in listed) for other, listed in needed.items()):
-            rows[name] = row_of(name, "Skipped", "ActionSkipped", None, None)
-            continue
-        try:
-            value = templates.Evaluator(view, run, name, compact, read_text).tree(actions[name]["inputs"])
-            rows[name] = row_of(name, "Succeeded", "OK", value, None)
-        except functions.Fault as fault:
-            rows[name] = row_of(name, "Failed", "InvalidTemplate", None, str(fault))
-    return rows
-
-
-# How the graph ended: by the judged actions, which are those that none waits for, and those that a judged Skipped one waits for.
-def status_of(actions, rows):
-    judged = set(actions).difference(*(action.get("runAfter", {}) for action in actions.values()))
-    while True:
-        more = judged.union(*(actions[name].get("runAfter", {}) for name in judged if rows[name]["status"] == "Skipped"))
-        if more == judged:
-            return "Failed" if any(rows[name]["status"] == "Failed" for name in judged) else "Succeeded"
-        judged = more
-
-
-# The text that a run of this definition and these inputs writes.
-def record(definition, inputs):
-    actions = definition.get("actions", {})
-    rows = rows_of(actions, inputs)
-    made = {
-        "definition": hashlib.sha256(compact(definition).encode()).hexdigest(), "error": None, "form": 1, "outputs": {},
-        "parameters": {}, "response": None, "rows": [rows[name] for name in sorted(rows, key=str.encode)], "run": inputs["run"],
-        "status": status_of(actions, rows), "trigger": {"name": None, "outputs": None},
-    }
-    ran = sum(row["status"] != "Skipped" for row in rows.values())
-    return compact(made) + "\n# run %s steps %d peak %d\n" % (inputs["run"], len(rows) + ran, 1 if ran else 0)
-
-
-# The status and the text that `run` owes on these files; None where the judge doesn't know what a function gives.
-def wanted(definition, inputs):
-    try:
-        definition = judge_definition(read(definition, DEFINITION_BYTES))
+        definition, given = wanted_of_definition(definition, command)
     except Refused as fault:
         return 1, ("definition %s\n" % fault).encode()
+    if command == "check":
+        return 0, b"accepted %d\n" % len(list(rules.actions(definition)))
     try:
-        inputs = judge_inputs(read(inputs, INPUTS_BYTES))
+        inputs = runs.judge_inputs(read(inputs, INPUTS_BYTES))
+        return 0, runs.text_of(definition, given, inputs).encode()
     except Refused as fault:
         return 6, ("inputs %s\n" % fault).encode()
-    try:
-        return 0, record(definition, inputs).encode()
+    except runs.TriggerRefused as fault:
+        return 6, ("trigger %s\n" % fault).encode()
+    except runs.TooLarge:
+        return 8, b"too large\n"
     except functions.Unknown:
         return None, b""
 
@@ -478,23 +300,25 @@ def main():
     with tempfile.TemporaryDirectory() as folder:
         paths = [os.path.join(folder, name) for name in ("definition", "inputs")]
         for case in range(words.count):
-            files = [made(rng, definition), made(rng, inputs)]
+            command = "check" if case % 2 else "run"
+            files = [made(rng, checked)] if command == "check" else [made(rng, definition), made(rng, inputs)]
             for path, data in zip(paths, files):
                 with open(path, "wb") as file:
                     file.write(data)
-            status, text = wanted(*files)
-            statuses["unknown" if status is None else status] += 1
+            status, text = wanted(command, *files)
+            statuses["unknown" if status is None else "%s %d" % (command, status)] += 1
             if status is None:
                 continue
-            ended = subprocess.run([program, "run"] + paths, capture_output=True, timeout=60)
+            ended = subprocess.run([program, command] + paths[:len(files)], capture_output=True, timeout=60)
             if (ended.returncode, ended.stdout) != (status, text):
                 failed += 1
                 print("case %d: status %d, %r\n  owed %d, %r\n  %r\n  %r" % (
                     case, ended.returncode, ended.stdout[:200], status, text[:200], files[0][:300], files[1][:300]))
     print("seed %d, statuses owed %s" % (words.seed, dict(sorted(statuses.items(), key=str))))
-    if statuses[0] * 10 < words.count:
-        failed += 1
-        print("only %d cases are of the form" % statuses[0])
+    for command in ("check", "run"):
+        if statuses[command + " 0"] * 20 < words.count:
+            failed += 1
+            print("only %d cases of %s are of the form" % (statuses[command + " 0"], command))
     print("%d passed, %d failed" % (max(words.count - statuses["unknown"] - failed, 0), failed))
     return 1 if failed else 0
 

@@ -7,7 +7,7 @@ What a line of the rows means stands at the head of crates/run_rows/src/main.rt.
 import json
 import sys
 
-from fuzz import DEFINITION_BYTES, INPUTS_BYTES, Refused, judge_definition, judge_inputs, read, record
+from fuzz import wanted
 
 USAGE = (
     "usage: wflow check DEF | run DEF INPUTS [SCHEDULE] | trace DEF INPUTS SCHEDULE"
@@ -32,25 +32,16 @@ class Files:
         return self.held[name]
 
 
-def run(files, definition, inputs):
-    try:
-        definition = judge_definition(read(files.read(definition), DEFINITION_BYTES))
-    except Refused as fault:
-        return 1, "definition %s\n" % fault
-    try:
-        inputs = judge_inputs(read(files.read(inputs), INPUTS_BYTES))
-    except Refused as fault:
-        return 6, "inputs %s\n" % fault
-    return 0, record(definition, inputs)
-
-
 def said(files, words):
-    if len(words) != 3 or words[0] != "run":
-        return 2, USAGE
+    if len(words) != {"check": 2, "run": 3}.get(words[0]):
+        return 2, USAGE.encode()
     try:
-        return run(files, *words[1:])
+        definition = files.read(words[1])
+        refused = wanted("check", definition) if words[0] == "check" else wanted("run", definition, b"")
+        # the inputs are read once the definition is taken
+        return refused if words[0] == "check" or refused[0] == 1 else wanted("run", definition, files.read(words[2]))
     except Unread as line:
-        return 3, str(line)
+        return 3, str(line).encode()
 
 
 # What of a text is taken where a write takes so many bytes, and the one of this number, counted from 1, fails.
@@ -72,10 +63,12 @@ def main():
             trouble[rest.split()[0]] = int(rest.split()[1])
         elif word == "pieces":
             trouble[word] = int(rest)
+        elif word == "check":
+            status, text = wanted("check", rest.encode())
+            print("%d %s" % (status, text.decode()), end="")
         elif word == "words":
             files = Files(held, trouble.get("read"))
-            status, text = said(files, rest.split())
-            whole = text.encode()
+            status, whole = said(files, rest.split())
             part = taken(whole, trouble.get("pieces", len(whole)), trouble.get("write", 0))
             cut = part != whole
             print("words %s: status %d, failed reads %d, failed writes %d, left in the source %d" % (

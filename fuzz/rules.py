@@ -2,10 +2,11 @@
 docs/MESSAGES.md. The judge of fuzz.py stands on this.
 
 A rule is a function from a definition, for which all rules before it hold, to the places at which it is broken, as paths of names and
-numbers. `refusal` gives the words of the fault as they are printed, or None."""
+numbers. Those from V9 on are in references.py. `refusal` gives the words of the fault as they are printed, or None."""
 import json
 import re
 
+import references
 import templates
 
 SCHEMA = "https://schema.management.azure.com/providers/Microsoft.Logic/schemas/2016-06-01/workflowdefinition.json#"
@@ -41,8 +42,6 @@ FUNCTIONS = {name.lower(): counts for counts, names in [
     ("3", "replace addProperty setProperty if"),
     ("3-4", "addToTime subtractFromTime"),
 ] for name in names.split()}
-# what a function asks of its surroundings that no run has yet
-UNBUILT = "result item items iterationindexes action parameters variables trigger triggeroutputs triggerbody".split()
 
 
 def low(text):
@@ -364,28 +363,16 @@ RULES = [form, schema, limits, names, types, lacking, expressions, run_after]
 
 # ---- what isn't built
 
-# An action's name and those of all inside it.
-def names_in(name, action):
-    yield name
-    for _, branch in branches(action):
-        for other, inner in branch.get("actions", {}).items():
-            yield from names_in(other, inner)
-
-
-def unbuilt(definition):
-    for section in ("parameters", "triggers", "outputs"):
-        yield from (path for path, _ in members(definition, section))
-    graph = definition.get("actions", {})
-    above = ancestors(graph)
-    for name, action in graph.items():
-        before = {inner for other in above[name] for inner in names_in(other, graph[other])}
-        if type_of(action) != "compose" or action.get("trackedProperties"):
-            yield ("actions", name)
-            continue
-        for _, text in texts(action["inputs"], ()):
-            for function, parts in calls_of(text):
-                if low(function) in UNBUILT or low(function) in ("actions", "outputs", "body") and parts[0][1] not in before:
-                    yield ("actions", name)
+# The actions that a command doesn't take yet.
+def unbuilt(definition, command):
+    for path, action, _ in actions(definition):
+        kind = type_of(action)
+        if command == "check":
+            missing = kind.endswith("variable") or kind in ("terminate", "response")
+        else:
+            missing = kind != "compose" or action.get("trackedProperties")
+        if missing:
+            yield path
 
 
 def pointer(path):
@@ -403,11 +390,25 @@ def definition_in(value):
     return value["definition"] if isinstance(value, dict) and "definition" in value else value
 
 
-# The words of the fault for which a definition is refused, or None where it runs.
-def refusal(definition):
+# What the file gives for the definition's parameters, by their names.
+def given_in(value):
+    outer = value.get("parameters") if value is not definition_in(value) else None
+    outer = outer if isinstance(outer, dict) else {}
+    return {name: held["value"] for name, held in outer.items() if has(held, "value")}
+
+
+# The words of the fault for which the command refuses a file's value, or None where it takes it.
+def refusal(value, command):
+    definition = definition_in(value)
     for number, rule in enumerate(RULES, 1):
         place = least(rule(definition))
         if place is not None:
             return "V%d %s" % (number, place)
-    place = least(unbuilt(definition))
-    return None if place is None else "NotYet " + place
+    place = least(unbuilt(definition, command))
+    if place is not None:
+        return "NotYet " + place
+    for number, places in references.broken(definition, given_in(value)):
+        place = least(places)
+        if place is not None:
+            return "V%d %s" % (number, place)
+    return None

@@ -20,13 +20,12 @@ LONGEST, OPEN_AT_MOST = 8192, 64
 OWN = {
     "if": (3, 3), "and": (1, None), "or": (1, None), "coalesce": (1, None), "string": (1, 1), "json": (1, 1), "actions": (1, 1),
     "outputs": (1, 1), "body": (1, 1), "workflow": (0, 0), "utcNow": (0, 1), "getFutureTime": (2, 3), "getPastTime": (2, 3), "guid": (0, 1),
-    "rand": (2, 2)}
+    "rand": (2, 2), "parameters": (1, 1), "trigger": (0, 0), "triggerOutputs": (0, 0), "triggerBody": (0, 0)}
 BUILT = {name.lower(): (name,) + counts for name, counts in (OWN | {name: row[1:] for name, row in GIVEN.items()}).items()}
-NAMING = ("actions", "outputs", "body")
 
 
 class Refused(Exception):
-    """A text is no template, or a call in it isn't built."""
+    """A text is no template."""
 
 
 # An expression from a place of a text on: ("lit", value), ("call", name, parts), ("member", base, name, soft), ("index", base, key, soft).
@@ -160,29 +159,13 @@ def expressions(value):
         yield from expressions(part)
 
 
-# The names of actions that a value of a definition asks for; refused where a text in it is no template, or a call isn't built.
-def names_asked(value):
-    names = set()
-    for made in expressions(value):
-        for _, name, parts in calls(made):
-            if name.lower() not in BUILT:
-                raise Refused
-            _, least, most = BUILT[name.lower()]
-            if len(parts) < least or most is not None and len(parts) > most:
-                raise Refused
-            if name.lower() in NAMING:
-                if parts[0][0] != "lit" or not isinstance(parts[0][1], str):
-                    raise Refused
-                names.add(parts[0][1])
-    return names
-
-
 def is_whole(value):
     return isinstance(value, int) and not isinstance(value, bool)
 
 
 # The value of an expression. `view` gives what is known of an action; `compact` gives the JSON text of a value, and `read` the value of a
-# JSON text, or raises ValueError. The run has a name, a seed and a moment, and words are drawn at the place, the action's name.
+# JSON text, or raises ValueError. The run has a name, a seed, a moment, parameters and what its trigger gave, and words are drawn at the
+# place, the action's name.
 class Evaluator:
     def __init__(self, view, run, place, compact, read):
         self.view, self.run, self.place, self.compact, self.read, self.drawn = view, run, place, compact, read, 0
@@ -246,11 +229,13 @@ class Evaluator:
         if name == "coalesce":
             found = (self.value(part) for part in parts)
             return next((value for value in found if value is not None), None)
-        if name in NAMING:
-            view = self.view(parts[0][1])
+        if name in ("actions", "outputs", "body", "trigger", "triggeroutputs", "triggerbody"):
+            view = self.run["trigger"] if name.startswith("trigger") else self.view(parts[0][1])
             outputs = view["outputs"]
             body = outputs.get("body") if isinstance(outputs, dict) else None
-            return {"actions": view, "outputs": outputs, "body": body}[name]
+            return outputs if name.endswith("outputs") else body if name.endswith("body") else view
+        if name == "parameters":
+            return self.run["parameters"][parts[0][1]]
         if name == "workflow":
             return {"name": "workflow", "run": {"name": self.run["run"]}}
         name, values = BUILT[name][0], [self.value(part) for part in parts]

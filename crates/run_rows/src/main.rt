@@ -7,7 +7,8 @@
 //! - `pad SIZE`: the file of the last such line is as long as that many bytes, by blanks behind its text;
 //! - `fail read N`, `fail write N`: in the next row the Nth read of a file, or the Nth write, fails;
 //! - `pieces SIZE`: in the next row a write takes at most so many bytes;
-//! - `words WORD ..`: a row. It is answered at once.
+//! - `words WORD ..`: a row. It is answered at once;
+//! - `check TEXT`: a row of `check` on a file that holds the text, answered in one line: the status and what is written.
 //!
 //! Other lines say what the rows below them show. The texts that are wanted come from the program's requirements and from outside
 //! tools, never from the program: `fuzz/owed.py` writes them. This program is no part of the engine.
@@ -126,6 +127,21 @@ fn answer<R: Print + AllocGlobal>(
     }
 }
 
+// Answers a row of `check`.
+fn answer_check<R: Print + AllocGlobal>(rt: &R, definition: &str) -> io::Result<()> {
+    let alloc = rt.alloc();
+    let words = words_of(alloc, "check definition")?;
+    let mut files = MemFiles::new(alloc);
+    files.add(Text::of(alloc, "definition")?, definition.as_bytes())?;
+    let mut source = MemSource::new(alloc, b"")?;
+    let mut sink = sink_of(alloc, NO_TROUBLE)?;
+    let status = serve_words(alloc, &words, &mut files, &mut source, &mut sink);
+    match std::str::from_utf8(sink.taken()) {
+        Ok(text) => println!(rt; "{status} {}", text.trim_end()),
+        Err(_) => println!(rt; "{status} not UTF-8"),
+    }
+}
+
 fn main(rt: HostRuntime) -> io::Result<()> {
     let alloc = rt.alloc();
     let rows = io::read_to_string(alloc, rt.reader())?;
@@ -138,6 +154,9 @@ fn main(rt: HostRuntime) -> io::Result<()> {
         }
         if let Some(size) = line.strip_prefix("pad ") {
             pad(&mut held, number(size))?;
+        }
+        if let Some(definition) = line.strip_prefix("check ") {
+            answer_check(&rt, definition)?;
         }
         if let Some(words) = line.strip_prefix("words ") {
             answer(&rt, &held, trouble, words)?;

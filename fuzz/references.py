@@ -1,0 +1,185 @@
+"""The rules V9 to V21: which names an expression may use where it stands. Decided apart from the program, after docs/RULES.md; rules.py,
+which stands on this, has the rules before.
+
+They are looked at only where V1 to V8 hold and no action is of a kind that isn't built, so no action initialises or writes a variable
+here, and there is no Terminate and no Response: V12, V13 and V15 to V17 can't be broken."""
+import functions
+import rules
+import templates
+
+LOOPS = ("foreach", "until")
+CONTAINERS = LOOPS + ("scope", "if", "switch")
+WORDS, MOMENTS = ("guid", "rand"), ("utcnow", "getfuturetime", "getpasttime")
+SORTS = {"int": "I", "string": "T", "bool": "B", "array": "L", "object": "O", "securestring": "T", "secureobject": "O"}
+
+
+# An action with the containers round it, from the outermost.
+class Node:
+    def __init__(self, path, action, within):
+        self.name, self.path, self.graph = path[-1], path, path[:-1]
+        self.kind, self.action, self.within = rules.type_of(action), action, within
+
+    def line(self):
+        return self.within + [self]
+
+    def loops(self):
+        return [other for other in self.within if other.kind in LOOPS]
+
+
+# A place at which expressions stand: its pointer, the kind of the site, the action if it is one's, and the calls in it by their lower-case
+# names, each with its first argument.
+class Site:
+    def __init__(self, path, kind, node, texts):
+        self.path, self.kind, self.node = path, kind, node
+        self.calls = [(name.lower(), parts[0][1] if parts and parts[0][0] == "lit" else None) for text in texts
+                      for made in templates.expressions(text) for _, name, parts in templates.calls(made)]
+
+    def named(self, *functions):
+        return [name for function, name in self.calls if function in functions]
+
+    def uses(self, *functions):
+        return any(function in functions for function, _ in self.calls)
+
+    # the loops inside which it stands: an Until's own test is inside that Until
+    def loops(self):
+        if self.node is None:
+            return []
+        return self.node.loops() + [self.node] * (self.kind == "test")
+
+
+# The site of an action at which the template of this path stands.
+def kind_of(node, path):
+    step = path[len(node.path):]
+    if step[0] == "trackedProperties":
+        return "tracked"
+    if node.kind == "until" and step[0] == "expression":
+        return "test"
+    return "items" if (node.kind, step[1:2]) in (("select", ("select",)), ("query", ("where",))) else "inputs"
+
+
+class Whole:
+    def __init__(self, definition):
+        self.definition = definition
+        self.above = {path: rules.ancestors(members) for path, members, _ in rules.graphs(definition)}
+        self.nodes = []
+        for path, action, _ in sorted(rules.actions(definition), key=lambda found: len(found[0])):
+            self.nodes.append(Node(path, action, [node for node in self.nodes if path[:len(node.path)] == node.path]))
+        self.by_name = {node.name: node for node in self.nodes}
+        self.sites = list(self.all_sites())
+
+    def all_sites(self):
+        for node in self.nodes:
+            found = {}
+            for path, text in rules.templates_of(node.action, node.path):
+                found.setdefault(kind_of(node, path), []).append(text)
+            for kind, texts in found.items():
+                yield Site(node.path, kind, node, texts)
+        for path, output in rules.members(self.definition, "outputs"):
+            yield Site(path, "output", None, [output["value"]])
+        for path, trigger in rules.members(self.definition, "triggers"):
+            texts = [condition["expression"] for condition in trigger.get("conditions", [])]
+            yield Site(path, "trigger", None, texts + [trigger[member] for member in ("splitOn",) if member in trigger])
+
+    # Whether a container-or-self of the one is an ancestor, in one graph, of a container-or-self of the other.
+    def is_before(self, one, other):
+        return any(holder.graph == late.graph and holder.name in self.above[late.graph][late.name]
+                   for holder in one.line() for late in other.line())
+
+    def may_name(self, site, name):
+        node = self.by_name.get(name)
+        if node is None or site.kind == "output":
+            return node is not None
+        return self.is_before(node, site.node) or site.kind == "test" and site.node in node.within
+
+    # How many loops a reference leaves.
+    def left(self, site, name, is_result):
+        node = self.by_name[name]
+        round_it = node.loops() + [node] * (is_result and node.kind in LOOPS)
+        return sum(loop not in site.loops() for loop in round_it)
+
+    def is_round(self, site, name, kind):
+        node = self.by_name.get(name)
+        if node is None or node.kind != kind or site.node is None:
+            return False
+        return node in site.node.within or kind == "until" and site.kind == "test" and node is site.node
+
+
+def references(whole):
+    for site in whole.sites:
+        names = site.named("actions", "outputs", "body", "result") if site.kind != "trigger" else []
+        if not all(whole.may_name(site, name) for name in names):
+            yield site.path
+
+
+def is_of(value, sort):
+    return functions.depth(value) <= functions.DEEP and functions.weight(value) <= functions.HEAVY and sort in ("V", functions.kind(value))
+
+
+def parameters(whole, given):
+    declared = whole.definition.get("parameters", {})
+    for site in whole.sites:
+        if not all(name in declared for name in site.named("parameters")):
+            yield site.path
+    for name, parameter in declared.items():
+        sort = SORTS[rules.type_of(parameter)]
+        values = parameter.get("allowedValues", []) + [parameter[member] for member in ("defaultValue",) if member in parameter]
+        if not all(is_of(value, sort) for value in values) or name in given and not is_of(given[name], "V"):
+            yield ("parameters", name)
+
+
+def variables(whole):
+    yield from (site.path for site in whole.sites if site.kind != "trigger" and site.named("variables"))
+
+
+def items(whole):
+    for site in whole.sites:
+        if site.kind == "trigger":
+            continue
+        fine = all(whole.is_round(site, name, "foreach") for name in site.named("items"))
+        fine = fine and all(whole.is_round(site, name, "until") for name in site.named("iterationindexes"))
+        in_a_list = site.node is not None and any(node.kind == "foreach" for node in site.node.within)
+        if not fine or site.uses("item") and not in_a_list and site.kind != "items":
+            yield site.path
+
+
+def loops_left(whole):
+    for site in whole.sites:
+        if site.kind == "trigger":
+            continue
+        counts = [whole.left(site, name, False) for name in site.named("actions", "outputs", "body")]
+        if max(counts + [whole.left(site, name, True) for name in site.named("result")], default=0) > 1:
+            yield site.path
+
+
+def results(whole):
+    for site in whole.sites:
+        if site.kind != "trigger" and not all(whole.by_name[name].kind in CONTAINERS for name in site.named("result")):
+            yield site.path
+
+
+def tracked(whole):
+    for site in whole.sites:
+        if site.kind == "tracked" and site.uses("variables", "workflow", *WORDS, *MOMENTS):
+            yield site.path
+        if site.kind not in ("tracked", "trigger") and site.uses("action"):
+            yield site.path
+
+
+def triggers(whole):
+    for site in whole.sites:
+        if site.kind == "trigger" and site.uses("actions", "outputs", "body", "result", "variables", "item", "items", "iterationindexes",
+                                                "action", *WORDS):
+            yield site.path
+
+
+# The numbers of the rules with the places at which each is broken, in the order in which they are looked at.
+def broken(definition, given):
+    whole = Whole(definition)
+    yield 9, references(whole)
+    yield 10, parameters(whole, given)
+    yield 11, variables(whole)
+    yield 14, items(whole)
+    yield 18, loops_left(whole)
+    yield 19, results(whole)
+    yield 20, tracked(whole)
+    yield 21, triggers(whole)
