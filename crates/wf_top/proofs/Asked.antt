@@ -6,13 +6,16 @@ use Rattle.std.proofs.lemmas.Grind.{common_steps}
 use Rattle.std.proofs.lemmas.List.Elements.{Contains-get_or}
 use Rattle.wf_outside.specs.Outside.{Held}
 use Rattle.wf_top.specs.Plan.{Plan, Says, Reads, ComesTo, AsksAmong}
-use Rattle.wf_meaning.specs.Definition.{DefinitionTree, InputsTree}
+use Rattle.wf_answers.specs.Inputs.{InputsTree}
+use Rattle.wf_def.specs.DefTree.{DefTree}
 use Rattle.wf_top.specs.Form.{definition_of, form_of, inputs_of}
-use Rattle.wf_top.specs.Commands.{plan, plan_of, command_of, word, judged_definition, judged_inputs}
+use Rattle.wf_top.specs.Commands.{plan, plan_of, accepted, judged_definition, judged_inputs, made_runs, text_of_runs}
 use Rattle.wf_top.specs.Served.{FailedAt}
+use Rattle.wf_top.specs.Words.{command_of}
 use Rattle.wf_top.specs.declared.words.Command.{Command}
-use Rattle.wf_top.specs.declared.words.Command.TheVariants.{Run}
-use Rattle.wf_top.specs.declared.form.FormFault.{FormFault}
+use Rattle.wf_top.specs.declared.words.Command.TheVariants.{Check, Run}
+use Rattle.wf_top.specs.declared.fault.FormFault.{FormFault}
+use Rattle.wf_runs.specs.declared.fault.RunsFault.{RunsFault}
 
 asked : (held : Held) (words : List (List ℕ)) (plan : Plan) (name : List ℕ) → AsksAmong words plan → ComesTo held plan name →
     Contains words name
@@ -23,26 +26,44 @@ asked held words (Reads first limit next) name among comes =
       | inr later ↦ asked held words (next later.0) name (among.1 later.0) later.2
     ]
 
-inputs_asks : (words : List (List ℕ)) (definition : DefinitionTree) (form : Result InputsTree FormFault) →
-    AsksAmong words (judged_inputs definition form)
-inputs_asks words definition (Ok inputs) = tt
-inputs_asks words definition (Err fault) = tt
+runs_ask : (words : List (List ℕ)) (made : Result (List ℕ) RunsFault) → AsksAmong words (made_runs made)
+runs_ask words (Ok text) = tt
+runs_ask words (Err (RunsFault.Trigger fault)) = tt
+runs_ask words (Err RunsFault.TooLarge) = tt
+runs_ask words (Err RunsFault.Memory) = tt
 
-definition_asks : (words : List (List ℕ)) (name : List ℕ) (form : Result DefinitionTree FormFault) → Contains words name →
-    AsksAmong words (judged_definition name form)
-definition_asks words name (Ok definition) among = (among, λ file. inputs_asks words definition (form_of inputs_of file))
-definition_asks words name (Err fault) among = tt
+inputs_ask : (words : List (List ℕ)) (d : DefTree) (form : Result InputsTree FormFault) → AsksAmong words (judged_inputs d form)
+inputs_ask words d (Ok inputs) = runs_ask words (text_of_runs d inputs)
+inputs_ask words d (Err fault) = tt
 
-run_length : (words : List (List ℕ)) → command_of words ≡ Some Run → 2 < length words
+check_length : (words : List (List ℕ)) → command_of words ≡ Some Check → 1 < length words
+check_length words is = grind (arith, common_steps)
+
+pub run_length : (words : List (List ℕ)) → command_of words ≡ Some Run → 2 < length words
 run_length words is = grind (arith, common_steps)
+
+accepted_asks : (command : Command) (words : List (List ℕ)) (d : DefTree) → command_of words ≡ Some command →
+    AsksAmong words (accepted command words d)
+accepted_asks Check words d is = tt
+accepted_asks Run words d is =
+    (Contains-get_or words 2 [] (run_length words is), λ file. inputs_ask words d (form_of inputs_of file))
+
+definition_asks : (command : Command) (words : List (List ℕ)) (form : Result DefTree FormFault) → command_of words ≡ Some command →
+    AsksAmong words (judged_definition command words form)
+definition_asks command words (Ok d) is = accepted_asks command words d is
+definition_asks command words (Err fault) is = tt
+
+-- each command has a first file
+some_length : (command : Command) (words : List (List ℕ)) → command_of words ≡ Some command → 1 < length words
+some_length Check words is = check_length words is
+some_length Run words is = let more : 2 < length words = run_length words is in omega arith
 
 plan_asks : (command : Command) (words : List (List ℕ)) → command_of words ≡ Some command → AsksAmong words (plan command words)
 unfolding plan
-plan_asks Run words is =
-    let more : 2 < length words = run_length words is in (
-      Contains-get_or words 1 [] (omega arith),
-      λ file. definition_asks words (word words 2) (form_of definition_of file) (Contains-get_or words 2 [] more),
-    )
+plan_asks command words is = (
+  Contains-get_or words 1 [] (some_length command words is),
+  λ file. definition_asks command words (form_of (definition_of command) file) is,
+)
 
 by_command : (held : Held) (words : List (List ℕ)) (command : Option Command) (old new : List (List ℕ)) (name : List ℕ) →
     command_of words ≡ command →

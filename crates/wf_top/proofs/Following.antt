@@ -1,5 +1,5 @@
 -- A read, and then the rest of the plan.
-use Rattle.std.proofs.Common.{◌≡◌, ℕ, List, Option, Result, Ok, Err, inl, inr, subst}
+use Rattle.std.proofs.Common.{◌≡◌, ℕ, List, Option, Result, Ok, Err, inl, inr, refl, subst}
 use Rattle.std.specs.Result.{IfOk, IfErr}
 use Rattle.wf_outside.specs.Outside.{Held}
 use Rattle.wf_top.specs.Plan.{Plan, Says, Reads, MayGive}
@@ -38,3 +38,13 @@ reaches_fault held name limit next file old new P verdict line (Ok said) gives i
     (gives.1, (file, gives.0, rw (is ok.0) (ok.1, ok.2)))
 reaches_fault held name limit next file old new P verdict line (Err (CannotRead failed)) gives is ok err = absurd (cc)
 reaches_fault held name limit next file old new P verdict line (Err Memory) gives is ok err = inl gives.1
+
+-- What was said then of what was read is what the plan says, unless memory ran out.
+pub reaches_said : (held : Held) (name : List ℕ) (limit : ℕ) (next : Option (List ℕ) → Plan) (file : Option (List ℕ)) (plan : Plan)
+    (old new : List (List ℕ)) (result : Result Said Stop) →
+    MayGive held name limit file × (new ≡ old) → next file ≡ plan →
+    IfOk result (λ said. plan ≡ Says said.verdict said.text.items) → IfErr result (λ stop. stop ≡ Memory) →
+    Reaches held (Reads name limit next) old new (outcome_of result)
+reaches_said held name limit next file plan old new (Ok said) gives is ok err = (gives.1, (file, gives.0, rw (is, ok) (refl, refl)))
+reaches_said held name limit next file plan old new (Err (CannotRead failed)) gives is ok err = absurd (cc)
+reaches_said held name limit next file plan old new (Err Memory) gives is ok err = inl gives.1

@@ -2,5 +2,5 @@ pub mod Asked
 pub mod Outcomes
 pub mod Following
 pub mod Written
-pub mod RunOutcomes
+pub mod CommandOutcomes
 mod Worked

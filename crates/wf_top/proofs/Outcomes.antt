@@ -4,7 +4,7 @@ use Rattle.std.specs.Option.{option_map, option_and_then, IfSome}
 use Rattle.std.specs.Io.KnownBytes.{Appends}
 use Rattle.wf_outside.specs.Outside.{Held, Rose, IsCalm}
 use Rattle.wf_top.specs.declared.said.Verdict.{Verdict}
-use Rattle.wf_top.specs.declared.said.Verdict.TheVariants.{Done, Definition, Inputs}
+use Rattle.wf_top.specs.declared.said.Verdict.TheVariants.{Done, Definition, Inputs, TooLarge}
 use Rattle.wf_top.specs.Plan.{Plan, Says, Reads, MaySay, said_by, within}
 use Rattle.wf_top.specs.Served.{number, Outcome, Misused, Speaks, Unread, Spent, status_of, text_of, Comes, Writes, Serves, FailedAt, IsSaid, said_of, cannot_read}
 
@@ -13,11 +13,13 @@ pub number_le : (verdict : Verdict) → number verdict ≤ 8
 number_le Done = omega arith
 number_le Definition = omega arith
 number_le Inputs = omega arith
+number_le TooLarge = omega arith
 
 number_apart : (verdict : Verdict) → (number verdict ≡ 2 → ⊥) × (number verdict ≡ 3 → ⊥)
 number_apart Done = (λ h. cc, λ h. cc)
 number_apart Definition = (λ h. cc, λ h. cc)
 number_apart Inputs = (λ h. cc, λ h. cc)
+number_apart TooLarge = (λ h. cc, λ h. cc)
 
 -- a list isn't itself with one more
 no_longer : (xs : List (List ℕ)) (ys : List (List ℕ)) (x : List ℕ) → ys ≡ xs ++ x ∷ [] → ys ≡ xs → ⊥
@@ -151,7 +153,7 @@ pub serves_two : (held : Held) (plan : Option Plan) (old new : List (List ℕ)) 
 serves_two held plan old new before after result serves two =
     two_at held plan old new before after result serves.outcome serves.comes serves.writes two
 
-misused_at : (before after : Option (List ℕ)) (result : ℕ) (outcome : Outcome) →
+pub misused_at : (before after : Option (List ℕ)) (result : ℕ) (outcome : Outcome) →
     outcome ≡ Misused → Writes before after (status_of outcome) (text_of outcome) result → (result ≡ 2) ⊎ (result ≡ 4)
 misused_at before after result Misused is writes = elim writes [ inl all ↦ inl all.0 | inr cut ↦ inr cut.0 ]
 misused_at before after result (Speaks status text) is writes = absurd (cc)

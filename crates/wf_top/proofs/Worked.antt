@@ -1,23 +1,27 @@
--- Worked values of the definitions of this crate: its limits, names, words and statuses.
-use Rattle.std.proofs.Common.{◌≡◌, ℕ, zero, suc, List, [], ◌∷◌, ◌++◌, true, false, not, ◌&&◌, None, Some, Err, replicate, refl}
-use Rattle.std.specs.Prelude.{pos, codes, if◌then◌else◌}
-use Rattle.std.specs.Option.{option_map}
-use Rattle.std.specs.Str.{chars}
-use Rattle.wf_json.specs.Json.{string}
+-- Worked values of the definitions of this crate: its limits, words, lines and statuses.
+use Rattle.std.proofs.Common.{◌≡◌, ℕ, List, [], ◌∷◌, ◌++◌, None, Some, Ok, Err, replicate, refl}
+use Rattle.std.specs.Prelude.{codes}
 use Rattle.std.specs.Fmt.{digits}
-use Rattle.wf_val.specs.ValueTree.{ValueTree, null, number, text, list, object, Member, members, trees}
-use Rattle.wf_fn_time.specs.Reading.{read_time}
-use Rattle.wf_meaning.specs.Look.{no_trigger}
-use Rattle.wf_meaning.specs.Definition.{DefinitionTree}
-use Rattle.wf_top.specs.Commands.{command_of, run, run_definition}
-use Rattle.wf_top.specs.Form.{form_of, form_words, definition_of, inputs_of}
-use Rattle.wf_top.specs.Names.{is_name, is_printable}
-use Rattle.wf_top.specs.Inputs.{moment_of, plain_run, run_name, seed_of}
+use Rattle.wf_def.specs.ActionTree.{ActionTree, action, KindTree, compose, scope, ActionTrees, no_actions, action_then}
+use Rattle.wf_def.specs.DefTree.{DefTree}
+use Rattle.wf_json.specs.Json.{string}
+use Rattle.wf_reading.specs.declared.definition.RuleFault.{RuleFault}
+use Rattle.wf_template.specs.DataTree as data_
+use Rattle.wf_top.specs.Commands.{accepted, accepted_line, judged_definition, judged_inputs, made_runs, plan, run}
+use Rattle.wf_top.specs.Fault.{fault_line, form_words}
+use Rattle.wf_top.specs.Form.{built, checked, definition_of, form_of, inputs_of}
 use Rattle.wf_top.specs.Plan.{Plan, Says, Reads, within}
 use Rattle.wf_top.specs.Served as served
-use Rattle.wf_top.specs.declared.form.FormFault.{FormFault}
-use Rattle.wf_top.specs.declared.said.Verdict.TheVariants.{Done, Definition, Inputs}
-use Rattle.wf_top.specs.declared.words.Command.TheVariants.{Run}
+use Rattle.wf_top.specs.Trigger.{trigger_line, trigger_words}
+use Rattle.wf_top.specs.Words.{command_of}
+use Rattle.wf_top.specs.declared.fault.FormFault.{FormFault}
+use Rattle.wf_runs.specs.declared.fault.RunsFault.{RunsFault}
+use Rattle.wf_top.specs.declared.said.Verdict.TheVariants.{Done, Definition, Inputs, TooLarge}
+use Rattle.wf_top.specs.declared.words.Command.{Command}
+use Rattle.wf_top.specs.declared.words.Command.TheVariants.{Check, Run}
+use Rattle.wf_trigger.specs.declared.fault.TriggerFault.{TriggerFault}
+use Rattle.wf_val.specs.declared.fault.EvalFault.{EvalFault}
+use Rattle.wf_val.specs.declared.function.Fun.{Fun}
 
 -- ---- limits
 
@@ -25,22 +29,31 @@ use Rattle.wf_top.specs.declared.words.Command.TheVariants.{Run}
 abbrev letters : ℕ → List ℕ
 letters count = replicate count 97
 
--- A run's name has at most 64 characters; which characters a text has is std's.
-run_name-limit : (s : List ℕ) → run_name (Some (text s)) ≡ (if is_name 64 s then Some s else None)
-run_name-limit s = refl
-
--- the limit of the file that a plan reads first
+-- the limit of the file that a plan reads first, and its name
 abbrev first_limit : Plan → ℕ
 first_limit (Says verdict said) = 0
 first_limit (Reads name limit next) = limit
 
+abbrev first_name : Plan → List ℕ
+first_name (Says verdict said) = []
+first_name (Reads name limit next) = name
+
+-- words of a command and its files
+abbrev words_of : List ℕ → ℕ → List (List ℕ)
+words_of name files = name ∷ replicate files (letters 1)
+
 -- 4 MiB
-definition-limit : first_limit (run (letters 1) (letters 2)) ≡ 4194304
-definition-limit = refl
+definition-limit-check : first_limit (plan Check (words_of (codes "check") 1)) ≡ 4194304
+unfolding plan
+definition-limit-check = refl
+
+definition-limit-run : first_limit (plan Run (words_of (codes "run") 2)) ≡ 4194304
+unfolding plan
+definition-limit-run = refl
 
 -- 64 MiB
-inputs-limit : (definition : DefinitionTree) → first_limit (run_definition definition (letters 2)) ≡ 67108864
-inputs-limit definition = refl
+inputs-limit : (d : DefTree) → first_limit (run (letters 2) d) ≡ 67108864
+inputs-limit d = refl
 
 within-limit : within 3 (letters 3) ≡ Some (letters 3)
 within-limit = refl
@@ -48,28 +61,53 @@ within-limit = refl
 within-one_more : within 3 (letters 4) ≡ None
 within-one_more = refl
 
-too_long-definition : form_of definition_of None ≡ Err FormFault.TooLong
+too_long-definition : form_of (definition_of Check) None ≡ Err FormFault.TooLong
 too_long-definition = refl
 
 too_long-inputs : form_of inputs_of None ≡ Err FormFault.TooLong
 too_long-inputs = refl
 
--- ---- words, faults and statuses
+-- DEF is the first file, and INPUTS the second
+first-definition : first_name (plan Run (codes "run" ∷ (letters 1 ∷ (letters 2 ∷ [])))) ≡ letters 1
+unfolding plan
+first-definition = refl
 
-command-run : command_of (codes "run" ∷ (letters 1 ∷ (letters 2 ∷ []))) ≡ Some Run
+second-inputs : (d : DefTree) → first_name (accepted Run (codes "run" ∷ (letters 1 ∷ (letters 2 ∷ []))) d) ≡ letters 2
+second-inputs d = refl
+
+-- ---- words
+
+command-check : command_of (words_of (codes "check") 1) ≡ Some Check
+command-check = refl
+
+command-check-no_file : command_of (words_of (codes "check") 0) ≡ None
+command-check-no_file = refl
+
+command-check-two_files : command_of (words_of (codes "check") 2) ≡ None
+command-check-two_files = refl
+
+command-run : command_of (words_of (codes "run") 2) ≡ Some Run
 command-run = refl
 
-command-one_file : command_of (codes "run" ∷ (letters 1 ∷ [])) ≡ None
-command-one_file = refl
+command-run-one_file : command_of (words_of (codes "run") 1) ≡ None
+command-run-one_file = refl
 
-command-three_files : command_of (codes "run" ∷ (letters 1 ∷ (letters 2 ∷ (letters 3 ∷ [])))) ≡ None
-command-three_files = refl
+command-run-three_files : command_of (words_of (codes "run") 3) ≡ None
+command-run-three_files = refl
 
-command-capital : command_of (codes "Run" ∷ (letters 1 ∷ (letters 2 ∷ []))) ≡ None
+command-capital : command_of (words_of (codes "Run") 2) ≡ None
 command-capital = refl
+
+command-longer : command_of (words_of (codes "checks") 1) ≡ None
+command-longer = refl
+
+command-trace : command_of (words_of (codes "trace") 3) ≡ None
+command-trace = refl
 
 command-none : command_of [] ≡ None
 command-none = refl
+
+-- ---- faults of files
 
 words-too_long : form_words FormFault.TooLong ≡ codes "too long"
 words-too_long = refl
@@ -77,15 +115,133 @@ words-too_long = refl
 words-not_json : form_words FormFault.NotJson ≡ codes "NotJson"
 words-not_json = refl
 
+words-not_whole : (pointer : List ℕ) → form_words (FormFault.NotWhole pointer) ≡ codes "NotWhole " ++ string pointer
+words-not_whole pointer = refl
+
+words-too_deep : (pointer : List ℕ) → form_words (FormFault.TooDeep pointer) ≡ codes "TooDeep " ++ string pointer
+words-too_deep pointer = refl
+
 words-rule : (pointer : List ℕ) → form_words (FormFault.Rule 8 pointer) ≡ codes "V8 " ++ string pointer
 unfolding digits
 words-rule pointer = refl
 
-words-not_built : (pointer : List ℕ) → form_words (FormFault.NotBuilt pointer) ≡ codes "NotYet " ++ string pointer
-words-not_built pointer = refl
+words-last_rule : (pointer : List ℕ) → form_words (FormFault.Rule 21 pointer) ≡ codes "V21 " ++ string pointer
+unfolding digits
+words-last_rule pointer = refl
 
-words-not_yet : form_words FormFault.NotYet ≡ codes "NotYet"
-words-not_yet = refl
+words-not_yet : (pointer : List ℕ) → form_words (FormFault.NotYet pointer) ≡ codes "NotYet " ++ string pointer
+words-not_yet pointer = refl
+
+words-form : (pointer : List ℕ) → form_words (FormFault.Form pointer) ≡ codes "Form " ++ string pointer
+words-form pointer = refl
+
+words-twice : (address : List ℕ) → form_words (FormFault.Twice address 12) ≡ codes "Twice " ++ (string address ++ codes " 12")
+unfolding digits
+words-twice address = refl
+
+words-moment : form_words FormFault.Moment ≡ codes "Moment"
+words-moment = refl
+
+line-definition : fault_line (codes "definition ") FormFault.NotJson ≡ codes "definition NotJson\n"
+unfolding fault_line
+line-definition = refl
+
+line-inputs : fault_line (codes "inputs ") FormFault.Moment ≡ codes "inputs Moment\n"
+unfolding fault_line
+line-inputs = refl
+
+-- ---- faults of triggers
+
+trigger-none : trigger_line TriggerFault.NoTrigger ≡ codes "trigger NoTrigger\n"
+unfolding trigger_line
+trigger-none = refl
+
+trigger-parameter : (name : List ℕ) → trigger_words (TriggerFault.NoParameter name) ≡ codes "NoParameter " ++ string name
+trigger-parameter name = refl
+
+trigger-type : (name : List ℕ) → trigger_words (TriggerFault.ParameterType name) ≡ codes "ParameterType " ++ string name
+trigger-type name = refl
+
+trigger-allowed : (name : List ℕ) → trigger_words (TriggerFault.NotAllowed name) ≡ codes "NotAllowed " ++ string name
+trigger-allowed name = refl
+
+trigger-split : trigger_words (TriggerFault.Split (EvalFault.Range Fun.Div)) ≡ codes "Split Range div"
+trigger-split = refl
+
+trigger-no_list : trigger_words TriggerFault.SplitNotList ≡ codes "SplitNotList"
+trigger-no_list = refl
+
+trigger-long_split : trigger_words (TriggerFault.SplitTooLong 100001) ≡ codes "SplitTooLong 100001"
+unfolding digits
+trigger-long_split = refl
+
+trigger-condition : trigger_words (TriggerFault.Condition (EvalFault.WrongType Fun.Condition 0)) ≡ codes "Condition WrongType condition 0"
+unfolding digits
+trigger-condition = refl
+
+-- ---- what follows from what was found, in the order of the tests
+
+abbrev some_fault : FormFault
+some_fault = FormFault.NotJson
+
+-- a faulty definition is told before anything of the inputs, by each command
+definition-told : (command : Command) (words : List (List ℕ)) →
+    judged_definition command words (Err some_fault) ≡ Says Definition (codes "definition NotJson\n")
+unfolding fault_line
+definition-told command words = refl
+
+-- what isn't built is told before a rule between parts, and one that breaks none is taken
+rule-behind : (d : DefTree) (pointer : List ℕ) → built d (Some pointer) ≡ Err (FormFault.NotYet pointer)
+rule-behind d pointer = refl
+
+rule-broken : (d : DefTree) (pointer : List ℕ) → checked d (Some (RuleFault.Rule 9 pointer)) ≡ Err (FormFault.Rule 9 pointer)
+rule-broken d pointer = refl
+
+rule-none : (d : DefTree) → checked d None ≡ Ok d
+rule-none d = refl
+
+inputs-told : (d : DefTree) → judged_inputs d (Err FormFault.Moment) ≡ Says Inputs (codes "inputs Moment\n")
+unfolding fault_line
+inputs-told d = refl
+
+runs-told : made_runs (Ok (codes "# no run\n")) ≡ Says Done (codes "# no run\n")
+runs-told = refl
+
+trigger-told : made_runs (Err (RunsFault.Trigger TriggerFault.SplitNotList)) ≡ Says Inputs (codes "trigger SplitNotList\n")
+unfolding trigger_line
+trigger-told = refl
+
+cost-told : made_runs (Err RunsFault.TooLarge) ≡ Says TooLarge (codes "too large\n")
+cost-told = refl
+
+-- ---- accepted definitions
+
+abbrev leaf : List ℕ → ActionTree
+leaf name = action name 0 [] [] (compose data_.null) []
+
+abbrev container : List ℕ → KindTree → ActionTree
+container name kind = action name 0 [] [] kind []
+
+abbrev two_leaves : ActionTrees
+two_leaves = action_then (leaf (codes "A")) (action_then (leaf (codes "B")) no_actions)
+
+abbrev definition_with : ActionTrees → DefTree
+definition_with top = record { digest = []; parameters = []; given = []; triggers = []; top = top; outputs = [] }
+
+accepted-none : accepted_line (definition_with no_actions) ≡ codes "accepted 0\n"
+unfolding accepted_line digits
+accepted-none = refl
+
+accepted-two : accepted_line (definition_with two_leaves) ≡ codes "accepted 2\n"
+unfolding accepted_line digits
+accepted-two = refl
+
+-- those inside count too
+accepted-inner : accepted_line (definition_with (action_then (container (codes "S") (scope two_leaves)) two_leaves)) ≡ codes "accepted 5\n"
+unfolding accepted_line digits
+accepted-inner = refl
+
+-- ---- statuses
 
 status-done : served.number Done ≡ 0
 status-done = refl
@@ -96,83 +252,20 @@ status-definition = refl
 status-inputs : served.number Inputs ≡ 6
 status-inputs = refl
 
--- ---- names
+status-too_large : served.number TooLarge ≡ 8
+status-too_large = refl
 
-printable-blank : is_printable 32 ≡ true
-printable-blank = refl
+status-misused : served.status_of served.Misused ≡ 2
+status-misused = refl
 
-printable-below : is_printable 31 ≡ false
-printable-below = refl
+status-unread : (name : List ℕ) → served.status_of (served.Unread name) ≡ 3
+status-unread name = refl
 
-printable-delete : is_printable 127 ≡ false
-printable-delete = refl
+status-spent : served.status_of served.Spent ≡ 5
+status-spent = refl
 
-printable-above : is_printable 128 ≡ true
-printable-above = refl
+text-unread : (name : List ℕ) → served.text_of (served.Unread name) ≡ codes "cannot read " ++ (string name ++ codes "\n")
+text-unread name = refl
 
--- ---- inputs
-
-seed-absent : seed_of None ≡ Some []
-seed-absent = refl
-
-seed-text : seed_of (Some (text (codes "s"))) ≡ Some (codes "s")
-seed-text = refl
-
-seed-null : seed_of (Some null) ≡ None
-seed-null = refl
-
-seed-number : seed_of (Some (number (pos 1))) ≡ None
-seed-number = refl
-
-moment-absent : moment_of None ≡ None
-moment-absent = refl
-
-moment-number : moment_of (Some (number (pos 0))) ≡ None
-moment-number = refl
-
-moment-empty : moment_of (Some (text [])) ≡ None
-moment-empty = refl
-
-moment-text : (s : List ℕ) → moment_of (Some (text s)) ≡ read_time s
-moment-text s = refl
-
--- the members of inputs, in the order of their names
-abbrev inputs_with : List Member → ValueTree
-inputs_with ms = object (members ms)
-
-abbrev moment_member : List ℕ → Member
-moment_member s = (codes "moment", text s)
-
-abbrev run_member : Member
-run_member = (codes "run", text (codes "r"))
-
-run-seedless : (s : List ℕ) → plain_run (inputs_with (moment_member s ∷ (run_member ∷ [])))
-    ≡ option_map (λ ticks. record { run = codes "r"; seed = []; moment = pos ticks; trigger = no_trigger }) (read_time s)
-unfolding plain_run chars
-run-seedless s = refl
-
-run-seeded : (s : List ℕ) → plain_run (inputs_with (moment_member s ∷ (run_member ∷ ((codes "seed", text (codes "s")) ∷ []))))
-    ≡ option_map (λ ticks. record { run = codes "r"; seed = codes "s"; moment = pos ticks; trigger = no_trigger }) (read_time s)
-unfolding plain_run chars
-run-seeded s = refl
-
-run-null_seed : (s : List ℕ) → plain_run (inputs_with (moment_member s ∷ (run_member ∷ ((codes "seed", null) ∷ [])))) ≡ None
-unfolding plain_run chars
-run-null_seed s = refl
-
-run-moment_of_words : plain_run (inputs_with (moment_member (codes "now") ∷ (run_member ∷ []))) ≡ None
-unfolding plain_run chars
-run-moment_of_words = refl
-
-run-momentless : plain_run (inputs_with (run_member ∷ [])) ≡ None
-unfolding plain_run chars
-run-momentless = refl
-
-run-nameless : (s : List ℕ) → plain_run (inputs_with (moment_member s ∷ [])) ≡ None
-unfolding plain_run chars
-run-nameless s = refl
-
-run-answers : (s : List ℕ) →
-    plain_run (inputs_with ((codes "answers", list (trees [])) ∷ (moment_member s ∷ (run_member ∷ [])))) ≡ None
-unfolding plain_run chars
-run-answers s = refl
+text-spent : served.text_of served.Spent ≡ codes "out of memory\n"
+text-spent = refl

@@ -1,57 +1,68 @@
 -- What each command says: its plan, in the order of its tests.
-use Rattle.std.specs.Prelude.{ℕ, List, [], ◌∷◌, ◌++◌, ◌&&◌, length, Bool, false, Option, None, Some, Result, Ok, Err, if◌then◌else◌, nat_eq, codes, slice_index_or}
-use Rattle.std.specs.Str.{bytes_eq}
+use Rattle.std.specs.Prelude.{ℕ, List, [], ◌∷◌, ◌++◌, length, Option, Result, Ok, Err, codes, decimal}
 use Rattle.std.specs.Option.{option_map}
-use Rattle.wf_meaning.specs.Definition.{DefinitionTree, InputsTree}
-use Rattle.wf_meaning.specs.Meaning.{meaning}
-use Rattle.wf_top.specs.Form.{definition_of, fault_line, form_of, inputs_of}
+use Rattle.wf_answers.specs.Inputs.{InputsTree}
+use Rattle.wf_def.specs.DefTree.{DefTree}
+use Rattle.wf_def.specs.Names.{graph_names}
+use Rattle.wf_plain.specs.Plain.{plain_of}
+use Rattle.wf_runs.specs.Runs.{runs_text}
+use Rattle.wf_runs.specs.declared.fault.RunsFault.{RunsFault}
+use Rattle.wf_top.specs.Fault.{fault_line}
+use Rattle.wf_top.specs.Form.{definition_of, form_of, inputs_of}
 use Rattle.wf_top.specs.Limits.{definition_bytes, inputs_bytes}
-use Rattle.wf_top.specs.Summary.{summary_line}
-use Rattle.wf_record.specs.Record.{record_line}
 use Rattle.wf_top.specs.Plan.{Plan, Says, Reads}
+use Rattle.wf_top.specs.Trigger.{trigger_line}
+use Rattle.wf_top.specs.Words.{command_of, word}
+use Rattle.wf_top.specs.declared.fault.FormFault.{FormFault}
+use Rattle.wf_top.specs.declared.said.Verdict.TheVariants.{Done, Definition, Inputs, TooLarge}
 use Rattle.wf_top.specs.declared.words.Command.{Command}
-use Rattle.wf_top.specs.declared.words.Command.TheVariants.{Run}
-use Rattle.wf_top.specs.declared.form.FormFault.{FormFault}
-use Rattle.wf_top.specs.declared.said.Verdict.TheVariants.{Done, Definition, Inputs}
+use Rattle.wf_top.specs.declared.words.Command.TheVariants.{Check, Run}
 
--- what `run` writes of a run
-abbrev pub run_text : DefinitionTree → InputsTree → List ℕ
-run_text definition inputs = record_line (meaning definition inputs) ++ summary_line (meaning definition inputs)
+-- what `check` writes of an accepted definition: how many actions it has, at any depth
+unfoldable pub accepted_line : DefTree → List ℕ
+accepted_line d = codes "accepted " ++ (decimal (length (graph_names d.top)) ++ 10 ∷ [])
 
--- INPUTS is read and judged: the run is made, or refused for the fault of the inputs.
-abbrev pub judged_inputs : DefinitionTree → Result InputsTree FormFault → Plan
-judged_inputs definition (Err fault) = Says Inputs (fault_line (codes "inputs ") fault)
-judged_inputs definition (Ok inputs) = Says Done (run_text definition inputs)
+-- what `run` writes of the runs that the inputs start, or why there are none to write
+unfoldable pub text_of_runs : DefTree → InputsTree → Result (List ℕ) RunsFault
+text_of_runs d inputs = runs_text (plain_of d) inputs
 
--- A definition is run with the inputs of a file.
-abbrev pub run_definition : DefinitionTree → List ℕ → Plan
-run_definition definition inputs = Reads inputs inputs_bytes (λ file. judged_inputs definition (form_of inputs_of file))
+abbrev pub too_large : List ℕ
+too_large = codes "too large\n"
 
--- DEF is read and judged: it is run, or refused for its fault.
-abbrev pub judged_definition : List ℕ → Result DefinitionTree FormFault → Plan
-judged_definition inputs (Err fault) = Says Definition (fault_line (codes "definition ") fault)
-judged_definition inputs (Ok definition) = run_definition definition inputs
+-- The runs are made, or refused for the fault of the trigger or for their cost. Want of memory is no fault of theirs.
+abbrev pub made_runs : Result (List ℕ) RunsFault → Plan
+made_runs (Ok text) = Says Done text
+made_runs (Err (RunsFault.Trigger fault)) = Says Inputs (trigger_line fault)
+made_runs (Err RunsFault.TooLarge) = Says TooLarge too_large
+made_runs (Err RunsFault.Memory) = Says Done []
 
--- `run DEF INPUTS`
-abbrev pub run : List ℕ → List ℕ → Plan
-run definition inputs = Reads definition definition_bytes (λ file. judged_definition inputs (form_of definition_of file))
+-- INPUTS is read and judged: the runs are made, or refused for the fault of the inputs.
+abbrev pub judged_inputs : DefTree → Result InputsTree FormFault → Plan
+judged_inputs d (Err fault) = Says Inputs (fault_line (codes "inputs ") fault)
+judged_inputs d (Ok inputs) = made_runs (text_of_runs d inputs)
 
--- the word at a place
-abbrev pub word : List (List ℕ) → ℕ → List ℕ
-word words place = slice_index_or words place []
+-- An accepted definition is run with the inputs of a file.
+abbrev pub run : List ℕ → DefTree → Plan
+run inputs d = Reads inputs inputs_bytes (λ file. judged_inputs d (form_of inputs_of file))
 
--- the words name this command, and so many words follow
-abbrev pub is_command : List ℕ → ℕ → List (List ℕ) → Bool
-is_command name count [] = false
-is_command name count (first ∷ rest) = bytes_eq first name && nat_eq (length rest) count
+-- what a command does with an accepted definition
+abbrev pub accepted : Command → List (List ℕ) → DefTree → Plan
+accepted Check words d = Says Done (accepted_line d)
+accepted Run words d = run (word words 2) d
 
--- the command that the words are, or None
-abbrev pub command_of : List (List ℕ) → Option Command
-command_of words = if is_command (codes "run") 2 words then Some Run else None
+-- DEF is read and judged: the command goes on with it, or it is refused for its fault.
+abbrev pub judged_definition : Command → List (List ℕ) → Result DefTree FormFault → Plan
+judged_definition command words (Err fault) = Says Definition (fault_line (codes "definition ") fault)
+judged_definition command words (Ok d) = accepted command words d
+
+-- what a command says whose definition is the file of this name
+abbrev pub defined : List ℕ → Command → List (List ℕ) → Plan
+defined definition command words =
+    Reads definition definition_bytes (λ file. judged_definition command words (form_of (definition_of command) file))
 
 -- what a command with its words says
 unfoldable pub plan : Command → List (List ℕ) → Plan
-plan Run words = run (word words 1) (word words 2)
+plan command words = defined (word words 1) command words
 
 -- what the words ask for, or None where they are no command
 abbrev pub plan_of : List (List ℕ) → Option Plan

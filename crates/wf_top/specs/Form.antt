@@ -1,24 +1,21 @@
--- What a file holds of a form, and the line that says why it holds nothing of it.
-use Rattle.std.specs.Prelude.{ℕ, List, [], ◌∷◌, ◌++◌, Option, None, Some, Result, Ok, Err, codes, decimal}
-use Rattle.wf_val.specs.ValueTree.{ValueTree}
-use Rattle.wf_json.specs.Json.{string}
+-- What a file holds of a form.
+use Rattle.std.specs.Prelude.{ℕ, List, Option, None, Some, Result, Ok, Err}
+use Rattle.wf_answers.specs.Inputs as answers
+use Rattle.wf_answers.specs.declared.fault.InputsFault.{InputsFault}
+use Rattle.wf_def.specs.DefTree.{DefTree}
 use Rattle.wf_json.specs.Read.{read_value}
 use Rattle.wf_json.specs.declared.fault.JsonFault.{JsonFault}
-use Rattle.wf_meaning.specs.Definition.{DefinitionTree, InputsTree}
-use Rattle.wf_top.specs.Inputs.{plain_run}
-use Rattle.wf_plain.specs.Plain.{plain_of}
-use Rattle.wf_plain.specs.declared.plain.PlainFault.{PlainFault}
+use Rattle.wf_plain.specs.Unbuilt.{not_yet}
+use Rattle.wf_plain.specs.declared.unbuilt.Purpose.{Purpose}
 use Rattle.wf_reading.specs.Meant as read
 use Rattle.wf_reading.specs.ReadSeen.{fault_in}
 use Rattle.wf_reading.specs.declared.definition.RuleFault.{RuleFault}
-use Rattle.wf_top.specs.declared.form.FormFault.{FormFault}
-
--- a fault of the JSON text, as a fault of the file
-abbrev pub json_fault : JsonFault → FormFault
-json_fault JsonFault.NotJson = FormFault.NotJson
-json_fault (JsonFault.NotWhole pointer) = FormFault.NotWhole pointer
-json_fault (JsonFault.TooDeep pointer) = FormFault.TooDeep pointer
-json_fault JsonFault.Memory = FormFault.Memory
+use Rattle.wf_rules.specs.Broken.{broken_of}
+use Rattle.wf_top.specs.Fault.{inputs_fault, json_fault, rule_fault}
+use Rattle.wf_top.specs.declared.fault.FormFault.{FormFault}
+use Rattle.wf_top.specs.declared.words.Command.{Command}
+use Rattle.wf_top.specs.declared.words.Command.TheVariants.{Check, Run}
+use Rattle.wf_val.specs.ValueTree.{ValueTree}
 
 -- A form says which values are of it, and of the others which fault they have.
 abbrev pub Form : Type 0 → Type 0
@@ -34,49 +31,43 @@ abbrev pub form_of : {T : Type 0} → Form T → Option (List ℕ) → Result T 
 form_of form None = Err FormFault.TooLong
 form_of form (Some bytes) = found form (read_value bytes)
 
--- a rule that is broken, and what isn't built, as faults of the file
-abbrev pub rule_fault : RuleFault → FormFault
-rule_fault (RuleFault.Rule rule pointer) = FormFault.Rule rule pointer
-rule_fault RuleFault.Memory = FormFault.Memory
+-- what a command takes a definition for
+abbrev pub purpose_of : Command → Purpose
+purpose_of Check = Purpose.Check
+purpose_of Run = Purpose.Run
 
-abbrev pub plain_fault : PlainFault → FormFault
-plain_fault (PlainFault.NotYet pointer) = FormFault.NotBuilt pointer
-plain_fault PlainFault.Memory = FormFault.Memory
+-- the least pointer of what isn't built for a command
+unfoldable pub unbuilt_for : Command → DefTree → Option (List ℕ)
+unbuilt_for command d = not_yet (purpose_of command) d
 
--- what a run takes of a definition, where all of it is built
-abbrev pub built : Result DefinitionTree PlainFault → Result DefinitionTree FormFault
-built (Ok definition) = Ok definition
-built (Err fault) = Err (plain_fault fault)
+-- the first of the rules between its parts that a definition breaks
+unfoldable pub broken_in : DefTree → Option RuleFault
+broken_in d = broken_of d
 
--- a value that breaks this rule, or none
-abbrev pub accepted : ValueTree → Option RuleFault → Result DefinitionTree FormFault
-accepted value (Some fault) = Err (rule_fault fault)
-accepted value None = built (plain_of (read.definition_of value))
+-- a definition that breaks this rule between its parts, or none
+abbrev pub checked : DefTree → Option RuleFault → Result DefTree FormFault
+checked d (Some fault) = Err (rule_fault fault)
+checked d None = Ok d
 
--- The form of definitions: no rule is broken, and all is built.
-abbrev pub definition_of : Form DefinitionTree
-definition_of value = accepted value (fault_in value)
+-- a definition in which this isn't built, or nothing
+abbrev pub built : DefTree → Option (List ℕ) → Result DefTree FormFault
+built d (Some pointer) = Err (FormFault.NotYet pointer)
+built d None = checked d (broken_in d)
 
--- what was found in a value, or that it isn't of a form that is built yet
-abbrev pub or_not_yet : {T : Type 0} → Option T → Result T FormFault
-or_not_yet None = Err FormFault.NotYet
-or_not_yet (Some t) = Ok t
+-- a value that breaks this rule on what stands where, or none
+abbrev pub formed : Command → ValueTree → Option RuleFault → Result DefTree FormFault
+formed command value (Some fault) = Err (rule_fault fault)
+formed command value None = built (read.definition_of value) (unbuilt_for command (read.definition_of value))
+
+-- The form of definitions: the value breaks no rule, and all that the command asks for is built.
+abbrev pub definition_of : Command → Form DefTree
+definition_of command value = formed command value (fault_in value)
+
+-- what inputs a value means, or its fault
+abbrev pub or_inputs_fault : Result answers.InputsTree InputsFault → Result answers.InputsTree FormFault
+or_inputs_fault (Ok inputs) = Ok inputs
+or_inputs_fault (Err fault) = Err (inputs_fault fault)
 
 -- the form of inputs
-abbrev pub inputs_of : Form InputsTree
-inputs_of value = or_not_yet (plain_run value)
-
--- A fault of a file, as it is printed. Want of memory is none, and has a line of its own.
-abbrev pub form_words : FormFault → List ℕ
-form_words FormFault.TooLong = codes "too long"
-form_words FormFault.NotJson = codes "NotJson"
-form_words (FormFault.NotWhole pointer) = codes "NotWhole " ++ string pointer
-form_words (FormFault.TooDeep pointer) = codes "TooDeep " ++ string pointer
-form_words (FormFault.Rule rule pointer) = codes "V" ++ (decimal rule ++ (32 ∷ string pointer))
-form_words (FormFault.NotBuilt pointer) = codes "NotYet " ++ string pointer
-form_words FormFault.NotYet = codes "NotYet"
-form_words FormFault.Memory = []
-
--- the line of a fault of a file, which names the file by its part in the command
-unfoldable pub fault_line : List ℕ → FormFault → List ℕ
-fault_line part fault = part ++ form_words fault ++ 10 ∷ []
+abbrev pub inputs_of : Form answers.InputsTree
+inputs_of value = or_inputs_fault (answers.inputs_of value)

@@ -1,9 +1,9 @@
 pub mod Commands
+pub mod Fault
 pub mod Form
-pub mod Inputs
 pub mod Limits
-pub mod Names
 pub mod Plan
 pub mod Ran
-pub mod Summary
 pub mod Served
+pub mod Trigger
+pub mod Words

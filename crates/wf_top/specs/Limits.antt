@@ -8,7 +8,3 @@ definition_bytes = 4194304
 -- the greatest length of an inputs file, in bytes: 64 MiB
 abbrev pub inputs_bytes : ℕ
 inputs_bytes = 67108864
-
--- the greatest length of the name that the inputs give a run, in characters
-abbrev pub run_name_chars : ℕ
-run_name_chars = 64

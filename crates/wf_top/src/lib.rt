@@ -4,19 +4,21 @@
 //! before it answers the status that the program ends with. What it says is stated as a plan: which file is read with
 //! which limit, and what follows from its bytes. Everything that is claimed of a command is a clause of this one call.
 //!
-//! The crate reads definitions by `wf_reading`, takes of them what `wf_plain` says a run takes, judges the form of inputs, makes the
-//! record of a run and prints it. It opens no file and no stream itself; that is left to the objects which it is lent.
+//! The crate reads definitions by `wf_reading`, asks `wf_plain` whether all is built that a command asks for, has the rules between a
+//! definition's parts judged by `wf_rules`, reads inputs by `wf_answers` and has the runs made and printed by `wf_runs`. It opens no file
+//! and no stream itself; that is left to the objects which it is lent.
 #![tactic(auto)]
 
+mod accepted;
 mod commands;
+mod fault;
 mod form;
-mod inputs;
 mod load;
-mod names;
 mod put;
-mod run;
+mod quoted;
 mod said;
 mod serve;
+mod trigger;
 mod words;
 
 pub use serve::serve_words;
@@ -27,6 +29,3 @@ const DEFINITION_LIMIT: u64 = 4_194_304;
 
 /// The greatest length of an inputs file, in bytes: 64 MiB.
 const INPUTS_LIMIT: u64 = 67_108_864;
-
-/// The greatest length of the name that the inputs give a run, in characters.
-const RUN_NAME_LIMIT: usize = 64;

@@ -9,8 +9,10 @@ pub enum Verdict {
     Done = 0,
     /// The definition isn't accepted.
     Definition = 1,
-    /// The inputs aren't of their form.
+    /// The inputs aren't of their form, or the definition's trigger starts no run by them.
     Inputs = 6,
+    /// The runs cost too much.
+    TooLarge = 8,
 }
 
 impl Verdict {

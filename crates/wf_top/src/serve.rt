@@ -2,10 +2,11 @@
 ghost use Rattle.std.specs.Prelude.{◌≡◌, ◌⊎◌, ◌<◌, ◌≤◌, ℕ, List, Some, None, Contains, IfOk, IfSome};
 ghost use Rattle.std.specs.Io.KnownBytes.{Appends};
 ghost use Rattle.wf_outside.specs.Outside.{IsCalm, Rose};
-ghost use Rattle.wf_top.specs.Commands.{command_of, plan_of, run_text};
-ghost use Rattle.wf_meaning.specs.Definition.{DefinitionTree, InputsTree};
-ghost use Rattle.wf_top.specs.Ran.{IsWhole, PassesAll, Ran, RefusedDefinition, RefusedInputs};
+ghost use Rattle.wf_def.specs.DefTree.{DefTree};
+ghost use Rattle.wf_top.specs.Commands.{accepted_line, plan_of};
+ghost use Rattle.wf_top.specs.Ran.{Checked, HoldsDefinition, IsWhole, PassesAll, Ran, RefusedCost, RefusedDefinition, RefusedInputs, RefusedTrigger};
 ghost use Rattle.wf_top.specs.Served.{FailedAt, IsSaid, Serves, cannot_read, say};
+ghost use Rattle.wf_top.specs.Words.{command_of};
 
 use crate::commands::follow;
 use crate::load::Stop;
@@ -68,21 +69,33 @@ pub fn serve_words<F: Files, I: Source, O: Sink>(
     ensures outcome { Serves (F.held files.old) (plan_of words.now) (F.failed files.old) (F.failed files.new)
         (O.taken out.old) (O.taken out.new) result }
 
-    // At `run DEF INPUTS` 0 comes where a definition and inputs were read, and the sink took exactly the line of the record that
-    // they mean and its summary line.
+    // At `check DEF` 0 comes where a definition was read that is accepted, and the sink took exactly the line with the number of its
+    // actions.
+    ensures checked { command_of words.now ≡ Some Command.Check → result ≡ 0 → Checked (F.held files.old) words.now (O.taken out.old) (O.taken out.new) }
+
+    // At `run DEF INPUTS` 0 comes where a definition and inputs were read, and the sink took exactly the text of the runs that they
+    // start.
     ensures ran { command_of words.now ≡ Some Command.Run → result ≡ 0 → Ran (F.held files.old) words.now (O.taken out.old) (O.taken out.new) }
 
-    // Where all its tests pass and no count rose, that comes and nothing else, but for want of memory.
-    ensures complete { IfSome (F.held files.old) (λ bytes_of. (definition : DefinitionTree) (inputs : InputsTree) →
-        PassesAll bytes_of words.now definition inputs →
+    // Where all tests of a command pass and no count rose, that comes and nothing else, but for want of memory.
+    ensures complete_check { IfSome (F.held files.old) (λ bytes_of. (definition : DefTree) →
+        HoldsDefinition bytes_of words.now Command.Check definition →
         F.failed files.new ≡ F.failed files.old → IsCalm (O.faults out.old) (O.faults out.new) →
-        IsWhole (O.taken out.old) (O.taken out.new) (run_text definition inputs) result) }
+        IsWhole (O.taken out.old) (O.taken out.new) (accepted_line definition) result) }
+    ensures complete { IfSome (F.held files.old) (λ bytes_of. (text : List ℕ) →
+        PassesAll bytes_of words.now text →
+        F.failed files.new ≡ F.failed files.old → IsCalm (O.faults out.old) (O.faults out.new) →
+        IsWhole (O.taken out.old) (O.taken out.new) text result) }
 
-    // There 1 comes where the first file gave no definition, and 6 where it gave one and the second gave no inputs.
-    ensures refused_definition { command_of words.now ≡ Some Command.Run → result ≡ 1 →
-        RefusedDefinition (F.held files.old) words.now (O.taken out.old) (O.taken out.new) }
-    ensures refused_inputs { command_of words.now ≡ Some Command.Run → result ≡ 6 →
-        RefusedInputs (F.held files.old) words.now (O.taken out.old) (O.taken out.new) }
+    // 1 comes where the first file gave no definition that the command takes.
+    ensures refused_definition { result ≡ 1 → RefusedDefinition (F.held files.old) words.now (O.taken out.old) (O.taken out.new) }
+
+    // 6 comes where it gave one, and the second gave no inputs, or gave inputs by which the trigger starts no run for its fault.
+    ensures refused_inputs { result ≡ 6 → RefusedInputs (F.held files.old) words.now (O.taken out.old) (O.taken out.new)
+        ⊎ RefusedTrigger (F.held files.old) words.now (O.taken out.old) (O.taken out.new) }
+
+    // 8 comes where the runs cost too much.
+    ensures too_large { result ≡ 8 → RefusedCost (F.held files.old) words.now (O.taken out.old) (O.taken out.new) }
 
     // 2 comes where the words are no command, and always there, 4 apart.
     ensures two { result ≡ 2 → command_of words.now ≡ None }

@@ -1,13 +1,15 @@
 // The words of a command.
 ghost use Rattle.std.specs.Prelude.{◌≡◌};
-ghost use Rattle.wf_top.specs.Commands.{command_of};
+ghost use Rattle.wf_top.specs.Words.{command_of};
 
 use wf_val::Text;
 
 /// A command of the program.
 #[derive(Clone, Copy, Debug, PartialEq, Eq)]
 pub enum Command {
-    /// `run DEF INPUTS`: runs a definition and prints the run's record.
+    /// `check DEF`: says whether a definition is accepted.
+    Check,
+    /// `run DEF INPUTS`: runs a definition and prints the record of each run.
     Run,
 }
 
@@ -17,6 +19,7 @@ pub fn parse_words(words: &[Text]) -> Option<Command>
 {
     let (name, rest) = words.split_first()?;
     match (name.as_str(), rest.len()) {
+        ("check", 1) => Some(Command::Check),
         ("run", 2) => Some(Command::Run),
         _ => None,
     }

@@ -3,7 +3,7 @@ use Rattle.std.specs.Option.{option_map}
 use Rattle.wf_top.specs.Commands.{plan}
 use Rattle.wf_top.proofs.Asked.{failed_word}
 use Rattle.wf_top.proofs.Outcomes.{serves_le, serves_told, serves_two, serves_misused, serves_three, serves_unread, no_command}
-use Rattle.wf_top.proofs.RunOutcomes.{serves_definition, serves_inputs, serves_ran, serves_whole}
+use Rattle.wf_top.proofs.CommandOutcomes.{serves_accepted, serves_checked, serves_cost, serves_definition, serves_inputs, serves_ran, serves_whole}
 use Rattle.wf_top.proofs.serve.serve_words.Goals as goal
 
 pub returns-clause-status : goal.returns-clause-status
@@ -29,8 +29,15 @@ returns-clause-unread g c = serves_unread _ _ _ _ _ _ _ c.serve.ensures.outcome
 pub returns-clause-word : goal.returns-clause-word
 returns-clause-word g c = λ name failed. failed_word _ _ _ _ _ failed
 
+pub returns-clause-checked : goal.returns-clause-checked
+returns-clause-checked g c = serves_checked _ _ _ _ _ _ _ c.serve.ensures.outcome
+
 pub returns-clause-ran : goal.returns-clause-ran
 returns-clause-ran g c = serves_ran _ _ _ _ _ _ _ c.serve.ensures.outcome
+
+pub returns-clause-complete_check : goal.returns-clause-complete_check
+returns-clause-complete_check g c =
+    serves_accepted _ _ _ _ _ _ _ _ _ (serves_told _ _ _ _ _ _ _ _ _ c.serve.ensures.outcome c.serve.ensures.only)
 
 pub returns-clause-complete : goal.returns-clause-complete
 returns-clause-complete g c =
@@ -41,3 +48,6 @@ returns-clause-refused_definition g c = serves_definition _ _ _ _ _ _ _ c.serve.
 
 pub returns-clause-refused_inputs : goal.returns-clause-refused_inputs
 returns-clause-refused_inputs g c = serves_inputs _ _ _ _ _ _ _ c.serve.ensures.outcome
+
+pub returns-clause-too_large : goal.returns-clause-too_large
+returns-clause-too_large g c = serves_cost _ _ _ _ _ _ _ c.serve.ensures.outcome

@@ -1,0 +1,305 @@
+-- What the outcome of a command says of its files.
+use Rattle.std.proofs.Common.{◌≡◌, ◌⊎◌, ℕ, List, Option, None, Some, Result, Ok, Err, inl, inr, refl, ap, subst, sym, ◌∙◌, arith}
+use Rattle.std.specs.Prelude.{codes}
+use Rattle.std.specs.Option.{IfSome, option_map, option_and_then}
+use Rattle.std.specs.Io.KnownBytes.{Appends}
+use Rattle.wf_answers.specs.Inputs.{InputsTree}
+use Rattle.wf_def.specs.DefTree.{DefTree}
+use Rattle.wf_outside.specs.Outside.{Held, IsCalm}
+use Rattle.wf_top.specs.Commands.{accepted, accepted_line, judged_definition, judged_inputs, made_runs, plan, plan_of, text_of_runs, too_large}
+use Rattle.wf_top.specs.Fault.{fault_line}
+use Rattle.wf_top.specs.Form.{definition_of, form_of, inputs_of}
+use Rattle.wf_plain.specs.Plain.{plain_of}
+use Rattle.wf_runs.proofs.RunLemmas.{never_memory}
+use Rattle.wf_top.specs.Limits.{definition_bytes, inputs_bytes}
+use Rattle.wf_top.specs.Plan.{Plan, Reads, MaySay, MayGive, said_by, within}
+use Rattle.wf_top.specs.Ran.{Checked, GivesDefinition, GivesInputs, Holds, HoldsDefinition, IsWhole, PassesAll, Ran, RefusedCost, RefusedDefinition, RefusedInputs, RefusedTrigger}
+use Rattle.wf_top.proofs.Outcomes.{misused_at}
+use Rattle.wf_top.specs.Served.{Comes, Outcome, IsSaid, Misused, Serves, Speaks, Spent, Unread, Writes, number, said_of, say, status_of, text_of}
+use Rattle.wf_top.specs.Trigger.{trigger_line}
+use Rattle.wf_top.specs.Words.{command_of, word}
+use Rattle.wf_top.specs.declared.fault.FormFault.{FormFault}
+use Rattle.wf_runs.specs.declared.fault.RunsFault.{RunsFault}
+use Rattle.wf_top.specs.declared.said.Verdict.{Verdict}
+use Rattle.wf_top.specs.declared.said.Verdict.TheVariants.{Done}
+use Rattle.wf_top.specs.declared.words.Command.{Command}
+use Rattle.wf_top.specs.declared.words.Command.TheVariants.{Check, Run}
+use Rattle.wf_trigger.specs.declared.fault.TriggerFault.{TriggerFault}
+
+-- What a command may say: what was found in its files, the status and the text.
+data CommandOutcome (held : Held) (words : List (List ℕ)) (status : ℕ) (text : List ℕ) : Type 0 where
+  no_definition : (command : Command) (fault : FormFault) → GivesDefinition held words command (Err fault) → status ≡ 1 →
+      text ≡ fault_line (codes "definition ") fault → CommandOutcome held words status text
+  checks : (d : DefTree) → GivesDefinition held words Check (Ok d) → status ≡ 0 → text ≡ accepted_line d →
+      CommandOutcome held words status text
+  no_inputs : (d : DefTree) (fault : FormFault) → GivesDefinition held words Run (Ok d) → GivesInputs held words (Err fault) →
+      status ≡ 6 → text ≡ fault_line (codes "inputs ") fault → CommandOutcome held words status text
+  runs : (d : DefTree) (inputs : InputsTree) → GivesDefinition held words Run (Ok d) → GivesInputs held words (Ok inputs) →
+      status ≡ 0 → text_of_runs d inputs ≡ Ok text → CommandOutcome held words status text
+  no_run : (d : DefTree) (inputs : InputsTree) (fault : TriggerFault) → GivesDefinition held words Run (Ok d) →
+      GivesInputs held words (Ok inputs) → status ≡ 6 → text_of_runs d inputs ≡ Err (RunsFault.Trigger fault) →
+      text ≡ trigger_line fault → CommandOutcome held words status text
+  costs : (d : DefTree) (inputs : InputsTree) → GivesDefinition held words Run (Ok d) → GivesInputs held words (Ok inputs) →
+      status ≡ 8 → text_of_runs d inputs ≡ Err RunsFault.TooLarge → text ≡ too_large → CommandOutcome held words status text
+
+-- want of memory is no fault of runs
+no_memory : (d : DefTree) (inputs : InputsTree) → text_of_runs d inputs ≡ Err RunsFault.Memory → ⊥
+unfolding text_of_runs
+no_memory d inputs is = never_memory (plain_of d) inputs is
+
+module _ (held : Held) (words : List (List ℕ)) (verdict : Verdict) (text : List ℕ) where
+  abbrev Ends : Type 0
+  Ends = CommandOutcome held words (number verdict) text
+
+  after_runs : (d : DefTree) (inputs : InputsTree) → GivesDefinition held words Run (Ok d) → GivesInputs held words (Ok inputs) →
+      (made : Result (List ℕ) RunsFault) → text_of_runs d inputs ≡ made → MaySay held (made_runs made) verdict text → Ends
+  after_runs d inputs given handed (Ok t) is saying = runs d inputs given handed (ap number saying.0) (rw saying.1 is)
+  after_runs d inputs given handed (Err (RunsFault.Trigger fault)) is saying =
+      no_run d inputs fault given handed (ap number saying.0) is saying.1
+  after_runs d inputs given handed (Err RunsFault.TooLarge) is saying = costs d inputs given handed (ap number saying.0) is saying.1
+  after_runs d inputs given handed (Err RunsFault.Memory) is saying = absurd (no_memory d inputs is)
+
+  after_inputs : (d : DefTree) → GivesDefinition held words Run (Ok d) → (file : Option (List ℕ)) →
+      MayGive held (word words 2) inputs_bytes file → (form : Result InputsTree FormFault) → form_of inputs_of file ≡ form →
+      MaySay held (judged_inputs d form) verdict text → Ends
+  after_inputs d given file may (Ok inputs) is saying = after_runs d inputs given (file, may, is) (text_of_runs d inputs) refl saying
+  after_inputs d given file may (Err fault) is saying = no_inputs d fault given (file, may, is) (ap number saying.0) saying.1
+
+  after_accepted : (command : Command) (d : DefTree) → GivesDefinition held words command (Ok d) →
+      MaySay held (accepted command words d) verdict text → Ends
+  after_accepted Check d given saying = checks d given (ap number saying.0) saying.1
+  after_accepted Run d given saying = after_inputs d given saying.0 saying.1 (form_of inputs_of saying.0) refl saying.2
+
+  after_definition : (command : Command) → command_of words ≡ Some command → (file : Option (List ℕ)) →
+      MayGive held (word words 1) definition_bytes file → (form : Result DefTree FormFault) → form_of (definition_of command) file ≡ form →
+      MaySay held (judged_definition command words form) verdict text → Ends
+  after_definition command names file may (Ok d) is saying = after_accepted command d (names, (file, may, is)) saying
+  after_definition command names file may (Err fault) is saying =
+      no_definition command fault (names, (file, may, is)) (ap number saying.0) saying.1
+
+  command_comes : (command : Command) → command_of words ≡ Some command → MaySay held (plan command words) verdict text → Ends
+  unfolding plan
+  command_comes command names saying =
+      after_definition command names saying.0 saying.1 (form_of (definition_of command) saying.0) refl saying.2
+
+-- What was said, and what it says of the files: its status was answered, and its text taken.
+record Spoke (held : Held) (words : List (List ℕ)) (before after : Option (List ℕ)) (result : ℕ) : Type 0 where
+  text : List ℕ
+  says : CommandOutcome held words result text
+  written : Appends before after text
+
+-- no status of another outcome
+abbrev IsSpoken : ℕ → Type 0
+IsSpoken result = (result ≡ 2 → ⊥) × (result ≡ 3 → ⊥) × (result ≡ 4 → ⊥) × (result ≡ 5 → ⊥)
+
+module _ (held : Held) (words : List (List ℕ)) (old new : List (List ℕ)) (before after : Option (List ℕ)) (result : ℕ) where
+  spoke_at : (command : Option Command) → command_of words ≡ command → (outcome : Outcome) →
+      Comes held (option_map (λ c. plan c words) command) old new outcome →
+      Writes before after (status_of outcome) (text_of outcome) result → IsSpoken result → Spoke held words before after result
+  spoke_at None names outcome comes writes spoken =
+      let status = misused_at before after result outcome comes.0 writes in
+      absurd (elim status [ inl two ↦ spoken.0 two | inr four ↦ spoken.2 four ])
+  spoke_at (Some command) names Misused comes writes spoken = absurd comes
+  spoke_at (Some command) names (Speaks verdict text) comes writes spoken = elim writes [
+    | inl all ↦ record {
+      text = text;
+      says = subst (λ status. CommandOutcome held words status text) (sym all.0) (command_comes held words verdict text command names comes.1);
+      written = all.1;
+    }
+    | inr cut ↦ absurd (spoken.2 cut.0)
+  ]
+  spoke_at (Some command) names (Unread name) comes writes spoken =
+      absurd (elim writes [ inl all ↦ spoken.1 all.0 | inr cut ↦ spoken.2 cut.0 ])
+  spoke_at (Some command) names Spent comes writes spoken =
+      absurd (elim writes [ inl all ↦ spoken.3 all.0 | inr cut ↦ spoken.2 cut.0 ])
+
+  abbrev HasServed : Type 0
+  HasServed = Serves held (plan_of words) old new before after result
+
+  spoke : HasServed → IsSpoken result → Spoke held words before after result
+  spoke serves spoken = spoke_at (command_of words) refl serves.outcome serves.comes serves.writes spoken
+
+  zero_spoken : result ≡ 0 → IsSpoken result
+  zero_spoken is = (λ h. omega arith, λ h. omega arith, λ h. omega arith, λ h. omega arith)
+
+  one_spoken : result ≡ 1 → IsSpoken result
+  one_spoken is = (λ h. omega arith, λ h. omega arith, λ h. omega arith, λ h. omega arith)
+
+  six_spoken : result ≡ 6 → IsSpoken result
+  six_spoken is = (λ h. omega arith, λ h. omega arith, λ h. omega arith, λ h. omega arith)
+
+  eight_spoken : result ≡ 8 → IsSpoken result
+  eight_spoken is = (λ h. omega arith, λ h. omega arith, λ h. omega arith, λ h. omega arith)
+
+  -- the words are one command
+  one_command : (c d : Command) → command_of words ≡ Some c → command_of words ≡ Some d → c ≡ d
+  one_command c d first second = cc
+
+  checked_by : command_of words ≡ Some Check → result ≡ 0 → (text : List ℕ) → Appends before after text →
+      CommandOutcome held words result text → Checked held words before after
+  checked_by names zero text written (no_definition command fault given is said) = absurd (omega (arith, zero, is))
+  checked_by names zero text written (checks d given is said) =
+      record { definition = d; definition_given = given; written = rw said at written }
+  checked_by names zero text written (no_inputs d fault given handed is said) = absurd (omega (arith, zero, is))
+  checked_by names zero text written (runs d inputs given handed is made) = absurd (let e : Check ≡ Run = one_command _ _ names given.0 in cc)
+  checked_by names zero text written (no_run d inputs fault given handed is made said) = absurd (omega (arith, zero, is))
+  checked_by names zero text written (costs d inputs given handed is made said) = absurd (omega (arith, zero, is))
+
+  pub serves_checked : HasServed → command_of words ≡ Some Check → result ≡ 0 → Checked held words before after
+  serves_checked serves names zero =
+      let s = spoke serves (zero_spoken zero) in checked_by names zero s.text s.written s.says
+
+  ran_by : command_of words ≡ Some Run → result ≡ 0 → (text : List ℕ) → Appends before after text →
+      CommandOutcome held words result text → Ran held words before after
+  ran_by names zero text written (no_definition command fault given is said) = absurd (omega (arith, zero, is))
+  ran_by names zero text written (checks d given is said) = absurd (let e : Check ≡ Run = one_command _ _ given.0 names in cc)
+  ran_by names zero text written (no_inputs d fault given handed is said) = absurd (omega (arith, zero, is))
+  ran_by names zero text written (runs d inputs given handed is made) = record {
+    definition = d;
+    inputs = inputs;
+    text = text;
+    definition_given = given;
+    inputs_given = handed;
+    runs_made = made;
+    written = written;
+  }
+  ran_by names zero text written (no_run d inputs fault given handed is made said) = absurd (omega (arith, zero, is))
+  ran_by names zero text written (costs d inputs given handed is made said) = absurd (omega (arith, zero, is))
+
+  pub serves_ran : HasServed → command_of words ≡ Some Run → result ≡ 0 → Ran held words before after
+  serves_ran serves names zero = let s = spoke serves (zero_spoken zero) in ran_by names zero s.text s.written s.says
+
+  definition_by : result ≡ 1 → (text : List ℕ) → Appends before after text → CommandOutcome held words result text →
+      RefusedDefinition held words before after
+  definition_by one text written (no_definition command fault given is said) =
+      record { command = command; fault = fault; definition_given = given; written = rw said at written }
+  definition_by one text written (checks d given is said) = absurd (omega (arith, one, is))
+  definition_by one text written (no_inputs d fault given handed is said) = absurd (omega (arith, one, is))
+  definition_by one text written (runs d inputs given handed is made) = absurd (omega (arith, one, is))
+  definition_by one text written (no_run d inputs fault given handed is made said) = absurd (omega (arith, one, is))
+  definition_by one text written (costs d inputs given handed is made said) = absurd (omega (arith, one, is))
+
+  pub serves_definition : HasServed → result ≡ 1 → RefusedDefinition held words before after
+  serves_definition serves one = let s = spoke serves (one_spoken one) in definition_by one s.text s.written s.says
+
+  abbrev RefusedSix : Type 0
+  RefusedSix = RefusedInputs held words before after ⊎ RefusedTrigger held words before after
+
+  inputs_by : result ≡ 6 → (text : List ℕ) → Appends before after text → CommandOutcome held words result text → RefusedSix
+  inputs_by six text written (no_definition command fault given is said) = absurd (omega (arith, six, is))
+  inputs_by six text written (checks d given is said) = absurd (omega (arith, six, is))
+  inputs_by six text written (no_inputs d fault given handed is said) = inl (record {
+    definition = d;
+    fault = fault;
+    definition_given = given;
+    inputs_given = handed;
+    written = rw said at written;
+  })
+  inputs_by six text written (runs d inputs given handed is made) = absurd (omega (arith, six, is))
+  inputs_by six text written (no_run d inputs fault given handed is made said) = inr (
+    fault,
+    record {
+      definition = d;
+      inputs = inputs;
+      definition_given = given;
+      inputs_given = handed;
+      runs_refused = made;
+      written = rw said at written;
+    },
+  )
+  inputs_by six text written (costs d inputs given handed is made said) = absurd (omega (arith, six, is))
+
+  pub serves_inputs : HasServed → result ≡ 6 → RefusedSix
+  serves_inputs serves six = let s = spoke serves (six_spoken six) in inputs_by six s.text s.written s.says
+
+  cost_by : result ≡ 8 → (text : List ℕ) → Appends before after text → CommandOutcome held words result text →
+      RefusedCost held words before after
+  cost_by eight text written (no_definition command fault given is said) = absurd (omega (arith, eight, is))
+  cost_by eight text written (checks d given is said) = absurd (omega (arith, eight, is))
+  cost_by eight text written (no_inputs d fault given handed is said) = absurd (omega (arith, eight, is))
+  cost_by eight text written (runs d inputs given handed is made) = absurd (omega (arith, eight, is))
+  cost_by eight text written (no_run d inputs fault given handed is made said) = absurd (omega (arith, eight, is))
+  cost_by eight text written (costs d inputs given handed is made said) = record {
+    definition = d;
+    inputs = inputs;
+    definition_given = given;
+    inputs_given = handed;
+    runs_refused = made;
+    written = rw said at written;
+  }
+
+  pub serves_cost : HasServed → result ≡ 8 → RefusedCost held words before after
+  serves_cost serves eight = let s = spoke serves (eight_spoken eight) in cost_by eight s.text s.written s.says
+
+-- ---- completeness
+
+-- a read of a file that is there
+read_on : (bytes_of : List ℕ → Option (List ℕ)) (name : List ℕ) (limit : ℕ) (next : Option (List ℕ) → Plan) (bytes : List ℕ) →
+    bytes_of name ≡ Some bytes →
+    said_by bytes_of (Reads name limit next) ≡ said_by bytes_of (next (within limit bytes))
+read_on bytes_of name limit next bytes is = ap (λ file. option_and_then (λ bs. said_by bytes_of (next (within limit bs))) file) is
+
+module _ (bytes_of : List ℕ → Option (List ℕ)) (words : List (List ℕ)) where
+  -- a command goes on with the definition that DEF holds
+  plan_said : (command : Command) (d : DefTree) → HoldsDefinition bytes_of words command d →
+      said_by bytes_of (plan command words) ≡ said_by bytes_of (accepted command words d)
+  unfolding plan
+  plan_said command d holds =
+      let file = holds.held in
+      read_on bytes_of (word words 1) definition_bytes (λ file. judged_definition command words (form_of (definition_of command) file))
+      file.0 file.1
+      ∙ ap (λ found. said_by bytes_of (judged_definition command words found)) file.2
+
+  -- `run` makes its runs with the inputs that INPUTS holds
+  run_said : (d : DefTree) (inputs : InputsTree) → Holds bytes_of (word words 2) inputs_bytes inputs_of inputs →
+      said_by bytes_of (accepted Run words d) ≡ said_by bytes_of (made_runs (text_of_runs d inputs))
+  run_said d inputs (bytes, there, form) =
+      read_on bytes_of (word words 2) inputs_bytes (λ file. judged_inputs d (form_of inputs_of file)) bytes there
+      ∙ ap (λ found. said_by bytes_of (judged_inputs d found)) form
+
+  -- what the words say, by the plan of their command
+  say_by : (command : Command) (text : List ℕ) → command_of words ≡ Some command →
+      said_by bytes_of (plan command words) ≡ Some (Done, text) → say bytes_of words ≡ Some (0, text)
+  say_by command text names said =
+      ap (λ found. said_of bytes_of (option_map (λ c. plan c words) found)) names
+      ∙ ap (λ (outcome : Option (Verdict × List ℕ)). option_map (λ s. (number s.0, s.1)) outcome) said
+
+  says_accepted : (d : DefTree) → HoldsDefinition bytes_of words Check d → say bytes_of words ≡ Some (0, accepted_line d)
+  says_accepted d holds = say_by Check (accepted_line d) holds.names (plan_said Check d holds)
+
+  says_runs : (text : List ℕ) → PassesAll bytes_of words text → say bytes_of words ≡ Some (0, text)
+  says_runs text passes =
+      say_by Run text passes.definition_held.names
+      (plan_said Run passes.definition passes.definition_held
+      ∙ run_said passes.definition passes.inputs passes.inputs_held
+      ∙ ap (λ made. said_by bytes_of (made_runs made)) passes.runs_made)
+
+whole_from : (said : Option (ℕ × List ℕ)) (before after : Option (List ℕ)) (text : List ℕ) (result : ℕ) → said ≡ Some (0, text) →
+    IsSaid said before after result → IsWhole before after text result
+whole_from None before after text result is saying = absurd (cc)
+whole_from (Some s) before after text result is saying =
+    let status : s.0 ≡ 0 = cc in
+    let same : s.1 ≡ text = cc in
+    elim saying [ inl all ↦ inl (all.0 ∙ status, rw same at all.1) | inr spent ↦ inr spent ]
+
+module _ (held : Held) (words : List (List ℕ)) (old new : List (List ℕ)) (before after : Option (List ℕ)) (count later result : ℕ) where
+  -- what is said where no count rose
+  abbrev IsTold : Type 0
+  IsTold = IfSome held (λ bytes_of. new ≡ old → IsCalm count later → IsSaid (say bytes_of words) before after result)
+
+-- where all tests pass and no count rose, the whole text was taken, or memory ran out
+pub serves_accepted : (held : Held) (words : List (List ℕ)) (old new : List (List ℕ)) (before after : Option (List ℕ))
+    (count later result : ℕ) → IsTold held words old new before after count later result →
+    IfSome held (λ bytes_of. (d : DefTree) → HoldsDefinition bytes_of words Check d → new ≡ old → IsCalm count later →
+    IsWhole before after (accepted_line d) result)
+serves_accepted None words old new before after count later result said = tt
+serves_accepted (Some bytes_of) words old new before after count later result said = λ d held same calm.
+    whole_from (say bytes_of words) before after (accepted_line d) result (says_accepted bytes_of words d held) (said same calm)
+
+pub serves_whole : (held : Held) (words : List (List ℕ)) (old new : List (List ℕ)) (before after : Option (List ℕ))
+    (count later result : ℕ) → IsTold held words old new before after count later result →
+    IfSome held (λ bytes_of. (text : List ℕ) → PassesAll bytes_of words text → new ≡ old → IsCalm count later →
+    IsWhole before after text result)
+serves_whole None words old new before after count later result said = tt
+serves_whole (Some bytes_of) words old new before after count later result said = λ text passes same calm.
+    whole_from (say bytes_of words) before after text result (says_runs bytes_of words text passes) (said same calm)
