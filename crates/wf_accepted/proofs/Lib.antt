@@ -1,0 +1,3 @@
+mod ActionLemmas
+mod SeenLemmas
+mod RoundLemmas

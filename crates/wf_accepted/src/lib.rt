@@ -1,0 +1,44 @@
+//! What is known of a definition that breaks none of the rules on names.
+//!
+//! The rules of `wf_rules` are tests on tables. Here stands what they are for, in the words of the order of actions (`wf_order`): in a
+//! definition that was read and breaks none of them, each action that an expression names is there, and is before the action of the
+//! expression, or inside the Until whose expression names it. So a run has its row as the expression is evaluated.
+//!
+//! It has no code. Each public function has an empty body but for the laws that it calls, and its contract is a law.
+#![tactic(auto)]
+
+ghost use Rattle.std.specs.Prelude.{◌≡◌, None, map};
+ghost use Rattle.std.specs.List.{AllByRecursion};
+ghost use Rattle.wf_accepted.specs.Seen.{AreSeen};
+ghost use Rattle.wf_def.specs.ActionTree.{ActionTrees, action_number};
+ghost use Rattle.wf_def.specs.DefTree.{DefTree};
+ghost use Rattle.wf_def.specs.Layered.{layered};
+ghost use Rattle.wf_layers.specs.Seen.{Once};
+ghost use Rattle.wf_order.specs.Order.{around};
+ghost use Rattle.wf_reading.specs.Read.{IsRead};
+ghost use Rattle.wf_refs.specs.Actions.{all_actions};
+ghost use Rattle.wf_rules.specs.Broken.{broken_of};
+ghost use Rattle.wf_rules.specs.Standing.{number_at, standings_of};
+
+/// The rules look at all actions of a graph, at any depth, and at no others.
+pub fn standings_are_the_actions()
+    ensures { (graph : ActionTrees) → map (λ s. s.action) (standings_of graph) ≡ all_actions graph }
+{}
+
+/// The containers that they have round an action, by their numbers, are those of the order of actions, outermost first, where each number
+/// stands once.
+pub fn containers_are_those_of_the_order()
+    ensures { (graph : ActionTrees) → Once (layered graph)
+        → AllByRecursion (λ s. map action_number s.round ≡ around (layered graph) (number_at s)) (standings_of graph) }
+{}
+
+/// Each action that an expression of an action names is before that action, or stands inside the Until whose expression names it.
+pub fn references_are_seen()
+    ensures { (d : DefTree) → IsRead d → broken_of d ≡ None → AreSeen d }
+{
+    wf_rules::the_first_broken_rule();
+    wf_order::order_is_exact();
+    wf_known::numbers_are_had();
+    wf_known::numbers_are_below();
+    wf_known::entries_stay_in_their_graph();
+}
