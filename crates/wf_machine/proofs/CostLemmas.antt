@@ -1,19 +1,19 @@
 -- What a state costs: at least 32 for each event so far, and at most what the rows cost that the definition means.
-use Rattle.std.proofs.Common.{◌≡◌, ℕ, zero, suc, ◌+◌, ◌*◌, ◌<◌, ◌≤◌, List, [], ◌∷◌, length, map, set, Option, Some, None, Ok, Err, slice_get, sum_by, refl, sym, ap, ◌∙◌, subst, arith}
+use Rattle.std.proofs.Common.{◌≡◌, ℕ, zero, suc, ◌+◌, ◌*◌, ◌<◌, ◌≤◌, List, [], ◌∷◌, length, map, set, Option, Some, None, Ok, Err}
+use Rattle.std.proofs.Common.{slice_get, sum_by, refl, sym, ap, arith}
 use Rattle.std.proofs.lemmas.List.Sums.{sum_by-cons}
 use Rattle.std.proofs.lemmas.Option.{none-some}
 use Rattle.wf_val.specs.Arguments.{Answer, seen}
 use Rattle.wf_val.specs.ValueTree.{weight}
 use Rattle.wf_layers.specs.Address.{Table, address}
-use Rattle.wf_record.specs.Cost.{iterations, row_cost}
+use Rattle.wf_record.specs.Cost.{row_cost}
 use Rattle.wf_record.specs.Record as record_of
 use Rattle.wf_record.specs.Record.{RowTree}
 use Rattle.wf_record.specs.Seen.{row_tree}
 use Rattle.wf_record.specs.declared.row.Row.{Row}
 use Rattle.wf_meaning.specs.Definition.{ActionTree}
-use Rattle.wf_meaning.specs.Environment.{Environment}
-use Rattle.wf_meaning.specs.Flat.{composed, ended, faulted}
-use Rattle.wf_meaning.specs.Meaning.{instance, rows_from, rows_of, row_then, table_of}
+use Rattle.wf_meaning.specs.Flat.{ended}
+use Rattle.wf_meaning.specs.Meaning.{instance, rows_from, row_then}
 use Rattle.wf_walk.specs.Seen.{row_at, row_content, rows_there}
 use Rattle.wf_walk.specs.Walked.{AreNamed}
 use Rattle.wf_machine.specs.Cost.{kept_inputs, leaf_cost}
@@ -41,7 +41,8 @@ leaves_more k (None ∷ leaves) (suc n) l lt none = leaves_more (suc k) leaves n
 leaves_more k (Some q ∷ leaves) (suc n) l lt none = ap (λ m. suc m) (leaves_more (suc k) leaves n l (omega (arith, lt)) none)
 
 -- one at most runs no more
-pub leaves_less : (k : ℕ) (leaves : List (Option Leaf)) (n : ℕ) → length (leaves_from k leaves) ≤ suc (length (leaves_from k (set leaves n None)))
+pub leaves_less : (k : ℕ) (leaves : List (Option Leaf)) (n : ℕ)
+    → length (leaves_from k leaves) ≤ suc (length (leaves_from k (set leaves n None)))
 leaves_less k [] n = omega arith
 leaves_less k (None ∷ leaves) zero = omega arith
 leaves_less k (Some q ∷ leaves) zero = omega arith
@@ -73,7 +74,8 @@ leaves_cost_much (l ∷ ls) =
 -- ---- and at most
 
 -- a running action costs no more than its row will
-ended_costs : (a : ActionTree) (n : ℕ) (l : Leaf) → leaf_cost (leaf_at n l) ≤ row_cost (record { address = instance a; row = ended (seen l.begun) })
+ended_costs : (a : ActionTree) (n : ℕ) (l : Leaf)
+    → leaf_cost (leaf_at n l) ≤ row_cost (record { address = instance a; row = ended (seen l.begun) })
 ended_costs a n l = by (seen l.begun)
   where
     by : (b : Answer) → 64 * (1 + 0) + weight (kept_inputs b) ≤ row_cost (record { address = instance a; row = ended b })
@@ -84,10 +86,12 @@ module _ (t : Table record_of.Row) where
   one_more : (n : ℕ) (a : ActionTree) (more : List ActionTree) (found : Option record_of.Row)
       → sum_by row_cost (rows_from t (suc n) more) ≤ sum_by row_cost (row_then (instance a) found (rows_from t (suc n) more))
   one_more n a more None = omega arith
-  one_more n a more (Some r) = let all = sum_by-cons row_cost (record { address = instance a; row = r }) (rows_from t (suc n) more) in omega (arith, all)
+  one_more n a more (Some r) = let all = sum_by-cons row_cost (record { address = instance a; row = r })
+      (rows_from t (suc n) more) in omega (arith, all)
 
   row_more : (n : ℕ) (a : ActionTree) (more : List ActionTree) (r : record_of.Row) → t (address n []) ≡ Some r
-      → sum_by row_cost (rows_from t n (a ∷ more)) ≡ row_cost (record { address = instance a; row = r }) + sum_by row_cost (rows_from t (suc n) more)
+      → sum_by row_cost (rows_from t n (a ∷ more)) ≡ row_cost (record { address = instance a; row = r }) + sum_by row_cost
+      (rows_from t (suc n) more)
   row_more n a more r is = rw is (sum_by-cons row_cost (record { address = instance a; row = r }) (rows_from t (suc n) more))
 
   -- rows and running actions of actions numbered from n on
@@ -121,4 +125,5 @@ module _ (t : Table record_of.Row) where
       let step = row_more n a more (row_content q) (placed n 0 (row_content q) (omega arith) refl) in
       let all = sum_by-cons row_cost (row_tree q) (rows_there rows) in
       omega (arith, rest, step, all)
-  covered n (a ∷ more) (Some q ∷ rows) (Some l ∷ leaves) same size named placed begun apart = absurd (none-some (row_content q) (sym (apart 0 l refl)))
+  covered n (a ∷ more) (Some q ∷ rows) (Some l ∷ leaves) same size named placed begun apart = absurd
+      (none-some (row_content q) (sym (apart 0 l refl)))

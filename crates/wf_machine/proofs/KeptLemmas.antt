@@ -1,12 +1,13 @@
 -- The state of a flat graph as it is kept, by numbers, and as contracts see it, by lists; and what an edit makes of it.
-use Rattle.std.proofs.Common.{◌≡◌, ℕ, zero, suc, ◌+◌, ◌<◌, Bool, true, false, ◌&&◌, cond, List, [], ◌∷◌, length, map, set, replicate, Option, Some, None, option_map, is_some, slice_get, slice_index_or, sum_by, Less, Greater, is_eq, nat_eq, eqb-true, true≢false, ⊎_elim, inl, inr, ◌⊎◌, refl, sym, ap, ◌∙◌, subst, arith}
+use Rattle.std.proofs.Common.{◌≡◌, ℕ, zero, suc, ◌+◌, ◌<◌, Bool, true, false, ◌&&◌, cond, List, [], ◌∷◌, length, map, set, replicate}
+use Rattle.std.proofs.Common.{Option, Some, None, option_map, slice_get, sum_by, Less, is_eq, nat_eq}
+use Rattle.std.proofs.Common.{⊎_elim, inl, inr, ◌⊎◌, refl, sym, ap, ◌∙◌, subst, arith}
 use Rattle.std.proofs.lemmas.Bool.{ne_eqb}
-use Rattle.std.proofs.lemmas.Cmp.{tied_itself, nat_cmp_total, nat_list_cmp_total}
+use Rattle.std.proofs.lemmas.Cmp.{tied_itself, nat_list_cmp_total}
 use Rattle.std.proofs.lemmas.List.Sums.{sum_by-cons}
 use Rattle.std.proofs.lemmas.Option.{none-some}
-use Rattle.std.specs.Cmp.Lexicographic.{slice_cmp}
 use Rattle.std.specs.List.{AllByRecursion}
-use Rattle.std.specs.Ordering.{nat_cmp, ordering_reverse}
+use Rattle.std.specs.Ordering.{ordering_reverse}
 use Rattle.wf_lists.specs.KeyOrder.{find_key}
 use Rattle.wf_val.specs.Cut.{cut_u64}
 use Rattle.wf_val.specs.Address.{address_cmp}
@@ -16,7 +17,6 @@ use Rattle.wf_layers.specs.Address.{Address, address, Table, is_own, same_at}
 use Rattle.wf_layers.specs.Machine as machine
 use Rattle.wf_layers.specs.Machine.{place, one, without, or_else, Running}
 use Rattle.wf_layers.specs.Meaning.{only}
-use Rattle.wf_layers.proofs.Basics.{two}
 use Rattle.wf_layers.proofs.Tables.{own_is}
 use Rattle.wf_record.specs.Cost.{row_cost}
 use Rattle.wf_record.specs.Record as record_of
@@ -30,10 +30,10 @@ use Rattle.wf_walk.specs.Seen.{known_at, known_of, known_row, row_at, row_conten
 use Rattle.wf_walk.specs.Walked.{AreNamed}
 use Rattle.wf_machine.specs.Cost.{leaf_cost}
 use Rattle.wf_machine.specs.Held.{LeafAt, leaf_key, row_named, rows_in, running_in, running_tree, state_of}
-use Rattle.wf_machine.specs.Kept.{ArePriced, kept_state, leaf_at, leaves_from, phase_of, phases_of, rows_present, running_at, running_of, running_tree_of}
-use Rattle.wf_machine.specs.Machine.{State, instance_cmp}
+use Rattle.wf_machine.specs.Kept.{ArePriced, kept_state, leaf_at, leaves_from, phase_of, phases_of, rows_present, running_at, running_of}
+use Rattle.wf_machine.specs.Kept.{running_tree_of}
+use Rattle.wf_machine.specs.Machine.{instance_cmp}
 use Rattle.wf_machine.specs.declared.leaf.Leaf.{Leaf}
-use Rattle.wf_machine.specs.declared.phase.Phase.{Phase}
 use Rattle.wf_machine.specs.declared.phase.Phase.TheVariants.{Idle, Running as Runs, Ended}
 use Rattle.wf_machine.proofs.Keys.{key_less, key_more, key_outside}
 
@@ -52,8 +52,10 @@ content found = option_map (λ (r : RowTree). r.row) found
 
 -- the first row, by its name and numbers
 first_found : (k i : List ℕ) (b : ActionTree) (r : Row) (rows : List RowTree) → r.address ≡ instance b
-    → find_row (at_rounds k i) (row_tree r ∷ rows) ≡ cond (is_eq (address_cmp (at_rounds k i) (instance b))) (Some (row_tree r)) (find_row (at_rounds k i) rows)
-first_found k i b r rows named = ap (λ a. cond (is_eq (address_cmp (at_rounds k i) a)) (Some (row_tree r)) (find_row (at_rounds k i) rows)) named
+    → find_row (at_rounds k i) (row_tree r ∷ rows) ≡ cond (is_eq (address_cmp (at_rounds k i) (instance b))) (Some (row_tree r))
+    (find_row (at_rounds k i) rows)
+first_found k i b r rows named = ap (λ a. cond (is_eq (address_cmp (at_rounds k i) a)) (Some (row_tree r))
+    (find_row (at_rounds k i) rows)) named
 
 none_after : (k i : List ℕ) (actions : List ActionTree) (rows : List (Option Row)) → length rows ≡ length actions → AreNamed actions rows
     → AllByRecursion (λ b. bytes_cmp k (action_name b) ≡ Less) actions → find_row (at_rounds k i) (rows_there rows) ≡ None
@@ -72,17 +74,20 @@ known_later x rows n (j ∷ i) = refl
 
 -- the row of the first action
 own_row : (b : ActionTree) (x : Option Row) (rows : List (Option Row)) (i : List ℕ) → ((r : Row) → x ≡ Some r → r.address ≡ instance b)
-    → find_row (at_rounds b.name i) (rows_there rows) ≡ None → content (find_row (at_rounds b.name i) (rows_there (x ∷ rows))) ≡ known_at (x ∷ rows) 0 i
+    → find_row (at_rounds b.name i) (rows_there rows) ≡ None
+    → content (find_row (at_rounds b.name i) (rows_there (x ∷ rows))) ≡ known_at (x ∷ rows) 0 i
 own_row b None rows [] named none = ap content none
 own_row b None rows (j ∷ i) named none = ap content none
 own_row b (Some r) rows [] named none =
     ap content (first_found b.name [] b r (rows_there rows) (named r refl)) ∙ rw (tied_itself nat_list_cmp_total b.name) refl
 own_row b (Some r) rows (j ∷ i) named none =
-    ap content (first_found b.name (j ∷ i) b r (rows_there rows) (named r refl)) ∙ rw (tied_itself nat_list_cmp_total b.name) (ap content none)
+    ap content (first_found b.name (j ∷ i) b r (rows_there rows) (named r refl))
+    ∙ rw (tied_itself nat_list_cmp_total b.name) (ap content none)
 
 -- and of a later one
 later_row : (b a : ActionTree) (x : Option Row) (rows : List (Option Row)) (i : List ℕ) → ((r : Row) → x ≡ Some r → r.address ≡ instance b)
-    → bytes_cmp b.name a.name ≡ Less → find_row (at_rounds a.name i) (rows_there (x ∷ rows)) ≡ find_row (at_rounds a.name i) (rows_there rows)
+    → bytes_cmp b.name a.name ≡ Less
+    → find_row (at_rounds a.name i) (rows_there (x ∷ rows)) ≡ find_row (at_rounds a.name i) (rows_there rows)
 later_row b a None rows i named less = refl
 later_row b a (Some r) rows i named less =
     first_found a.name i b r (rows_there rows) (named r refl)
@@ -104,7 +109,8 @@ found_named (b ∷ more) (x ∷ rows) same order named zero a i is =
     (own_row b x rows i (λ r there. named 0 b r refl (ap (λ y. Some y) there))
     (none_after b.name i more rows (omega (arith, same)) (λ m c q at found. named (suc m) c q at found) order.0))
 found_named (b ∷ more) (x ∷ rows) same order named (suc n) a i is =
-    ap content (later_row b a x rows i (λ r there. named 0 b r refl (ap (λ y. Some y) there)) (all_at (λ c. bytes_cmp b.name (action_name c) ≡ Less) more order.0 n a is))
+    ap content (later_row b a x rows i (λ r there. named 0 b r refl (ap (λ y. Some y) there))
+    (all_at (λ c. bytes_cmp b.name (action_name c) ≡ Less) more order.0 n a is))
     ∙ (found_named more rows (omega (arith, same)) order.1 (λ m c q at found. named (suc m) c q at found) n a i is ∙ known_later x rows n i)
 
 none_beyond : {X Y : Type 0} (xs : List X) (ys : List Y) (n : ℕ) → length ys ≡ length xs → slice_get xs n ≡ None → slice_get ys n ≡ None
@@ -114,7 +120,8 @@ none_beyond (x ∷ xs) [] n same none = refl
 none_beyond (x ∷ xs) (y ∷ ys) zero same none = absurd (none-some x (sym none))
 none_beyond (x ∷ xs) (y ∷ ys) (suc n) same none = none_beyond xs ys n (omega (arith, same)) none
 
-pub rows_are_known : (actions : List ActionTree) (rows : List (Option Row)) → length rows ≡ length actions → IsInNameOrder action_name actions
+pub rows_are_known : (actions : List ActionTree) (rows : List (Option Row)) → length rows ≡ length actions
+    → IsInNameOrder action_name actions
     → AreNamed actions rows → rows_in actions (rows_there rows) ≡ known_of rows
 rows_are_known actions rows same order named = λ k x. go x.name x.at (slice_get actions x.name) refl k
   where
@@ -122,7 +129,8 @@ rows_are_known actions rows same order named = λ k x. go x.name x.at (slice_get
     none n [] is = ap known_row (sym (none_beyond actions rows n same is))
     none n (j ∷ i) is = refl
 
-    go : (n : ℕ) (i : List ℕ) (found : Option ActionTree) → slice_get actions n ≡ found → row_named (rows_there rows) i found ≡ known_at rows n i
+    go : (n : ℕ) (i : List ℕ) (found : Option ActionTree) → slice_get actions n ≡ found
+        → row_named (rows_there rows) i found ≡ known_at rows n i
     go n i None is = none n i is
     go n i (Some a) is = found_named actions rows same order named n a i is
 
@@ -131,16 +139,19 @@ rows_are_known actions rows same order named = λ k x. go x.name x.at (slice_get
 abbrev seen_running : Option LeafAt → Option (Running Answer)
 seen_running found = option_map running_tree found
 
-none_running : (n m : ℕ) (i : List ℕ) (leaves : List (Option Leaf)) → m < n → find_key instance_cmp leaf_key (m ∷ i) (leaves_from n leaves) ≡ None
+none_running : (n m : ℕ) (i : List ℕ) (leaves : List (Option Leaf)) → m < n
+    → find_key instance_cmp leaf_key (m ∷ i) (leaves_from n leaves) ≡ None
 none_running n m i [] lt = refl
 none_running n m i (None ∷ leaves) lt = none_running (suc n) m i leaves (omega (arith, lt))
 none_running n m i (Some l ∷ leaves) lt = rw (key_less m n i [] lt) (none_running (suc n) m i leaves (omega (arith, lt)))
 
-running_later : (x : Option Leaf) (leaves : List (Option Leaf)) (n : ℕ) (i : List ℕ) → running_at leaves n i ≡ running_at (x ∷ leaves) (suc n) i
+running_later : (x : Option Leaf) (leaves : List (Option Leaf)) (n : ℕ) (i : List ℕ)
+    → running_at leaves n i ≡ running_at (x ∷ leaves) (suc n) i
 running_later x leaves n [] = refl
 running_later x leaves n (j ∷ i) = refl
 
-own_leaf : (n : ℕ) (x : Option Leaf) (leaves : List (Option Leaf)) (i : List ℕ) → find_key instance_cmp leaf_key (n ∷ i) (leaves_from (suc n) leaves) ≡ None
+own_leaf : (n : ℕ) (x : Option Leaf) (leaves : List (Option Leaf)) (i : List ℕ)
+    → find_key instance_cmp leaf_key (n ∷ i) (leaves_from (suc n) leaves) ≡ None
     → seen_running (find_key instance_cmp leaf_key (n ∷ i) (leaves_from n (x ∷ leaves))) ≡ running_at (x ∷ leaves) 0 i
 own_leaf n None leaves [] none = ap seen_running none
 own_leaf n None leaves (j ∷ i) none = ap seen_running none
@@ -148,7 +159,8 @@ own_leaf n (Some l) leaves [] none = rw (key_outside n []) refl
 own_leaf n (Some l) leaves (j ∷ i) none = rw (key_outside n (j ∷ i)) (ap seen_running none)
 
 later_leaf : (n m : ℕ) (x : Option Leaf) (leaves : List (Option Leaf)) (i : List ℕ) → n < m
-    → find_key instance_cmp leaf_key (m ∷ i) (leaves_from n (x ∷ leaves)) ≡ find_key instance_cmp leaf_key (m ∷ i) (leaves_from (suc n) leaves)
+    → find_key instance_cmp leaf_key (m ∷ i) (leaves_from n (x ∷ leaves))
+    ≡ find_key instance_cmp leaf_key (m ∷ i) (leaves_from (suc n) leaves)
 later_leaf n m None leaves i lt = refl
 later_leaf n m (Some l) leaves i lt = rw (key_more n m i [] lt) refl
 
@@ -182,7 +194,8 @@ state_is actions rows leaves same order named =
 same_suc : (n m : ℕ) → nat_eq n m ≡ nat_eq (suc n) (suc m)
 same_suc n m = grind (arith)
 
-get_set : {X : Type 0} (xs : List X) (n m : ℕ) (y : X) → n < length xs → slice_get (set xs n y) m ≡ cond (nat_eq n m) (Some y) (slice_get xs m)
+get_set : {X : Type 0} (xs : List X) (n m : ℕ) (y : X) → n < length xs
+    → slice_get (set xs n y) m ≡ cond (nat_eq n m) (Some y) (slice_get xs m)
 get_set [] n m y lt = absurd (omega (arith, lt))
 get_set (x ∷ xs) zero zero y lt = refl
 get_set (x ∷ xs) zero (suc m) y lt = ap (λ b. cond b (Some y) (slice_get xs m)) (sym (ne_eqb 0 (suc m) (omega arith)))
@@ -193,14 +206,18 @@ not_inside : (b : Bool) → (b && false) ≡ false
 not_inside true = refl
 not_inside false = refl
 
-pub row_placed : (rows : List (Option Row)) (n : ℕ) (r : Row) → n < length rows → known_of (set rows n (Some r)) ≡ place (one n [] (row_content r)) (known_of rows)
+pub row_placed : (rows : List (Option Row)) (n : ℕ) (r : Row) → n < length rows
+    → known_of (set rows n (Some r)) ≡ place (one n [] (row_content r)) (known_of rows)
 row_placed rows n r lt = λ k x. at x.name x.at k
   where
-    by : (b : Bool) (m : ℕ) → known_row (cond b (Some (Some r)) (slice_get rows m)) ≡ or_else (only (b && true) (Some (row_content r))) (known_row (slice_get rows m))
+    by : (b : Bool) (m : ℕ)
+        → known_row (cond b (Some (Some r)) (slice_get rows m))
+        ≡ or_else (only (b && true) (Some (row_content r))) (known_row (slice_get rows m))
     by true m = refl
     by false m = refl
 
-    at : (m : ℕ) (i : List ℕ) → known_at (set rows n (Some r)) m i ≡ or_else (only (nat_eq n m && same_at [] i) (Some (row_content r))) (known_at rows m i)
+    at : (m : ℕ) (i : List ℕ)
+        → known_at (set rows n (Some r)) m i ≡ or_else (only (nat_eq n m && same_at [] i) (Some (row_content r))) (known_at rows m i)
     at m [] = ap known_row (get_set rows n m (Some r) lt) ∙ by (nat_eq n m) m
     at m (j ∷ i) = ap (λ b. or_else (only b (Some (row_content r))) None) (sym (not_inside (nat_eq n m)))
 
@@ -211,18 +228,23 @@ pub leaf_placed : (leaves : List (Option Leaf)) (n : ℕ) (l : Leaf) → n < len
     → running_of (set leaves n (Some l)) ≡ place (one n [] (record { begun = seen l.begun; tries = 0 })) (running_of leaves)
 leaf_placed leaves n l lt = λ k x. at x.name x.at k
   where
-    by : (b : Bool) (m : ℕ) → running_tree_of (cond b (Some (Some l)) (slice_get leaves m)) ≡ or_else (only (b && true) (Some (as_running l))) (running_tree_of (slice_get leaves m))
+    by : (b : Bool) (m : ℕ)
+        → running_tree_of (cond b (Some (Some l)) (slice_get leaves m))
+        ≡ or_else (only (b && true) (Some (as_running l))) (running_tree_of (slice_get leaves m))
     by true m = refl
     by false m = refl
 
-    at : (m : ℕ) (i : List ℕ) → running_at (set leaves n (Some l)) m i ≡ or_else (only (nat_eq n m && same_at [] i) (Some (as_running l))) (running_at leaves m i)
+    at : (m : ℕ) (i : List ℕ)
+        → running_at (set leaves n (Some l)) m i ≡ or_else (only (nat_eq n m && same_at [] i) (Some (as_running l))) (running_at leaves m i)
     at m [] = ap running_tree_of (get_set leaves n m (Some l) lt) ∙ by (nat_eq n m) m
     at m (j ∷ i) = ap (λ b. or_else (only b (Some (as_running l))) None) (sym (not_inside (nat_eq n m)))
 
-pub leaf_gone : (leaves : List (Option Leaf)) (n : ℕ) → n < length leaves → running_of (set leaves n None) ≡ without n [] (running_of leaves)
+pub leaf_gone : (leaves : List (Option Leaf)) (n : ℕ) → n < length leaves
+    → running_of (set leaves n None) ≡ without n [] (running_of leaves)
 leaf_gone leaves n lt = λ k x. at x.name x.at k
   where
-    by : (b : Bool) (m : ℕ) → running_tree_of (cond b (Some None) (slice_get leaves m)) ≡ cond (b && true) None (running_tree_of (slice_get leaves m))
+    by : (b : Bool) (m : ℕ)
+        → running_tree_of (cond b (Some None) (slice_get leaves m)) ≡ cond (b && true) None (running_tree_of (slice_get leaves m))
     by true m = refl
     by false m = refl
 
@@ -270,7 +292,8 @@ cost_placed (Some q ∷ rows) (suc n) r lt none =
     let old = sum_by-cons row_cost (row_tree q) (rows_there rows) in
     omega (arith, rest, new, old)
 
-pub priced_started : (leaves : List (Option Leaf)) (n : ℕ) (l : Leaf) → ArePriced leaves → l.cost ≡ cut_u64 (leaf_cost (leaf_at 0 l)) → ArePriced (set leaves n (Some l))
+pub priced_started : (leaves : List (Option Leaf)) (n : ℕ) (l : Leaf) → ArePriced leaves → l.cost ≡ cut_u64 (leaf_cost (leaf_at 0 l))
+    → ArePriced (set leaves n (Some l))
 priced_started [] n l priced is = tt
 priced_started (None ∷ leaves) zero l priced is = (is, priced)
 priced_started (Some x ∷ leaves) zero l priced is = (is, priced.1)
@@ -286,7 +309,8 @@ priced_ended (Some x ∷ leaves) (suc n) priced = (priced.0, priced_ended leaves
 
 -- ---- a run that begins
 
-none_at : {X : Type 0} (size n : ℕ) → slice_get (replicate {A = Option X} size None) n ≡ None ⊎ (slice_get (replicate {A = Option X} size None) n ≡ Some None)
+none_at : {X : Type 0} (size n : ℕ)
+    → slice_get (replicate {A = Option X} size None) n ≡ None ⊎ (slice_get (replicate {A = Option X} size None) n ≡ Some None)
 none_at zero n = inl refl
 none_at (suc size) zero = inr refl
 none_at (suc size) (suc n) = none_at size n

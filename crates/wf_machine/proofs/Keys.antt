@@ -1,11 +1,11 @@
 -- Keys of instances, and how they compare.
-use Rattle.std.proofs.Common.{◌≡◌, ℕ, ◌<◌, Bool, ◌&&◌, List, [], ◌∷◌, Less, Greater, is_eq, nat_eq, bytes_eq, arith, refl, ap, ◌∙◌}
+use Rattle.std.proofs.Common.{◌≡◌, ℕ, ◌<◌, ◌&&◌, List, [], ◌∷◌, Less, Greater, is_eq, nat_eq, bytes_eq, arith, refl, ap, ◌∙◌}
 use Rattle.std.proofs.lemmas.Bool.Decides.{nat_tests}
 use Rattle.std.proofs.lemmas.Cmp.{tied_itself, nat_cmp_total}
 use Rattle.std.proofs.lemmas.Map.Text.{is_eq-slice_cmp}
 use Rattle.std.specs.Cmp.Lexicographic.{slice_cmp}
 use Rattle.std.specs.Ordering.{nat_cmp}
-use Rattle.wf_layers.specs.Address.{Address, address, is_own, same_at}
+use Rattle.wf_layers.specs.Address.{Address, is_own, same_at}
 use Rattle.wf_layers.specs.Record.{key}
 use Rattle.wf_machine.specs.Machine.{event_key, instance_cmp}
 use Rattle.wf_machine.specs.Seen.{event_at}

@@ -1,5 +1,6 @@
 -- The list of events that is read off the phases has exactly the enabled events.
-use Rattle.std.proofs.Common.{◌≡◌, ℕ, zero, suc, ◌<◌, Bool, true, false, ◌&&◌, ◌||◌, cond, List, [], ◌∷◌, length, Option, Some, None, option_map, slice_get, Less, is_eq, nat_eq, eqb-true, refl, sym, ap, ◌∙◌, subst, arith}
+use Rattle.std.proofs.Common.{◌≡◌, ℕ, zero, suc, ◌<◌, Bool, true, false, ◌&&◌, ◌||◌, cond, List, [], ◌∷◌, length, Option, Some, None}
+use Rattle.std.proofs.Common.{option_map, slice_get, Less, is_eq, nat_eq, eqb-true, refl, sym, ap, ◌∙◌, subst, arith}
 use Rattle.std.proofs.lemmas.Bool.{ne_eqb}
 use Rattle.std.specs.List.{AllByRecursion}
 use Rattle.wf_lists.specs.KeyOrder.{IsInKeyOrder, find_key}
@@ -23,7 +24,7 @@ use Rattle.wf_machine.specs.declared.event.EventKind.{EventKind}
 use Rattle.wf_machine.specs.declared.event.EventKind.TheVariants.{Start, Skip}
 use Rattle.wf_machine.specs.declared.leaf.Leaf as leaves_of
 use Rattle.wf_machine.specs.declared.phase.Phase.{Phase}
-use Rattle.wf_machine.specs.declared.phase.Phase.TheVariants.{Idle, Running, Ended}
+use Rattle.wf_machine.specs.declared.phase.Phase.TheVariants.{Idle}
 use Rattle.wf_machine.proofs.Keys.{key_less, is_outside, event_key_is}
 
 -- the phase of an action is that of its row and of what it runs with
@@ -40,7 +41,8 @@ module _ (env : Environment) (actions : List ActionTree) (rows : List (Option Ro
   abbrev phases : List Phase
   phases = phases_of rows leaves
 
-  through_by : (row : Option (Option Row)) (leaf : Option leaves_of.Leaf) → is_through (phase_of (there row) leaf) ≡ machine.has_ended (known_row row)
+  through_by : (row : Option (Option Row)) (leaf : Option leaves_of.Leaf)
+      → is_through (phase_of (there row) leaf) ≡ machine.has_ended (known_row row)
   through_by None None = refl
   through_by None (Some l) = refl
   through_by (Some None) None = refl
@@ -58,13 +60,15 @@ module _ (env : Environment) (actions : List ActionTree) (rows : List (Option Ro
   through_is : (n : ℕ) → is_through (phase_at phases n) ≡ machine.has_ended (known_of rows (address n []))
   through_is n = ap is_through (phase_is rows leaves n same) ∙ through_by (slice_get rows n) (there (slice_get leaves n))
 
-  met_is : (listed : List layered.Status) (n : ℕ) → is_met listed (phase_at phases n) ≡ asked.is_met (source env actions) listed (known_of rows (address n []))
+  met_is : (listed : List layered.Status) (n : ℕ)
+      → is_met listed (phase_at phases n) ≡ asked.is_met (source env actions) listed (known_of rows (address n []))
   met_is listed n = ap (is_met listed) (phase_is rows leaves n same) ∙ met_by listed (slice_get rows n) (there (slice_get leaves n))
 
   all_through_is : (needs : List Need) → all_through phases needs ≡ machine.all_ended needs [] (known_of rows)
   all_through_is [] = refl
   all_through_is (need ∷ needs) =
-      ap (λ b. b && all_through phases needs) (through_is need.name) ∙ ap (λ b. machine.has_ended (known_of rows (address need.name [])) && b) (all_through_is needs)
+      ap (λ b. b && all_through phases needs) (through_is need.name)
+      ∙ ap (λ b. machine.has_ended (known_of rows (address need.name [])) && b) (all_through_is needs)
 
   all_met_is : (needs : List Need) → all_met phases needs ≡ asked.all_met (source env actions) needs [] (known_of rows)
   all_met_is [] = refl
@@ -81,16 +85,19 @@ module _ (env : Environment) (actions : List ActionTree) (rows : List (Option Ro
   idle_by n true true = refl
 
   idle_is : (n : ℕ) (after : List Need)
-      → of_idle (source env actions) (kept_state rows leaves) after Leaf n [] ≡ option_map (λ kind. event_at kind n) (event_in phases after Idle)
+      → of_idle (source env actions) (kept_state rows leaves) after Leaf n []
+      ≡ option_map (λ kind. event_at kind n) (event_in phases after Idle)
   idle_is n after =
-      subst (λ b. cond b (Some (cond (asked.all_met (source env actions) after [] (known_of rows) && true) (machine.Start n []) (machine.Skip n []))) None
+      subst (λ b. cond b (Some (cond (asked.all_met (source env actions) after [] (known_of rows) && true) (machine.Start n [])
+      (machine.Skip n []))) None
       ≡ option_map (λ kind. event_at kind n) (event_in phases after Idle)) (all_through_is after)
       (subst (λ b. cond (all_through phases after) (Some (cond (b && true) (machine.Start n []) (machine.Skip n []))) None
       ≡ option_map (λ kind. event_at kind n) (event_in phases after Idle)) (all_met_is after)
       (idle_by n (all_through phases after) (all_met phases after)))
 
   own_by : (n : ℕ) (after : List Need) (row : Option (Option Row)) (leaf : Option (Option leaves_of.Leaf))
-      → cond (machine.has_ended (known_row row)) None (of_busy (source env actions) (kept_state rows leaves) after Leaf n [] (running_tree_of leaf))
+      → cond (machine.has_ended (known_row row)) None (of_busy (source env actions) (kept_state rows leaves) after Leaf n []
+      (running_tree_of leaf))
       ≡ option_map (λ kind. event_at kind n) (event_in phases after (phase_of (there row) (there leaf)))
   own_by n after (Some (Some r)) leaf = refl
   own_by n after None None = idle_is n after
@@ -101,7 +108,8 @@ module _ (env : Environment) (actions : List ActionTree) (rows : List (Option Ro
   own_by n after (Some None) (Some (Some l)) = refl
 
   own_is : (n : ℕ) (after : List Need)
-      → own_event (source env actions) (kept_state rows leaves) after Leaf n [] ≡ option_map (λ kind. event_at kind n) (event_in phases after (phase_at phases n))
+      → own_event (source env actions) (kept_state rows leaves) after Leaf n []
+      ≡ option_map (λ kind. event_at kind n) (event_in phases after (phase_at phases n))
   own_is n after =
       own_by n after (slice_get rows n) (slice_get leaves n)
       ∙ ap (λ phase. option_map (λ kind. event_at kind n) (event_in phases after phase)) (sym (phase_is rows leaves n same))
@@ -116,15 +124,18 @@ module _ (env : Environment) (actions : List ActionTree) (rows : List (Option Ro
       ∙ ap (λ b. cond b (Some (event_at kind n)) (find x es)) (is_outside n x)
 
   -- no event is of an action before the list's
-  none_then : (o : Option EventKind) (n : ℕ) (es : List machine.Event) (x : Address) → x.name < n → find x es ≡ None → find x (event_then o n es) ≡ None
+  none_then : (o : Option EventKind) (n : ℕ) (es : List machine.Event) (x : Address) → x.name < n → find x es ≡ None
+      → find x (event_then o n es) ≡ None
   none_then None n es x lt later = later
   none_then (Some kind) n es x lt later =
-      find_first kind n es x ∙ (ap (λ b. cond (b && same_at [] x.at) (Some (event_at kind n)) (find x es)) (ne_eqb n x.name (omega (arith, lt))) ∙ later)
+      find_first kind n es x
+      ∙ (ap (λ b. cond (b && same_at [] x.at) (Some (event_at kind n)) (find x es)) (ne_eqb n x.name (omega (arith, lt))) ∙ later)
 
   none_from : (n : ℕ) (rest : List ActionTree) (x : Address) → x.name < n → find x (listed_from phases n rest) ≡ None
   none_from n [] x lt = refl
   none_from n (a ∷ more) x lt =
-      none_then (event_in phases a.after (phase_at phases n)) n (listed_from phases (suc n) more) x lt (none_from (suc n) more x (omega (arith, lt)))
+      none_then (event_in phases a.after (phase_at phases n)) n (listed_from phases (suc n) more) x lt
+      (none_from (suc n) more x (omega (arith, lt)))
 
   joined : (o : Option EventKind) (n : ℕ) (es : List machine.Event) (x : Address) (later : Option machine.Event) (b c : Bool)
       → nat_eq n x.name ≡ b → same_at [] x.at ≡ c → find x es ≡ later → (b ≡ true → find x es ≡ None)
@@ -150,17 +161,21 @@ module _ (env : Environment) (actions : List ActionTree) (rows : List (Option Ro
       (events (source env actions) (kept_state rows leaves) (graph_from (suc n) more) [] x)) (sym (own_is n a.after))
 
   -- the list is in order
-  above_then : (o : Option EventKind) (m n : ℕ) (es : List machine.Event) → m < n → AllByRecursion (λ e. instance_cmp (m ∷ []) (event_key e) ≡ Less) es
+  above_then : (o : Option EventKind) (m n : ℕ) (es : List machine.Event) → m < n
+      → AllByRecursion (λ e. instance_cmp (m ∷ []) (event_key e) ≡ Less) es
       → AllByRecursion (λ e. instance_cmp (m ∷ []) (event_key e) ≡ Less) (event_then o n es)
   above_then None m n es lt all = all
   above_then (Some kind) m n es lt all = (ap (instance_cmp (m ∷ [])) (event_key_is kind n) ∙ key_less m n [] [] lt, all)
 
-  above_from : (m n : ℕ) (rest : List ActionTree) → m < n → AllByRecursion (λ e. instance_cmp (m ∷ []) (event_key e) ≡ Less) (listed_from phases n rest)
+  above_from : (m n : ℕ) (rest : List ActionTree) → m < n
+      → AllByRecursion (λ e. instance_cmp (m ∷ []) (event_key e) ≡ Less) (listed_from phases n rest)
   above_from m n [] lt = tt
   above_from m n (a ∷ more) lt =
-      above_then (event_in phases a.after (phase_at phases n)) m n (listed_from phases (suc n) more) lt (above_from m (suc n) more (omega (arith, lt)))
+      above_then (event_in phases a.after (phase_at phases n)) m n (listed_from phases (suc n) more) lt
+      (above_from m (suc n) more (omega (arith, lt)))
 
-  ordered_then : (o : Option EventKind) (n : ℕ) (es : List machine.Event) → AllByRecursion (λ e. instance_cmp (n ∷ []) (event_key e) ≡ Less) es
+  ordered_then : (o : Option EventKind) (n : ℕ) (es : List machine.Event)
+      → AllByRecursion (λ e. instance_cmp (n ∷ []) (event_key e) ≡ Less) es
       → IsInKeyOrder instance_cmp event_key es → IsInKeyOrder instance_cmp event_key (event_then o n es)
   ordered_then None n es all order = order
   ordered_then (Some kind) n es all order =
@@ -169,7 +184,8 @@ module _ (env : Environment) (actions : List ActionTree) (rows : List (Option Ro
   ordered_from : (n : ℕ) (rest : List ActionTree) → IsInKeyOrder instance_cmp event_key (listed_from phases n rest)
   ordered_from n [] = tt
   ordered_from n (a ∷ more) =
-      ordered_then (event_in phases a.after (phase_at phases n)) n (listed_from phases (suc n) more) (above_from n (suc n) more (omega arith)) (ordered_from (suc n) more)
+      ordered_then (event_in phases a.after (phase_at phases n)) n (listed_from phases (suc n) more)
+      (above_from n (suc n) more (omega arith)) (ordered_from (suc n) more)
 
   pub are_enabled : AreEnabled env actions (kept_state rows leaves) (listed_from phases 0 actions)
   are_enabled = record { in_order = ordered_from 0 actions; each = λ x. each_from 0 actions x }

@@ -1,5 +1,6 @@
 -- What holds of a state that a run reaches, by the laws of order.
-use Rattle.std.proofs.Common.{◌≡◌, ℕ, zero, suc, ◌+◌, ◌<◌, ◌++◌, ◌&&◌, ◌||◌, cond, Bool, false, true, List, [], ◌∷◌, length, Option, Some, None, is_some, slice_get, refl, sym, ap, ◌∙◌, subst, arith, nat_eq, eqb-true, true≢false, inl}
+use Rattle.std.proofs.Common.{◌≡◌, ℕ, suc, ◌+◌, ◌<◌, ◌++◌, ◌&&◌, ◌||◌, cond, Bool, false, true, List, [], ◌∷◌, length, Some}
+use Rattle.std.proofs.Common.{None, is_some, slice_get, refl, sym, ap, ◌∙◌, subst, arith, nat_eq, eqb-true, true≢false}
 use Rattle.std.proofs.lemmas.Cmp.{nat_list_cmp_total}
 use Rattle.std.proofs.lemmas.Option.{none-some}
 use Rattle.wf_lists.proofs.KeyOrderLemmas.{find-own}
@@ -9,7 +10,8 @@ use Rattle.wf_layers.specs.Definition.{Need, Kind, Leaf, Graph}
 use Rattle.wf_layers.specs.Facts.{Facts}
 use Rattle.wf_layers.specs.Laws.{Exact, IsInstance}
 use Rattle.wf_layers.specs.Machine as machine
-use Rattle.wf_layers.specs.Machine.{In, here, there, IsOpen, top, scope, chosen, turn, round, Start, End, Skip, Running, place, one, without}
+use Rattle.wf_layers.specs.Machine.{In, here, there, IsOpen, top, scope, chosen, turn, round, Start, End, Skip, Running, place, one}
+use Rattle.wf_layers.specs.Machine.{without}
 use Rattle.wf_layers.specs.Meaning.{skip}
 use Rattle.wf_layers.proofs.Enabled.{events_are_exact, runs_grow}
 use Rattle.wf_layers.proofs.Facts.{facts_of_states}
@@ -50,16 +52,19 @@ module _ (env : Environment) (actions : List ActionTree) where
     over_if_none are e s' goes = none-some e (are.each (machine.place_of e) ∙ exact.each e s' goes)
 
     -- what is listed is enabled
-    pub listed_enabled : (listed : List machine.Event) → AreEnabled env actions s listed → (n : ℕ) (e : machine.Event) → slice_get listed n ≡ Some e
+    pub listed_enabled : (listed : List machine.Event) → AreEnabled env actions s listed → (n : ℕ) (e : machine.Event)
+        → slice_get listed n ≡ Some e
         → IsEnabled env actions s e
     listed_enabled listed are n e at =
-        (exact.only (machine.place_of e) e (sym (are.each (machine.place_of e)) ∙ find-own nat_list_cmp_total event_key listed are.in_order n e at)).1
+        (exact.only (machine.place_of e) e (sym (are.each (machine.place_of e))
+        ∙ find-own nat_list_cmp_total event_key listed are.in_order n e at)).1
 
     pub over_by : (listed : List machine.Event) → AreEnabled env actions s listed → nat_eq (length listed) 0 ≡ true → IsOver env actions s
     over_by [] are none = over_if_none are
     over_by (e ∷ es) are none = absurd (omega (arith, eqb-true (suc (length es)) 0 none))
 
-    pub not_over : (listed : List machine.Event) → AreEnabled env actions s listed → nat_eq (length listed) 0 ≡ false → IsOver env actions s → ⊥
+    pub not_over : (listed : List machine.Event) → AreEnabled env actions s listed → nat_eq (length listed) 0 ≡ false
+        → IsOver env actions s → ⊥
     not_over [] are some over = true≢false some
     not_over (e ∷ es) are some over = let next = listed_enabled (e ∷ es) are 0 e refl in over e next.0 next.1
 
@@ -78,18 +83,21 @@ abbrev pub given_row : State → ℕ → record_of.Row → State
 given_row s n r = record { rows = place (one n [] r) s.rows; running = without n [] s.running; opens = s.opens }
 
 -- only the whole graph is open, and it has leaves
-leaf_in : (k : ℕ) (actions : List ActionTree) (n : ℕ) (after : List Need) (kind : Kind) → In (graph_from k actions) n after kind → kind ≡ Leaf
+leaf_in : (k : ℕ) (actions : List ActionTree) (n : ℕ) (after : List Need) (kind : Kind) → In (graph_from k actions) n after kind
+    → kind ≡ Leaf
 leaf_in k [] n after kind x = elim x [ ]
 leaf_in k (a ∷ more) n after kind here = refl
 leaf_in k (a ∷ more) n after kind (there later) = leaf_in (suc k) more n after kind later
 
-number_in : (k : ℕ) (actions : List ActionTree) (n : ℕ) (after : List Need) (kind : Kind) → In (graph_from k actions) n after kind → n < k + length actions
+number_in : (k : ℕ) (actions : List ActionTree) (n : ℕ) (after : List Need) (kind : Kind) → In (graph_from k actions) n after kind
+    → n < k + length actions
 number_in k [] n after kind x = elim x [ ]
 number_in k (a ∷ more) n after kind here = omega arith
 number_in k (a ∷ more) n after kind (there later) = let rest = number_in (suc k) more n after kind later in omega (arith, rest)
 
 module _ (env : Environment) (actions : List ActionTree) (s : State) (shut : (x : Address) → s.opens x ≡ None) where
-  in_whole : (n : ℕ) (after : List Need) (kind : Kind) (g : Graph) (i : List ℕ) → IsOpen (λ d. 0) (graph_of actions) s.opens g i → In g n after kind
+  in_whole : (n : ℕ) (after : List Need) (kind : Kind) (g : Graph) (i : List ℕ) → IsOpen (λ d. 0) (graph_of actions) s.opens g i
+      → In g n after kind
       → In (graph_of actions) n after kind
   in_whole n after kind g i top stands = stands
   in_whole n after kind g i (scope {w = w} o e q) stands = absurd (true≢false (ap is_some (sym q ∙ shut _)))
@@ -102,7 +110,8 @@ module _ (env : Environment) (actions : List ActionTree) (s : State) (shut : (x 
   is_in n i after kind stands = in_whole n after kind stands.graph i stands.is_open stands.is_in
 
   pub start_within : (n : ℕ) → IsEnabled env actions s (Start n []) → n < length actions
-  start_within n (s', (after, decided, gate, next)) = let lt = number_in 0 actions n after Leaf (is_in n [] after Leaf decided.is_there) in omega (arith, lt)
+  start_within n (s', (after, decided, gate, next)) = let lt = number_in 0 actions n after Leaf
+      (is_in n [] after Leaf decided.is_there) in omega (arith, lt)
 
   pub start_empty : (n : ℕ) → IsEnabled env actions s (Start n []) → s.rows (address n []) ≡ None
   start_empty n (s', (after, decided, gate, next)) = decided.no_row
@@ -117,7 +126,8 @@ module _ (env : Environment) (actions : List ActionTree) (s : State) (shut : (x 
   pub end_running : (n : ℕ) → IsEnabled env actions s (End n []) → (w : Running Answer) × (s.running (address n []) ≡ Some w)
   end_running n (s', (w, held, through, next)) = (w, held)
 
-  pub end_goes : (n : ℕ) (w : Running Answer) (r : record_of.Row) → s.running (address n []) ≡ Some w → r ≡ ended w.begun → IsEnabled env actions s (End n [])
+  pub end_goes : (n : ℕ) (w : Running Answer) (r : record_of.Row) → s.running (address n []) ≡ Some w → r ≡ ended w.begun
+      → IsEnabled env actions s (End n [])
       → Goes env actions s (End n []) (given_row s n r)
   end_goes n w r found is (s', (v, held, through, next)) = (v, held, through, rw (is, same) refl)
     where
@@ -131,7 +141,8 @@ module _ (env : Environment) (actions : List ActionTree) (s : State) (shut : (x 
   pub skip_empty : (n : ℕ) → IsEnabled env actions s (Skip n []) → s.rows (address n []) ≡ None
   skip_empty n (s', (after, kind, decided, gate, next)) = decided.no_row
 
-  pub skip_goes : (n : ℕ) (r : record_of.Row) → r ≡ skipped → IsEnabled env actions s (Skip n []) → Goes env actions s (Skip n []) (given_row s n r)
+  pub skip_goes : (n : ℕ) (r : record_of.Row) → r ≡ skipped → IsEnabled env actions s (Skip n [])
+      → Goes env actions s (Skip n []) (given_row s n r)
   skip_goes n r is (s', (after, kind, decided, gate, next)) =
       (after, kind, decided, gate, rw (is, block, without_none n s.running decided.not_running) refl)
     where
@@ -143,4 +154,5 @@ module _ (env : Environment) (actions : List ActionTree) (s : State) (shut : (x 
       same false c = refl
 
       block : skip (source env actions) n kind [] ≡ one n [] skipped
-      block = subst (λ k. skip (source env actions) n k [] ≡ one n [] skipped) (sym leaf) (λ k x. same (nat_eq n x.name) (same_at [] x.at) k)
+      block = subst (λ k. skip (source env actions) n k [] ≡ one n [] skipped) (sym leaf)
+          (λ k x. same (nat_eq n x.name) (same_at [] x.at) k)

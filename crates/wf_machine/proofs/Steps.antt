@@ -1,45 +1,48 @@
 -- What an event makes of the state of a flat graph as it is kept.
-use Rattle.std.proofs.Common.{◌≡◌, ℕ, ◌+◌, ◌*◌, ◌<◌, ◌≤◌, ◌^◌, ◌-◌, List, [], length, map, set, replicate, true, min, Option, Some, None, is_some, slice_get, sum_by, length-set, ◌∷◌, inl, zero, suc, refl, sym, ap, ◌∙◌, subst, arith}
+use Rattle.std.proofs.Common.{◌≡◌, ℕ, ◌+◌, ◌*◌, ◌<◌, ◌≤◌, List, [], length, map, set, replicate, true, Option, Some, None}
+use Rattle.std.proofs.Common.{slice_get, sum_by, length-set, ◌∷◌, inl, zero, suc, refl, sym, ap, ◌∙◌, subst, arith}
 use Rattle.std.proofs.lemmas.List.{length-replicate}
 use Rattle.std.proofs.lemmas.Option.{none-some}
 use Rattle.wf_val.specs.Arguments.{Answer, seen}
 use Rattle.wf_val.specs.Cut.{cut_u64}
 use Rattle.wf_val.specs.NameOrder.{IsInNameOrder}
-use Rattle.wf_layers.specs.Address.{Address, address}
+use Rattle.wf_layers.specs.Address.{address}
 use Rattle.wf_layers.specs.Facts.{Facts}
-use Rattle.wf_layers.specs.Machine as machine
-use Rattle.wf_layers.specs.Machine.{Event, Running, Start, End, Skip, place, one, without}
+use Rattle.wf_layers.specs.Machine.{Event, Running, Start, End, Skip, without}
 use Rattle.wf_record.specs.Cost.{row_cost}
-use Rattle.wf_record.specs.Record as record_of
 use Rattle.wf_record.specs.Seen.{row_tree}
 use Rattle.wf_record.specs.declared.row.Row.{Row}
 use Rattle.wf_meaning.specs.Definition.{ActionTree, action_name}
 use Rattle.wf_meaning.specs.Environment.{Environment}
 use Rattle.wf_meaning.specs.Flat.{begun, ended, graph_of, skipped, source}
-use Rattle.wf_meaning.specs.Meaning.{instance, rows_from, rows_of, table_of}
+use Rattle.wf_meaning.specs.Meaning.{instance, table_of}
 use Rattle.wf_meaning.specs.Names.{names_before}
 use Rattle.wf_meaning.specs.Rounds.{all_end}
 use Rattle.wf_walk.specs.Seen.{known_of, row_at, row_content, rows_there}
 use Rattle.wf_walk.proofs.Kept.{named_kept, none_named}
 use Rattle.wf_machine.specs.Cost.{first_cost, leaf_cost, rows_cost}
 use Rattle.wf_machine.specs.Held.{state_of}
-use Rattle.wf_machine.specs.Kept.{ArePriced, IsKept, kept_state, leaf_at, leaves_from, phases_of, rows_present, running_of, running_tree_of, there}
+use Rattle.wf_machine.specs.Kept.{ArePriced, IsKept, kept_state, leaf_at, leaves_from, rows_present, running_of, running_tree_of}
+use Rattle.wf_machine.specs.Kept.{there}
 use Rattle.wf_machine.specs.Listed.{listed_from}
 use Rattle.wf_machine.specs.Machine.{AreEnabled, Goes, IsEnabled, IsReached, State}
 use Rattle.wf_machine.specs.declared.leaf.Leaf.{Leaf}
 use Rattle.wf_machine.specs.declared.phase.Phase.{Phase}
 use Rattle.wf_machine.specs.declared.phase.Phase.TheVariants.{Idle, Running as Runs, Ended}
 use Rattle.wf_machine.proofs.CostLemmas.{covered, leaves_less, leaves_more, rows_more}
-use Rattle.wf_machine.proofs.KeptLemmas.{all_idle, fresh_is, no_rows, none_priced, present_there, as_running, cost_placed, leaf_gone, leaf_placed, phases_ended, phases_started, priced_ended, priced_started, row_placed, state_is}
+use Rattle.wf_machine.proofs.KeptLemmas.{all_idle, fresh_is, no_rows, none_priced, present_there, as_running, cost_placed, leaf_gone}
+use Rattle.wf_machine.proofs.KeptLemmas.{leaf_placed, phases_ended, phases_started, priced_ended, priced_started, row_placed, state_is}
 use Rattle.wf_machine.proofs.ListedLemmas.{are_enabled}
-use Rattle.wf_machine.proofs.Reached.{Instance, end_goes, end_running, facts, given_row, reaches, skip_empty, skip_goes, skip_within, start_empty, start_goes, start_idle, start_within, started}
+use Rattle.wf_machine.proofs.Reached.{Instance, end_goes, end_running, facts, given_row, reaches, skip_empty, skip_goes, skip_within}
+use Rattle.wf_machine.proofs.Reached.{start_empty, start_goes, start_idle, start_within, started}
 
 -- the state, as contracts see it
 abbrev pub seen_state : List ActionTree → List (Option Row) → List (Option Leaf) → State
 seen_state actions rows leaves = state_of actions (map row_tree (rows_present rows)) (leaves_from 0 leaves)
 
 -- what is at a place of a list is, as it is seen, at that place
-pub get_seen : {X Y : Type 0} (see : X → Y) (xs : List X) (n : ℕ) (x : X) → slice_get xs n ≡ Some x → slice_get (map see xs) n ≡ Some (see x)
+pub get_seen : {X Y : Type 0} (see : X → Y) (xs : List X) (n : ℕ) (x : X) → slice_get xs n ≡ Some x
+    → slice_get (map see xs) n ≡ Some (see x)
 get_seen see [] n x is = absurd (none-some x is)
 get_seen see (y ∷ xs) zero x is = let same : y ≡ x = cc in ap (λ z. Some (see z)) same
 get_seen see (y ∷ xs) (suc n) x is = get_seen see xs n x is
@@ -49,23 +52,27 @@ there_some None x is = absurd (none-some x (sym is))
 there_some (Some found) x is = ap (λ o. Some o) (sym is)
 
 -- a run that begins
-pub fresh_kept : (env : Environment) (actions : List ActionTree) (rows : List (Option Row)) (leaves : List (Option Leaf)) (phases : List Phase)
-    (listed : List Event) (spent size : ℕ) → length actions ≡ size → IsInNameOrder action_name actions → all_end actions ≡ true → names_before actions ≡ true
+pub fresh_kept : (env : Environment) (actions : List ActionTree) (rows : List (Option Row)) (leaves : List (Option Leaf))
+    (phases : List Phase)
+    (listed : List Event) (spent size : ℕ) → length actions ≡ size → IsInNameOrder action_name actions → all_end actions ≡ true
+    → names_before actions ≡ true
     → rows ≡ replicate size None → leaves ≡ replicate size None → phases ≡ replicate size Idle → listed ≡ listed_from phases 0 actions
     → spent ≡ cut_u64 (first_cost env.start) → IsKept env actions rows leaves phases listed spent
-fresh_kept env actions rows leaves phases listed spent size same in_order ends before rows_are leaves_are phases_are listed_is spent_is = record {
-  in_order = in_order;
-  ends = ends;
-  before = before;
-  rows_size = ap length rows_are ∙ (length-replicate {A = Option Row} size None ∙ sym same);
-  leaves_size = ap length leaves_are ∙ (length-replicate {A = Option Leaf} size None ∙ sym same);
-  named = none_named actions rows size rows_are;
-  phased = phases_are ∙ (all_idle size ∙ rw (rows_are, leaves_are) refl);
-  listed_is = listed_is;
-  spent_is = spent_is ∙ ap cut_u64 (more ∙ ap (λ rs. first_cost env.start + sum_by row_cost rs) (sym (ap rows_there rows_are ∙ no_rows size)));
-  priced = subst ArePriced (sym leaves_are) (none_priced size);
-  reached = ([], rw (rows_are, leaves_are) (fresh_is size));
-}
+fresh_kept env actions rows leaves phases listed spent size same in_order ends before rows_are leaves_are phases_are listed_is spent_is
+    = record {
+      in_order = in_order;
+      ends = ends;
+      before = before;
+      rows_size = ap length rows_are ∙ (length-replicate {A = Option Row} size None ∙ sym same);
+      leaves_size = ap length leaves_are ∙ (length-replicate {A = Option Leaf} size None ∙ sym same);
+      named = none_named actions rows size rows_are;
+      phased = phases_are ∙ (all_idle size ∙ rw (rows_are, leaves_are) refl);
+      listed_is = listed_is;
+      spent_is = spent_is ∙ ap cut_u64 (more
+          ∙ ap (λ rs. first_cost env.start + sum_by row_cost rs) (sym (ap rows_there rows_are ∙ no_rows size)));
+      priced = subst ArePriced (sym leaves_are) (none_priced size);
+      reached = ([], rw (rows_are, leaves_are) (fresh_is size));
+    }
   where
     more : first_cost env.start ≡ first_cost env.start + 0
     more = omega arith
@@ -73,7 +80,8 @@ fresh_kept env actions rows leaves phases listed spent size same in_order ends b
 cut_more : (a b c d : ℕ) → a ≡ cut_u64 b → c ≡ cut_u64 d → cut_u64 (a + c) ≡ cut_u64 (b + d)
 cut_more a b c d is also = grind (arith, is, also)
 
-running_within : (leaves : List (Option Leaf)) (n : ℕ) (w : Running Answer) → running_tree_of (slice_get leaves n) ≡ Some w → n < length leaves
+running_within : (leaves : List (Option Leaf)) (n : ℕ) (w : Running Answer) → running_tree_of (slice_get leaves n) ≡ Some w
+    → n < length leaves
 running_within [] n w is = absurd (none-some w is)
 running_within (x ∷ leaves) zero w is = omega arith
 running_within (x ∷ leaves) (suc n) w is = let rest = running_within leaves n w is in omega (arith, rest)
@@ -102,13 +110,15 @@ module _ (env : Environment) (actions : List ActionTree) (rows : List (Option Ro
 
   pub ends_within : (n : ℕ) → IsEnabled env actions (seen_state actions rows leaves) (End n []) → n < length leaves
   ends_within n may =
-      let held = end_running env actions (kept_state rows leaves) (λ x. refl) n (may_happen (End n []) may) in running_within leaves n held.0 held.1
+      let held = end_running env actions (kept_state rows leaves) (λ x. refl) n
+      (may_happen (End n []) may) in running_within leaves n held.0 held.1
 
   pub skips_within : (n : ℕ) → IsEnabled env actions (seen_state actions rows leaves) (Skip n []) → n < length actions
   skips_within n may = skip_within env actions (kept_state rows leaves) (λ x. refl) n (may_happen (Skip n []) may)
 
   -- ---- an action starts
-  module _ (n : ℕ) (l : Leaf) (phases' : List Phase) (listed' : List Event) (may : IsEnabled env actions (seen_state actions rows leaves) (Start n []))
+  module _ (n : ℕ) (l : Leaf) (phases' : List Phase) (listed' : List Event) (may : IsEnabled env actions (seen_state actions rows leaves)
+      (Start n []))
       (gives : seen l.begun ≡ begun env actions (known_of rows) (slice_get actions n)) (priced : l.cost ≡ cut_u64 (leaf_cost (leaf_at 0 l)))
       (phased : phases' ≡ set phases n Runs) (listed_is : listed' ≡ listed_from phases' 0 actions) where
     within_leaves : n < length leaves
@@ -130,7 +140,8 @@ module _ (env : Environment) (actions : List ActionTree) (rows : List (Option Ro
       leaves_size = length-set leaves n (Some l) ∙ kept.leaves_size;
       named = kept.named;
       phased = phased ∙ (ap (λ ps. set ps n Runs) kept.phased
-          ∙ sym (phases_started rows leaves n l (start_empty env actions (kept_state rows leaves) (λ x. refl) n (may_happen (Start n []) may))));
+          ∙ sym (phases_started rows leaves n l (start_empty env actions (kept_state rows leaves) (λ x. refl) n
+          (may_happen (Start n []) may))));
       listed_is = listed_is;
       spent_is = kept.spent_is;
       priced = priced_started leaves n l kept.priced priced;
@@ -143,9 +154,11 @@ module _ (env : Environment) (actions : List ActionTree) (rows : List (Option Ro
         (subst (Goes env actions (kept_state rows leaves) (Start n []))
         (sym (state_is actions rows (set leaves n (Some l)) kept.rows_size kept.in_order kept.named)) goes)
 
-    pub start_more : 2 * length (rows_present rows) + length (leaves_from 0 leaves) < 2 * length (rows_present rows) + length (leaves_from 0 (set leaves n (Some l)))
+    pub start_more : 2 * length (rows_present rows) + length (leaves_from 0 leaves) < 2 * length (rows_present rows) + length
+        (leaves_from 0 (set leaves n (Some l)))
     start_more =
-        let more = leaves_more 0 leaves n l within_leaves (start_idle env actions (kept_state rows leaves) (λ x. refl) n (may_happen (Start n []) may)) in
+        let more = leaves_more 0 leaves n l within_leaves (start_idle env actions (kept_state rows leaves) (λ x. refl) n
+        (may_happen (Start n []) may)) in
         omega (arith, more)
 
   -- ---- an action gets its row
@@ -171,8 +184,10 @@ module _ (env : Environment) (actions : List ActionTree) (rows : List (Option Ro
     more_spent : spent' ≡ cut_u64 (first_cost env.start + sum_by row_cost (rows_there (set rows n (Some r))))
     more_spent =
         let more = cost_placed rows n r in_rows empty in
-        let all = cut_more spent (first_cost env.start + sum_by row_cost (rows_there rows)) (cut_u64 (row_cost (row_tree r))) (row_cost (row_tree r)) kept.spent_is refl in
-        let same : first_cost env.start + sum_by row_cost (rows_there (set rows n (Some r))) ≡ (first_cost env.start + sum_by row_cost (rows_there rows)) + row_cost (row_tree r) =
+        let all = cut_more spent (first_cost env.start + sum_by row_cost (rows_there rows)) (cut_u64 (row_cost (row_tree r)))
+        (row_cost (row_tree r)) kept.spent_is refl in
+        let same : first_cost env.start + sum_by row_cost (rows_there (set rows n (Some r)))
+        ≡ (first_cost env.start + sum_by row_cost (rows_there rows)) + row_cost (row_tree r) =
         omega (arith, more) in
         spent_is ∙ (all ∙ ap cut_u64 (sym same))
 
@@ -215,7 +230,8 @@ module _ (env : Environment) (actions : List ActionTree) (rows : List (Option Ro
       → IsEnabled env actions (seen_state actions rows leaves) (End n [])
       → Goes env actions (kept_state rows leaves) (End n []) (given_row (kept_state rows leaves) n (row_content r))
   end_row n l r found gives may =
-      end_goes env actions (kept_state rows leaves) (λ x. refl) n (as_running l) (row_content r) (ap running_tree_of found) gives (may_happen (End n []) may)
+      end_goes env actions (kept_state rows leaves) (λ x. refl) n (as_running l) (row_content r) (ap running_tree_of found) gives
+      (may_happen (End n []) may)
 
   pub skip_empty_row : (n : ℕ) → IsEnabled env actions (seen_state actions rows leaves) (Skip n []) → row_at rows n ≡ None
   skip_empty_row n may = skip_empty env actions (kept_state rows leaves) (λ x. refl) n (may_happen (Skip n []) may)
@@ -226,7 +242,8 @@ module _ (env : Environment) (actions : List ActionTree) (rows : List (Option Ro
 
   -- what the state costs is at most what the rows cost that the definition means
   pub cost_bound : Instance env actions
-      → first_cost env.start + sum_by row_cost (map row_tree (rows_present rows)) + sum_by leaf_cost (leaves_from 0 leaves) ≤ rows_cost env actions
+      → first_cost env.start + sum_by row_cost (map row_tree (rows_present rows)) + sum_by leaf_cost
+      (leaves_from 0 leaves) ≤ rows_cost env actions
   cost_bound is =
       let known = facts env actions is (kept_state rows leaves) kept.reached in
       let all = covered (table_of env actions) 0 actions rows leaves kept.rows_size kept.leaves_size kept.named
@@ -239,16 +256,20 @@ module _ (env : Environment) (actions : List ActionTree) (rows : List (Option Ro
       trim : (m j : ℕ) → m ≡ 0 + j → m ≡ j
       trim m j same = omega (arith, same)
 
-      begun_row : Facts (graph_of actions) (source env actions) (table_of env actions) (kept_state rows leaves) → (m j : ℕ) (l : Leaf) → m ≡ 0 + j
+      begun_row : Facts (graph_of actions) (source env actions) (table_of env actions) (kept_state rows leaves) → (m j : ℕ) (l : Leaf)
+          → m ≡ 0 + j
           → slice_get leaves j ≡ Some (Some l) → table_of env actions (address m []) ≡ Some (ended (seen l.begun))
       begun_row known m j l same found =
-          let held : running_of leaves (address m []) ≡ Some (as_running l) = ap (λ k. running_tree_of (slice_get leaves k)) (trim m j same) ∙ ap running_tree_of found in
+          let held : running_of leaves (address m []) ≡ Some (as_running l) = ap (λ k. running_tree_of (slice_get leaves k))
+          (trim m j same) ∙ ap running_tree_of found in
           let fact = known.running (address m []) (as_running l) held in
           fact.2 ∙ ap (λ b. Some (ended b)) (sym fact.0)
 
   -- and is counted so
   pub cost_counted : (running : ℕ) → running ≡ cut_u64 (sum_by leaf_cost (leaves_from 0 leaves))
-      → cut_u64 (spent + running) ≡ cut_u64 (first_cost env.start + sum_by row_cost (map row_tree (rows_present rows)) + sum_by leaf_cost (leaves_from 0 leaves))
+      → cut_u64 (spent + running)
+      ≡ cut_u64 (first_cost env.start + sum_by row_cost (map row_tree (rows_present rows)) + sum_by leaf_cost (leaves_from 0 leaves))
   cost_counted running is =
-      cut_more spent (first_cost env.start + sum_by row_cost (rows_there rows)) running (sum_by leaf_cost (leaves_from 0 leaves)) kept.spent_is is
+      cut_more spent (first_cost env.start + sum_by row_cost (rows_there rows)) running
+      (sum_by leaf_cost (leaves_from 0 leaves)) kept.spent_is is
       ∙ ap (λ rs. cut_u64 (first_cost env.start + sum_by row_cost rs + sum_by leaf_cost (leaves_from 0 leaves))) (sym (present_there rows))

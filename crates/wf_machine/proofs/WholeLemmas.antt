@@ -1,5 +1,6 @@
 -- Where nothing is enabled any more, all rows are there.
-use Rattle.std.proofs.Common.{◌≡◌, ℕ, ◌<◌, true, List, [], length, map, Option, Some, None, is_some, slice_get, true≢false, refl, sym, ap, ◌∙◌, subst, arith}
+use Rattle.std.proofs.Common.{◌≡◌, ℕ, ◌<◌, true, List, [], length, Option, Some, None, is_some, slice_get, true≢false, refl, sym, ap}
+use Rattle.std.proofs.Common.{◌∙◌, subst, arith}
 use Rattle.wf_layers.specs.Address.{address}
 use Rattle.wf_layers.specs.Machine.{Event}
 use Rattle.wf_record.specs.declared.row.Row.{Row}
@@ -22,7 +23,8 @@ use Rattle.wf_machine.proofs.Steps.{same_state, seen_state}
 module _ (env : Environment) (actions : List ActionTree) (rows : List (Option Row)) (leaves : List (Option Leaf)) (phases : List Phase)
     (listed : List Event) (spent : ℕ) (kept : IsKept env actions rows leaves phases listed spent) (is : Instance env actions)
     (before : RowsFromBefore env actions) (over : IsOver env actions (seen_state actions rows leaves)) where
-  meant : (n : ℕ) (found : Option ActionTree) → slice_get actions n ≡ found → is_some found ≡ true → is_some (table_of env actions (address n [])) ≡ true
+  meant : (n : ℕ) (found : Option ActionTree) → slice_get actions n ≡ found → is_some found ≡ true
+      → is_some (table_of env actions (address n [])) ≡ true
   meant n None at there = absurd (true≢false (sym there))
   meant n (Some a) at there = ap is_some (before n a at (table_of env actions) (λ p b. refl))
 
@@ -30,7 +32,8 @@ module _ (env : Environment) (actions : List ActionTree) (rows : List (Option Ro
   has_row n lt =
       let there = is_there actions n (omega (arith, lt, kept.rows_size)) in
       ap is_some (whole env actions is (kept_state rows leaves) kept.reached
-      (subst (IsOver env actions) (same_state env actions rows leaves phases listed spent kept) over) (address n []) (within actions kept.ends n there))
+      (subst (IsOver env actions) (same_state env actions rows leaves phases listed spent kept) over) (address n [])
+      (within actions kept.ends n there))
       ∙ meant n (slice_get actions n) refl there
 
   pub all_there : AreAll env actions rows

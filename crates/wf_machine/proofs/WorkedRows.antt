@@ -1,13 +1,12 @@
 -- Worked rows: which events are enabled, which is picked, and what running actions cost.
-use Rattle.std.proofs.Common.{◌≡◌, ℕ, ◌%◌, List, [], ◌∷◌, length, Some, Ok, Err, codes, slice_get, refl}
+use Rattle.std.proofs.Common.{◌≡◌, ◌%◌, List, [], ◌∷◌, length, Some, Ok, Err, codes, slice_get, refl}
 use Rattle.wf_val.specs.ValueTree.{null, text}
 use Rattle.wf_val.specs.declared.fault.EvalFault.{EvalFault}
 use Rattle.wf_layers.specs.Machine.{Event, Start, End, Skip}
-use Rattle.wf_meaning.specs.Worked.{apart, chain, joined, missed}
+use Rattle.wf_meaning.specs.Worked.{apart, chain, joined}
 use Rattle.wf_record.specs.declared.status.Status.TheVariants.{Succeeded, Failed, Skipped, TimedOut, Cancelled}
 use Rattle.wf_machine.specs.Cost.{leaf_cost}
 use Rattle.wf_machine.specs.Listed.{listed_from}
-use Rattle.wf_machine.specs.declared.phase.Phase.{Phase}
 use Rattle.wf_machine.specs.declared.phase.Phase.TheVariants.{Idle, Running, Ended}
 
 -- A and B wait for nothing.

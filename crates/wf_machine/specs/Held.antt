@@ -15,7 +15,8 @@ use Rattle.wf_meaning.specs.Definition.{ActionTree}
 use Rattle.wf_answers.specs.Inputs.{InputsTree}
 use Rattle.wf_meaning.specs.Environment.{Environment, fresh}
 use Rattle.wf_trigger.specs.Starts.{StartTree}
-use Rattle.wf_machine.specs.Machine.{State, IsEnabled, IsOver, IsReached, AreEnabled, Goes, ArePartOfTheMeaning, AreTheMeaning, instance_cmp}
+use Rattle.wf_machine.specs.Machine.{State, IsEnabled, IsOver, AreEnabled, Goes}
+use Rattle.wf_machine.specs.Machine.{instance_cmp}
 
 -- A running action: its instance, what its inputs came to, and how many attempts it has made.
 pub record LeafAt : Type 0 where

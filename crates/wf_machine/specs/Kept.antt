@@ -1,5 +1,5 @@
 -- How the state of a flat graph is kept: for each action, by its number, the row that it has, and else what it runs with.
-use Rattle.std.specs.Prelude.{◌≡◌, ⊤, ℕ, suc, ◌+◌, List, [], ◌∷◌, length, Option, None, Some, map, slice_get, slice_index_or, sum_by, true}
+use Rattle.std.specs.Prelude.{◌≡◌, ⊤, ℕ, suc, ◌+◌, List, [], ◌∷◌, length, Option, None, Some, slice_get, sum_by, true}
 use Rattle.wf_val.specs.Arguments.{Answer, seen}
 use Rattle.wf_val.specs.Cut.{cut_u64}
 use Rattle.wf_val.specs.NameOrder.{IsInNameOrder}

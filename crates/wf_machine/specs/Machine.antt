@@ -1,5 +1,5 @@
 -- The event machine of wf_layers on the actions of a flat graph: its states, what is enabled in one, and which are reached.
-use Rattle.std.specs.Prelude.{◌≡◌, ℕ, List, [], ◌∷◌, Bool, Some, true}
+use Rattle.std.specs.Prelude.{◌≡◌, ℕ, List, [], Bool, Some, true}
 use Rattle.std.specs.Cmp.Lexicographic.{slice_cmp}
 use Rattle.std.specs.Ordering.{nat_cmp}
 use Rattle.std.specs.declared.cmp.Ordering.{Ordering}

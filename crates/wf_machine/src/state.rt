@@ -1,5 +1,6 @@
 //! The state of a run.
-ghost use Rattle.std.specs.Prelude.{◌≡◌, ◌<◌, ◌≤◌, ◌+◌, ◌%◌, [], None, Some, OnOk, OnErr, IfOk, length, map, option_map, replicate, set, slice_get, sum_by, true, false};
+ghost use Rattle.std.specs.Prelude.{◌≡◌, ◌<◌, ◌≤◌, ◌+◌, ◌%◌, [], None, Some, OnOk, OnErr, IfOk, true, false};
+ghost use Rattle.std.specs.Prelude.{length, map, option_map, replicate, set, slice_get, sum_by};
 ghost use Rattle.wf_val.specs.Cut.{cut_u64};
 ghost use Rattle.wf_val.specs.NameOrder.{IsInNameOrder};
 ghost use Rattle.wf_layers.specs.Address.{address};
@@ -76,7 +77,8 @@ impl<'a> Model for State<'a> {
       running = leaves_from 0 s.running.items;
     } };
 
-    ghost invariant = { λ s. IsKept (fresh (start_tree s.start.now) (inputs_tree s.inputs.now)) (map action_tree s.actions.now) s.rows.items s.running.items s.phases.items (map event_tree s.enabled) s.spent };
+    ghost invariant = { λ s. IsKept (fresh (start_tree s.start.now) (inputs_tree s.inputs.now)) (map action_tree s.actions.now)
+        s.rows.items s.running.items s.phases.items (map event_tree s.enabled) s.spent };
 }
 
 // For each action nothing yet.
@@ -165,8 +167,9 @@ fn gather(
     requires ends { all_end (map action_tree actions.now) ≡ true }
     requires all { AreAll (environment_of given.now) (map action_tree actions.now) rows.items }
     ensures rows { IfOk result (λ w. map row_tree w.rows ≡ rows_of (environment_of given.now) (map action_tree actions.now)) }
-    ensures ending { IfOk result (λ w. ending_tree w.ending
-        ≡ ending_of (map output_tree outputs.now) (environment_of given.now) (map action_tree actions.now) (table_of (environment_of given.now) (map action_tree actions.now))) }
+    ensures ending { IfOk result (λ w. let trees = map action_tree actions.now in
+        ending_tree w.ending ≡ ending_of (map output_tree outputs.now) (environment_of given.now) trees
+        (table_of (environment_of given.now) trees)) }
 {
     let status = graph_status(alloc, actions, &rows)?;
     let outputs = outputs_of(alloc, given, actions, &rows, outputs)?;
@@ -336,13 +339,14 @@ impl<'a> State<'a> {
         }
     }
 
-    /// What a run that is over leaves: its rows, which are those that the definition means, and how it ended, with what the section `outputs`
-    /// came to. A refusal spends the state.
+    /// What a run that is over leaves: its rows, which are those that the definition means, and how it ended, with what the section
+    /// `outputs` came to. A refusal spends the state.
     pub fn finish(self, alloc: Global, outputs: &[Output]) -> Result<Walked, AllocError>
         requires { Ended self }
         ensures rows { IfOk result (λ w. map row_tree w.rows ≡ rows_of (environment self.entry) self.entry.actions) }
         ensures ending { IfOk result (λ w. ending_tree w.ending
-            ≡ ending_of (map output_tree outputs.now) (environment self.entry) self.entry.actions (table_of (environment self.entry) self.entry.actions)) }
+            ≡ ending_of (map output_tree outputs.now) (environment self.entry) self.entry.actions
+            (table_of (environment self.entry) self.entry.actions)) }
     {
         a_graph_that_ends_is_an_instance();
         rows_come_from_before();

@@ -26,7 +26,8 @@ rows_there-requires c =
     (rows_ordered (environment_of c.args.given.now) trees c.requires.in_order)
 
 pub returns-clause-rows : goal.returns-clause-rows
-returns-clause-rows c = c.in_ok-rows_there.ensures ∙ rows_are (environment_of c.args.given.now) (map action_tree c.args.actions.now) c.args.rows.items c.requires.all
+returns-clause-rows c = c.in_ok-rows_there.ensures
+    ∙ rows_are (environment_of c.args.given.now) (map action_tree c.args.actions.now) c.args.rows.items c.requires.all
 
 pub returns-clause-ending : goal.returns-clause-ending
 returns-clause-ending c =
@@ -37,7 +38,8 @@ returns-clause-ending c =
     λ n lt. known_is env trees rows c.requires.all n lt in
     let status : c.in_ok-status.status ≡ graph_status trees (known_of rows) = rw c.deref.ensures.value at c.in_ok-status.ensures in
     let outputs : c.in_ok-outputs.outputs ≡ section (told_to_outputs env trees (known_of rows)) (map output_tree c.args.outputs.now) =
-    subst (λ (rs : List (Option Row)). c.in_ok-outputs.outputs ≡ section (told_to_outputs env trees (known_of rs)) (map output_tree c.args.outputs.now))
+    subst (λ (rs : List (Option Row)). c.in_ok-outputs.outputs
+    ≡ section (told_to_outputs env trees (known_of rs)) (map output_tree c.args.outputs.now))
     c.deref-2.ensures.value c.in_ok-outputs.ensures in
     c.in_ok-run_ending.ensures
     ∙ (ap (λ s. ending s c.in_ok-outputs.outputs) (status ∙ status_same trees c.requires.ends (known_of rows) (table_of env trees) at)

@@ -1,11 +1,9 @@
-use Rattle.std.proofs.Common.{map, sym, subst, sum_by, ◌≡◌}
-use Rattle.wf_val.specs.Cut.{cut_u64}
+use Rattle.std.proofs.Common.{map, sym, subst}
 use Rattle.wf_answers.specs.InputsSeen.{inputs_tree}
 use Rattle.wf_meaning.specs.Environment.{fresh}
 use Rattle.wf_trigger.specs.StartsSeen.{start_tree}
 use Rattle.wf_walk.specs.Seen.{action_tree}
-use Rattle.wf_machine.specs.Cost.{leaf_cost}
-use Rattle.wf_machine.specs.Kept.{ArePriced, leaves_from}
+use Rattle.wf_machine.specs.Kept.{ArePriced}
 use Rattle.wf_machine.proofs.Steps.{cost_bound, cost_counted}
 use Rattle.wf_machine.proofs.state.State.cost.Goals as goal
 

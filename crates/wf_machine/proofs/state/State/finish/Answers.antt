@@ -28,4 +28,5 @@ gather-requires c =
 pub returns-clause-ending : goal.returns-clause-ending
 returns-clause-ending c =
     subst (λ (h : Held). IfOk c.gather.result (λ (w : Walked). ending_tree w.ending
-    ≡ ending_of (map output_tree c.args.outputs.now) (environment h) h.actions (table_of (environment h) h.actions))) c.self.view_is c.gather.ensures.ending
+    ≡ ending_of (map output_tree c.args.outputs.now) (environment h) h.actions
+    (table_of (environment h) h.actions))) c.self.view_is c.gather.ensures.ending

@@ -1,8 +1,5 @@
-use Rattle.std.proofs.Common.{map, ap, length, refl, ◌∙◌}
+use Rattle.std.proofs.Common.{ap, length, ◌∙◌}
 use Rattle.std.proofs.lemmas.List.{length-map}
-use Rattle.wf_answers.specs.InputsSeen.{inputs_tree}
-use Rattle.wf_meaning.specs.Environment.{fresh}
-use Rattle.wf_trigger.specs.StartsSeen.{start_tree}
 use Rattle.wf_walk.specs.Seen.{action_tree}
 use Rattle.wf_machine.specs.Kept.{leaves_from, rows_present}
 use Rattle.wf_machine.proofs.KeptLemmas.{no_leaves, none_present}
@@ -11,8 +8,10 @@ use Rattle.wf_machine.proofs.state.State.fresh.Goals as goal
 
 pub invariant_of-result : goal.invariant_of-result
 invariant_of-result c =
-    fresh_kept _ _ _ _ _ _ _ (length c.args.actions.now) (length-map c.args.actions.now action_tree) c.requires.in_order c.requires.ends c.requires.before
-    c.in_ok-rows.ensures c.in_ok-running.ensures c.in_ok-phases.ensures (rw c.deref.ensures.value at c.in_ok-enabled.ensures) c.first_cost.ensures
+    fresh_kept _ _ _ _ _ _ _ (length c.args.actions.now)
+    (length-map c.args.actions.now action_tree) c.requires.in_order c.requires.ends c.requires.before
+    c.in_ok-rows.ensures c.in_ok-running.ensures c.in_ok-phases.ensures
+    (rw c.deref.ensures.value at c.in_ok-enabled.ensures) c.first_cost.ensures
 
 pub returns-clause-new : goal.returns-clause-new
 returns-clause-new c = record {

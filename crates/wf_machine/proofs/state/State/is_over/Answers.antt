@@ -20,6 +20,8 @@ returns c =
     let are = all_enabled _ _ _ _ _ _ _ c.self.invariant in
     let same = length-map s.enabled event_tree in
     rw (← c.self.view_is) (record {
-      over = λ e. over_by env trees is (seen_state trees s.rows.items s.running.items) reached listed are (ap (λ n. nat_eq n 0) (same ∙ sym c.len.ensures.count) ∙ e);
-      going = λ e. not_over env trees is (seen_state trees s.rows.items s.running.items) reached listed are (ap (λ n. nat_eq n 0) (same ∙ sym c.len.ensures.count) ∙ e);
+      over = λ e. over_by env trees is (seen_state trees s.rows.items s.running.items) reached listed are (ap (λ n. nat_eq n 0) (same
+          ∙ sym c.len.ensures.count) ∙ e);
+      going = λ e. not_over env trees is (seen_state trees s.rows.items s.running.items) reached listed are (ap (λ n. nat_eq n 0) (same
+          ∙ sym c.len.ensures.count) ∙ e);
     })

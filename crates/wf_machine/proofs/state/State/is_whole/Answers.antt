@@ -15,4 +15,5 @@ returns c =
     let is = c.a_graph_that_ends_is_an_instance.ensures env trees c.self.invariant.ends c.self.invariant.before in
     let before = c.rows_come_from_before.ensures env trees c.self.invariant.ends c.self.invariant.before in
     let over = rw (← c.self.view_is) at c.requires in
-    rw (← c.self.view_is) (present_there s.rows.items ∙ whole_rows env trees s.rows.items s.running.items _ _ _ c.self.invariant is before over)
+    rw (← c.self.view_is) (present_there s.rows.items
+    ∙ whole_rows env trees s.rows.items s.running.items _ _ _ c.self.invariant is before over)

@@ -1,4 +1,4 @@
-use Rattle.std.proofs.Common.{map, sym, subst, length, slice_get, Some, ◌%◌, ◌<◌, ◌≡◌, arith}
+use Rattle.std.proofs.Common.{map, sym, subst, length, slice_get, Some, ◌%◌, ◌≡◌, arith}
 use Rattle.std.proofs.lemmas.List.{length-map}
 use Rattle.wf_answers.specs.InputsSeen.{inputs_tree}
 use Rattle.wf_meaning.specs.Environment.{fresh}
@@ -37,6 +37,7 @@ returns c =
     (get_seen event_tree s.enabled (c.args.place % length s.enabled) c.event_at.result c.event_at.ensures) in
     rw (← c.self.view_is) (record {
       picked = record { listed = listed; enabled = are; some = some; picked = at };
-      enabled = listed_enabled env trees is (seen_state trees s.rows.items s.running.items) (is_reached _ _ _ _ _ _ _ c.self.invariant) listed are
+      enabled = listed_enabled env trees is (seen_state trees s.rows.items s.running.items)
+          (is_reached _ _ _ _ _ _ _ c.self.invariant) listed are
           (c.args.place % length listed) (event_tree c.event_at.result) at;
     })

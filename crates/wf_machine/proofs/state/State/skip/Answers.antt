@@ -1,4 +1,4 @@
-use Rattle.std.proofs.Common.{map, sym, ap, subst, length, refl, set, slice_get, Some, None, [], ◌∙◌, ◌≡◌, ◌<◌, ◌+◌, ◌*◌, arith}
+use Rattle.std.proofs.Common.{map, sym, ap, subst, length, refl, set, slice_get, Some, [], ◌∙◌, ◌≡◌, ◌<◌, ◌+◌, ◌*◌, arith}
 use Rattle.std.proofs.lemmas.List.{length-map}
 use Rattle.wf_val.specs.Cut.{cut_u64}
 use Rattle.wf_layers.specs.Machine.{Skip}
@@ -8,7 +8,6 @@ use Rattle.wf_trigger.specs.StartsSeen.{start_tree}
 use Rattle.wf_walk.specs.Seen.{action_tree}
 use Rattle.wf_record.specs.Cost.{row_cost}
 use Rattle.wf_record.specs.Seen.{row_tree}
-use Rattle.wf_walk.specs.Seen.{row_at}
 use Rattle.wf_machine.specs.Kept.{IsKept, leaves_from, rows_present}
 use Rattle.wf_machine.specs.Machine.{Goes}
 use Rattle.wf_machine.specs.Seen.{event_tree}
@@ -52,7 +51,8 @@ invariant_of-self c =
     let may = rw (← c.self.view_is) at c.requires in
     let listed = map event_tree c.in_ok-enabled.enabled in
     let a = action_tree c.action_at-entry.result.now in
-    let found : slice_get trees c.args.action ≡ Some a = get_seen action_tree s.actions.now c.args.action c.action_at-entry.result.now c.action_at-entry.ensures in
+    let found : slice_get trees c.args.action
+    ≡ Some a = get_seen action_tree s.actions.now c.args.action c.action_at-entry.result.now c.action_at-entry.ensures in
     let size = c.self.invariant.leaves_size in
     let lt = skips_within _ _ _ _ _ _ _ c.self.invariant c.args.action may in
     let within : c.args.action < length trees = omega (arith, lt, size) in
@@ -63,9 +63,14 @@ invariant_of-self c =
     let listed_is = rw c.deref-2.ensures.value at c.in_ok-enabled.ensures in
     let spent : c.sum-self-inside.result ≡ cut_u64 (s.spent + cut_u64 (row_cost (row_tree c.in_ok-row.row))) =
     c.sum-self-inside.ensures ∙ ap (λ n. cut_u64 (s.spent + n)) c.row_cost.ensures in
-    subst (λ rs. IsKept env trees rs c.put-2.new.items.items c.in_ok-phases.phases.items listed c.sum-self-inside.result) (sym c.put.ensures)
-    (subst (λ ls. IsKept env trees (set s.rows.items c.args.action (Some c.in_ok-row.row)) ls c.in_ok-phases.phases.items listed c.sum-self-inside.result) (sym c.put-2.ensures)
-    (row_kept _ _ _ _ _ _ _ c.self.invariant c.args.action a c.in_ok-row.row (Skip c.args.action []) c.in_ok-phases.phases.items listed c.sum-self-inside.result found within empty named goes phased listed_is spent))
+    subst (λ rs. IsKept env trees rs c.put-2.new.items.items c.in_ok-phases.phases.items listed c.sum-self-inside.result)
+    (sym c.put.ensures)
+    (subst (λ ls. IsKept env trees
+    (set s.rows.items c.args.action (Some c.in_ok-row.row)) ls c.in_ok-phases.phases.items listed c.sum-self-inside.result)
+    (sym c.put-2.ensures)
+    (row_kept _ _ _ _ _ _ _ c.self.invariant c.args.action a c.in_ok-row.row
+    (Skip c.args.action []) c.in_ok-phases.phases.items listed c.sum-self-inside.result found within empty named goes phased listed_is
+    spent))
 
 pub returns-clause-ok : goal.returns-clause-ok
 returns-clause-ok c =
@@ -75,7 +80,8 @@ returns-clause-ok c =
     let may = rw (← c.self.view_is) at c.requires in
     let listed = map event_tree c.in_ok-enabled.enabled in
     let a = action_tree c.action_at-entry.result.now in
-    let found : slice_get trees c.args.action ≡ Some a = get_seen action_tree s.actions.now c.args.action c.action_at-entry.result.now c.action_at-entry.ensures in
+    let found : slice_get trees c.args.action
+    ≡ Some a = get_seen action_tree s.actions.now c.args.action c.action_at-entry.result.now c.action_at-entry.ensures in
     let size = c.self.invariant.leaves_size in
     let lt = skips_within _ _ _ _ _ _ _ c.self.invariant c.args.action may in
     let within : c.args.action < length trees = omega (arith, lt, size) in
@@ -90,10 +96,13 @@ returns-clause-ok c =
       actions = refl;
       start = refl;
       inputs = refl;
-      goes = subst (λ rs. Goes env trees (seen_state trees s.rows.items s.running.items) (Skip c.args.action []) (seen_state trees rs c.put-2.new.items.items)) (sym c.put.ensures)
+      goes = subst (λ rs. Goes env trees (seen_state trees s.rows.items s.running.items) (Skip c.args.action [])
+          (seen_state trees rs c.put-2.new.items.items)) (sym c.put.ensures)
           (subst (λ ls. Goes env trees (seen_state trees s.rows.items s.running.items) (Skip c.args.action [])
           (seen_state trees (set s.rows.items c.args.action (Some c.in_ok-row.row)) ls)) (sym c.put-2.ensures)
-          (row_follows _ _ _ _ _ _ _ c.self.invariant c.args.action a c.in_ok-row.row (Skip c.args.action []) c.in_ok-phases.phases.items listed c.sum-self-inside.result found within empty named goes phased listed_is spent));
+          (row_follows _ _ _ _ _ _ _ c.self.invariant c.args.action a c.in_ok-row.row
+          (Skip c.args.action []) c.in_ok-phases.phases.items listed c.sum-self-inside.result found within empty named goes phased
+          listed_is spent));
     })
 
 pub returns-clause-more : goal.returns-clause-more
@@ -104,7 +113,8 @@ returns-clause-more c =
     let may = rw (← c.self.view_is) at c.requires in
     let listed = map event_tree c.in_ok-enabled.enabled in
     let a = action_tree c.action_at-entry.result.now in
-    let found : slice_get trees c.args.action ≡ Some a = get_seen action_tree s.actions.now c.args.action c.action_at-entry.result.now c.action_at-entry.ensures in
+    let found : slice_get trees c.args.action
+    ≡ Some a = get_seen action_tree s.actions.now c.args.action c.action_at-entry.result.now c.action_at-entry.ensures in
     let size = c.self.invariant.leaves_size in
     let lt = skips_within _ _ _ _ _ _ _ c.self.invariant c.args.action may in
     let within : c.args.action < length trees = omega (arith, lt, size) in
@@ -115,8 +125,11 @@ returns-clause-more c =
     let listed_is = rw c.deref-2.ensures.value at c.in_ok-enabled.ensures in
     let spent : c.sum-self-inside.result ≡ cut_u64 (s.spent + cut_u64 (row_cost (row_tree c.in_ok-row.row))) =
     c.sum-self-inside.ensures ∙ ap (λ n. cut_u64 (s.spent + n)) c.row_cost.ensures in
-    let more = row_more _ _ _ _ _ _ _ c.self.invariant c.args.action a c.in_ok-row.row (Skip c.args.action []) c.in_ok-phases.phases.items listed c.sum-self-inside.result found within empty named goes phased listed_is spent in
+    let more = row_more _ _ _ _ _ _ _ c.self.invariant c.args.action a c.in_ok-row.row
+    (Skip c.args.action []) c.in_ok-phases.phases.items listed c.sum-self-inside.result found within empty named goes phased listed_is
+    spent in
     rw (← c.self.view_is) (subst (λ rs. 2 * length (rows_present s.rows.items) + length (leaves_from 0 s.running.items)
     < 2 * length (rows_present rs) + length (leaves_from 0 c.put-2.new.items.items)) (sym c.put.ensures)
     (subst (λ ls. 2 * length (rows_present s.rows.items) + length (leaves_from 0 s.running.items)
-    < 2 * length (rows_present (set s.rows.items c.args.action (Some c.in_ok-row.row))) + length (leaves_from 0 ls)) (sym c.put-2.ensures) more))
+    < 2 * length (rows_present (set s.rows.items c.args.action (Some c.in_ok-row.row))) + length (leaves_from 0 ls))
+    (sym c.put-2.ensures) more))

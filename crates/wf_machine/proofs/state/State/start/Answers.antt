@@ -1,4 +1,4 @@
-use Rattle.std.proofs.Common.{map, sym, ap, subst, length, refl, set, slice_get, Some, [], ◌∙◌, ◌≡◌, ◌<◌, ◌+◌, ◌*◌, arith}
+use Rattle.std.proofs.Common.{map, sym, ap, subst, length, refl, slice_get, [], ◌∙◌, ◌≡◌, ◌<◌, ◌+◌, ◌*◌, arith}
 use Rattle.std.proofs.lemmas.List.{length-map}
 use Rattle.wf_val.specs.Arguments.{seen}
 use Rattle.wf_layers.specs.Machine.{Start}
@@ -45,11 +45,13 @@ invariant_of-self c =
     let gives : seen c.new.result.begun ≡ begun env trees (known_of s.rows.items) (slice_get trees c.args.action) =
     ap seen c.new.ensures.begun
     ∙ (rw c.deref.ensures.value at c.in_ok-begun.ensures
-    ∙ ap (begun env trees (known_of s.rows.items)) (sym (get_seen action_tree s.actions.now c.args.action c.action_at-entry.result.now c.action_at-entry.ensures))) in
+    ∙ ap (begun env trees (known_of s.rows.items))
+    (sym (get_seen action_tree s.actions.now c.args.action c.action_at-entry.result.now c.action_at-entry.ensures))) in
     let phased = rw c.deref-2.ensures.value at c.in_ok-phases.ensures in
     let listed_is = rw c.deref-3.ensures.value at c.in_ok-enabled.ensures in
     subst (λ ls. IsKept env trees s.rows.items ls c.in_ok-phases.phases.items listed s.spent) (sym c.put.ensures)
-    (start_kept _ _ _ _ _ _ _ c.self.invariant c.args.action c.new.result c.in_ok-phases.phases.items listed may gives c.new.ensures.cost phased listed_is)
+    (start_kept _ _ _ _ _ _ _ c.self.invariant c.args.action c.new.result c.in_ok-phases.phases.items listed may gives c.new.ensures.cost
+    phased listed_is)
 
 pub returns-clause-ok : goal.returns-clause-ok
 returns-clause-ok c =
@@ -61,15 +63,18 @@ returns-clause-ok c =
     let gives : seen c.new.result.begun ≡ begun env trees (known_of s.rows.items) (slice_get trees c.args.action) =
     ap seen c.new.ensures.begun
     ∙ (rw c.deref.ensures.value at c.in_ok-begun.ensures
-    ∙ ap (begun env trees (known_of s.rows.items)) (sym (get_seen action_tree s.actions.now c.args.action c.action_at-entry.result.now c.action_at-entry.ensures))) in
+    ∙ ap (begun env trees (known_of s.rows.items))
+    (sym (get_seen action_tree s.actions.now c.args.action c.action_at-entry.result.now c.action_at-entry.ensures))) in
     let phased = rw c.deref-2.ensures.value at c.in_ok-phases.ensures in
     let listed_is = rw c.deref-3.ensures.value at c.in_ok-enabled.ensures in
     rw (← c.self.view_is) (record {
       actions = refl;
       start = refl;
       inputs = refl;
-      goes = subst (λ ls. Goes env trees (seen_state trees s.rows.items s.running.items) (Start c.args.action []) (seen_state trees s.rows.items ls)) (sym c.put.ensures)
-          (start_follows _ _ _ _ _ _ _ c.self.invariant c.args.action c.new.result c.in_ok-phases.phases.items listed may gives c.new.ensures.cost phased listed_is);
+      goes = subst (λ ls. Goes env trees (seen_state trees s.rows.items s.running.items) (Start c.args.action [])
+          (seen_state trees s.rows.items ls)) (sym c.put.ensures)
+          (start_follows _ _ _ _ _ _ _ c.self.invariant c.args.action c.new.result c.in_ok-phases.phases.items listed may gives
+          c.new.ensures.cost phased listed_is);
     })
 
 pub returns-clause-more : goal.returns-clause-more
@@ -82,9 +87,12 @@ returns-clause-more c =
     let gives : seen c.new.result.begun ≡ begun env trees (known_of s.rows.items) (slice_get trees c.args.action) =
     ap seen c.new.ensures.begun
     ∙ (rw c.deref.ensures.value at c.in_ok-begun.ensures
-    ∙ ap (begun env trees (known_of s.rows.items)) (sym (get_seen action_tree s.actions.now c.args.action c.action_at-entry.result.now c.action_at-entry.ensures))) in
+    ∙ ap (begun env trees (known_of s.rows.items))
+    (sym (get_seen action_tree s.actions.now c.args.action c.action_at-entry.result.now c.action_at-entry.ensures))) in
     let phased = rw c.deref-2.ensures.value at c.in_ok-phases.ensures in
     let listed_is = rw c.deref-3.ensures.value at c.in_ok-enabled.ensures in
-    let more = start_more _ _ _ _ _ _ _ c.self.invariant c.args.action c.new.result c.in_ok-phases.phases.items listed may gives c.new.ensures.cost phased listed_is in
-    rw (← c.self.view_is) (subst (λ ls. 2 * length (rows_present s.rows.items) + length (leaves_from 0 s.running.items) < 2 * length (rows_present s.rows.items) + length (leaves_from 0 ls))
+    let more = start_more _ _ _ _ _ _ _ c.self.invariant c.args.action c.new.result c.in_ok-phases.phases.items listed may gives
+    c.new.ensures.cost phased listed_is in
+    rw (← c.self.view_is) (subst (λ ls. 2 * length (rows_present s.rows.items) + length (leaves_from 0 s.running.items) < 2 * length
+    (rows_present s.rows.items) + length (leaves_from 0 ls))
     (sym c.put.ensures) more)

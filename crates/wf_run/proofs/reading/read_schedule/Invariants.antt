@@ -1,0 +1,14 @@
+use Rattle.std.proofs.Common.{◌≡◌, ◌+◌, ◌≤◌, length}
+use Rattle.wf_run.specs.Reading.{behind}
+use Rattle.wf_run.specs.Schedule.{lines_of, numbers_from, schedule_of}
+use Rattle.wf_run.proofs.reading.read_schedule.Given as goal
+
+-- the lines that are left, behind the numbers so far, are the whole
+abbrev pub invariant-loop-rest : goal.invariant-loop-rest
+invariant-loop-rest l = record {
+  all : behind l.schedule (numbers_from l.line (lines_of l.rest)) ≡ schedule_of l.bytes;
+  few : l.line + length l.rest ≤ 1 + length l.bytes;
+}
+
+abbrev pub decreases-loop-rest : goal.decreases-loop-rest
+decreases-loop-rest l = length l.rest

@@ -1,0 +1,115 @@
+//! Driving a run to its end.
+ghost use Rattle.std.specs.Prelude.{◌≡◌, ◌≢◌, ◌+◌, ◌*◌, ◌<◌, ◌≤◌, IfErr, IfOk, OnOk, false, map, slice_index_or, true};
+ghost use Rattle.wf_meaning.specs.Meaning.{rows_of};
+ghost use Rattle.wf_record.specs.Seen.{row_tree};
+ghost use Rattle.wf_machine.specs.Cost.{cost, most_events, rows_cost};
+ghost use Rattle.wf_machine.specs.Held.{Ended, IsNew, environment};
+ghost use Rattle.wf_run.specs.Limit.{most_cost};
+ghost use Rattle.wf_run.specs.Turns.{After, Turn};
+
+use std::alloc::{AllocError, Global};
+use wf_machine::State;
+use wf_val::Schedule;
+
+/// How a run went: its last state, how many events it had, and how many actions were running at a time at most.
+#[derive(Drop)]
+pub struct Driven<'a> {
+    pub state: State<'a>,
+    pub steps: u64,
+    pub peak: u64,
+}
+
+/// Why a run wasn't driven to its end.
+#[derive(Debug, Drop)]
+pub enum DriveFault {
+    /// It costs too much.
+    TooLarge,
+    /// Memory ran out.
+    Memory,
+}
+
+impl From<AllocError> for DriveFault {
+    ghost use Rattle.std.specs.Prelude.{◌≡◌};
+    ghost use Rattle.wf_run.specs.declared.driving.DriveFault.{DriveFault};
+
+    ghost from_gives = { λ _ e. e ≡ DriveFault.Memory };
+
+    fn from(_error: AllocError) -> DriveFault {
+        DriveFault::Memory
+    }
+}
+
+// The schedule's number for a turn, or 0 after its end.
+fn place_in(schedule: &Schedule, turn: u64) -> u64
+    ensures { result ≡ slice_index_or schedule.now turn 0 }
+{
+    match schedule.as_slice().get(turn as usize) {
+        Some(place) => *place as u64,
+        None => 0,
+    }
+}
+
+// Whether a run has cost too much so far, where others cost `spent`.
+fn is_too_large(state: &State, spent: u64) -> bool
+    requires { spent ≤ most_cost }
+    ensures large { result ≡ true → most_cost < spent + rows_cost (environment state.now) state.now.actions }
+    ensures small { result ≡ false → spent + cost state.now ≤ most_cost }
+{
+    state.cost() > 67108864 - spent
+}
+
+// One turn, where the run hasn't cost too much so far.
+fn turn(
+    alloc: Global,
+    state: &mut State,
+    schedule: &Schedule,
+    steps: u64,
+    spent: u64,
+) -> Result<(), DriveFault>
+    requires going { Ended state.old → ⊥ }
+    requires spent { spent ≤ most_cost }
+    ensures turn { OnOk result (Turn schedule.now steps state.old state.new) }
+    ensures more { OnOk result (most_events state.old < most_events state.new) }
+    ensures small { OnOk result (spent + cost state.old ≤ most_cost) }
+    ensures large { IfErr result (λ f. f ≢ DriveFault.Memory → most_cost < spent + rows_cost (environment state.old) state.old.actions) }
+{
+    if is_too_large(state, spent) {
+        return Err(DriveFault::TooLarge);
+    }
+    let event = state.pick(place_in(schedule, steps));
+    state.step(alloc, event)?;
+    Ok(())
+}
+
+/// Runs on until nothing is enabled, where other runs have cost `spent`. Without the section `outputs` a run costs what its rows cost that
+/// the definition means, whatever the schedule; where that is too much with what others cost, no run is given.
+pub fn drive<'a>(
+    alloc: Global,
+    state: State<'a>,
+    schedule: &Schedule,
+    spent: u64,
+) -> Result<Driven<'a>, DriveFault>
+    requires new { IsNew state }
+    requires spent { spent ≤ most_cost }
+    ensures turns { IfOk result (λ d. After schedule.now state.entry d.steps d.peak d.state) }
+    ensures over { IfOk result (λ d. Ended d.state) }
+    ensures rows { IfOk result (λ d. map row_tree d.state.rows ≡ rows_of (environment state.entry) state.entry.actions) }
+    ensures few { IfOk result (λ d. 64 + 32 * d.steps ≤ cost d.state) }
+    ensures small { IfOk result (λ d. spent + rows_cost (environment state.entry) state.entry.actions ≤ most_cost) }
+    ensures large { IfErr result (λ f. f ≢ DriveFault.Memory
+        → most_cost < spent + rows_cost (environment state.entry) state.entry.actions) }
+{
+    let mut state = state;
+    let mut steps: u64 = 0;
+    let mut peak: u64 = 0;
+    while !state.is_over() {
+        turn(alloc, &mut state, schedule, steps, spent)?;
+        peak = peak.max(state.running() as u64);
+        steps += 1;
+    }
+    if is_too_large(&state, spent) {
+        return Err(DriveFault::TooLarge);
+    }
+    state.is_whole();
+    Ok(Driven { state, steps, peak })
+}

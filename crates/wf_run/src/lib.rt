@@ -1,0 +1,17 @@
+//! Runs under a schedule: which of the events that are enabled comes next, again and again, until none is enabled.
+//!
+//! A schedule is a list of numbers, and turn k takes the enabled event at the place that its number k names, counted around; after the
+//! schedule's end each turn takes the first (`specs/Turns`). `read_schedule` reads one from a file that has a number on each line
+//! (`specs/Schedule`). `drive` runs a new state of `wf_machine` on to its end, counts its events, and how many actions were running at a
+//! time at most. It gives up where the run costs too much, and says so exactly then.
+//!
+//! That the rows don't depend on the schedule is said by the machine below; this crate makes no row.
+#![tactic(auto)]
+
+mod driving;
+mod fault;
+mod reading;
+
+pub use driving::{DriveFault, Driven, drive};
+pub use fault::ScheduleFault;
+pub use reading::read_schedule;
