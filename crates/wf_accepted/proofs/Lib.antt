@@ -1,3 +1,4 @@
 mod ActionLemmas
 mod SeenLemmas
 mod RoundLemmas
+mod InstanceLemmas

@@ -9,6 +9,7 @@
 
 ghost use Rattle.std.specs.Prelude.{◌≡◌, None, map};
 ghost use Rattle.std.specs.List.{AllByRecursion};
+ghost use Rattle.wf_accepted.specs.Instances.{InstancesAreSeen};
 ghost use Rattle.wf_accepted.specs.Seen.{AreSeen};
 ghost use Rattle.wf_def.specs.ActionTree.{ActionTrees, action_number};
 ghost use Rattle.wf_def.specs.DefTree.{DefTree};
@@ -40,5 +41,18 @@ pub fn references_are_seen()
     wf_order::order_is_exact();
     wf_known::numbers_are_had();
     wf_known::numbers_are_below();
+    wf_known::entries_stay_in_their_graph();
+}
+
+/// So the instance in which an expression is evaluated sees each row that the expression asks for, at every address: those of the action
+/// that it names, and of what stands inside that, with the same indexes in the loops round both. Only the expression of an Until looks at
+/// more, the rows of the Until's own iterations.
+pub fn what_is_named_is_seen()
+    ensures { (d : DefTree) → IsRead d → broken_of d ≡ None → InstancesAreSeen d }
+{
+    references_are_seen();
+    wf_order::what_is_before_is_seen();
+    wf_order::what_stands_inside_goes_along();
+    wf_known::numbers_stand_once();
     wf_known::entries_stay_in_their_graph();
 }
