@@ -2,3 +2,4 @@ mod ActionLemmas
 mod SeenLemmas
 mod RoundLemmas
 mod InstanceLemmas
+mod LoopLemmas

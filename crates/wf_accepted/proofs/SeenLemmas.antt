@@ -21,7 +21,7 @@ use Rattle.wf_accepted.specs.Seen.{AreSeen, IsNamedAt, IsSeenFrom, IsSiteOf, at_
 
 -- ---- truth values
 
-two : (b : Bool) → (b ≡ true) ⊎ (b ≡ false)
+pub two : (b : Bool) → (b ≡ true) ⊎ (b ≡ false)
 two true = inl refl
 two false = inr refl
 
@@ -33,17 +33,17 @@ pub none-second : (b c : Bool) → (b || c) ≡ false → c ≡ false
 none-second true c is = absurd (true≢false is)
 none-second false c is = is
 
-either : (b c : Bool) → (b || c) ≡ true → (b ≡ true) ⊎ (c ≡ true)
+pub either : (b c : Bool) → (b || c) ≡ true → (b ≡ true) ⊎ (c ≡ true)
 either true c is = inl refl
 either false c is = inr is
 
-both : (b c : Bool) → (b && c) ≡ true → (b ≡ true) × (c ≡ true)
+pub both : (b c : Bool) → (b && c) ≡ true → (b ≡ true) × (c ≡ true)
 both true c is = (refl, is)
 both false c is = absurd (true≢false (sym is))
 
 -- ---- lists
 
-none-told : {X : Type 0} (broken : X → Bool) (pointer : X → List ℕ) (xs : List X) → told broken pointer xs ≡ []
+pub none-told : {X : Type 0} (broken : X → Bool) (pointer : X → List ℕ) (xs : List X) → told broken pointer xs ≡ []
     → AllByRecursion (λ x. broken x ≡ false) xs
 none-told broken pointer [] none = tt
 none-told broken pointer (x ∷ xs) none = (
@@ -55,7 +55,7 @@ none-told broken pointer (x ∷ xs) none = (
     here true is = absurd (cc)
     here false is = refl
 
-none-of : (test : List ℕ → Bool) (k : List ℕ) (xs : List (List ℕ)) → list_any test xs ≡ false → list_any (bytes_eq k) xs ≡ true
+pub none-of : (test : List ℕ → Bool) (k : List ℕ) (xs : List (List ℕ)) → list_any test xs ≡ false → list_any (bytes_eq k) xs ≡ true
     → test k ≡ false
 none-of test k [] none among = absurd (true≢false (sym among))
 none-of test k (x ∷ xs) none among = elim (two (bytes_eq k x)) [

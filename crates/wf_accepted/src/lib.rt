@@ -10,6 +10,7 @@
 ghost use Rattle.std.specs.Prelude.{◌≡◌, None, map};
 ghost use Rattle.std.specs.List.{AllByRecursion};
 ghost use Rattle.wf_accepted.specs.Instances.{InstancesAreSeen};
+ghost use Rattle.wf_accepted.specs.Loops.{AllAskLoopsRound};
 ghost use Rattle.wf_accepted.specs.Seen.{AreSeen};
 ghost use Rattle.wf_def.specs.ActionTree.{ActionTrees, action_number};
 ghost use Rattle.wf_def.specs.DefTree.{DefTree};
@@ -55,4 +56,14 @@ pub fn what_is_named_is_seen()
     wf_order::what_stands_inside_goes_along();
     wf_known::numbers_stand_once();
     wf_known::entries_stay_in_their_graph();
+}
+
+/// `items` names a Foreach round the place where it stands, `iterationIndexes` an Until round it, and `item` stands in a Foreach or is the
+/// item of a Select or a Query: so a run has the item and the index.
+pub fn loops_asked_of_are_round()
+    ensures { (d : DefTree) → IsRead d → broken_of d ≡ None → AllAskLoopsRound d }
+{
+    wf_rules::the_first_broken_rule();
+    wf_known::numbers_stand_once();
+    containers_are_those_of_the_order();
 }
