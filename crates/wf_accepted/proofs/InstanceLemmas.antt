@@ -1,6 +1,5 @@
 -- What is before an action, and what stands inside that, is seen by its instances.
 use Rattle.std.proofs.Common.{◌≡◌, ℕ, true, List, ◌⊎◌, inl, inr}
-use Rattle.std.specs.List.{AllByRecursion}
 use Rattle.wf_layers.specs.Address.{Address, SeenIn, address}
 use Rattle.wf_def.specs.DefTree.{DefTree}
 use Rattle.wf_def.specs.Layered.{layered}

@@ -8,7 +8,7 @@ use Rattle.wf_layers.specs.Definition.{Graph}
 use Rattle.wf_def.specs.ActionTree.{ActionTree, KindTree, action_kind, action_name, action_number}
 use Rattle.wf_def.specs.DefTree.{DefTree}
 use Rattle.wf_def.specs.Layered.{layered}
-use Rattle.wf_order.specs.Order.{Among, Contains, around}
+use Rattle.wf_order.specs.Order.{Among, around}
 use Rattle.wf_paths.proofs.PathLemmas.{and_both}
 use Rattle.wf_reading.proofs.PartLemmas.{equal_keys}
 use Rattle.wf_reading.proofs.RunAfterLemmas.{append-first}
@@ -146,9 +146,6 @@ module _ (g : Graph) (s : StandingTree) (site : Site) (known : Known g s) where
         record { one = s.action; there = inl refl; round = inr (parts.0, refl); is = parts.1 }
   ]
 
-  abbrev has_number : ℕ → ActionTree → Bool
-  has_number n r = nat_eq (action_number r) n
-
   numbered-round : (n : ℕ) → is_inside site (Some s) (λ r. nat_eq (action_number r) n) ≡ true → IsRound g s site n
   numbered-round n is =
       let found = inside (λ r. nat_eq (action_number r) n) is in
@@ -202,3 +199,81 @@ all-ask d known none =
     (λ s. (site : Site) → IsSiteOf s site → (u : UsesTree) → uses_of d site ≡ Some u → AsksLoopsRound (layered d.top) s site u)
     (standings_of d.top) (λ s h site of u there. asks (layered d.top) s site h.0 u (h.1 site of u there))
     (all-both (Known (layered d.top)) (HoldsAt d Rule.Items) (standings_of d.top) known (all-hold d Rule.Items none))
+
+-- ---- loops that a reference leaves
+
+module _ (d : DefTree) (s : StandingTree) (site : Site) (known : Known (layered d.top) s) where
+  abbrev is_inner : ActionTree → Bool
+  is_inner c = is_inside site (Some s) (λ r. nat_eq (action_number r) (action_number c))
+
+  is-round : (c : ActionTree) → is_inner c ≡ true → IsRound (layered d.top) s site (action_number c)
+  is-round c is = numbered-round (layered d.top) s site known (action_number c) is
+
+  left : (c : ActionTree) → is_loop (action_kind c) ≡ true → is_inner c ≡ false → is_left site (Some s) c ≡ true
+  left c loop out = and_both (is_loop (action_kind c)) (not (is_inner c)) loop (ap not out)
+
+  leaves-one : (x : StandingTree) → nat_lt 1 (loops_left site (Some s) x) ≡ false → LeavesOne (layered d.top) s site x
+  leaves-one x few = λ b c one other loop_b loop_c. elim (two (is_inner b)) [
+    | inl in_b ↦ inl (is-round b in_b)
+    | inr out_b ↦ elim (two (is_inner c)) [
+      | inl in_c ↦ inr (inl (is-round c in_c))
+      | inr out_c ↦
+          inr (inr (at-most-one (is_left site (Some s)) x.round (ltb-false 1 (loops_left site (Some s) x) few) b c one other
+          (left b loop_b out_b) (left c loop_c out_c)))
+    ]
+  ]
+
+  leaves-none : (x : StandingTree) → nat_lt 0 (loops_left site (Some s) x) ≡ false → LeavesNone (layered d.top) s site x
+  leaves-none x none = λ c one loop. elim (two (is_inner c)) [
+    | inl in_c ↦ is-round c in_c
+    | inr out_c ↦
+        let few = ltb-false 0 (loops_left site (Some s) x) none in
+        let some = counted (is_left site (Some s)) x.round c one (left c loop out_c) in
+        absurd (omega (arith, few, some))
+  ]
+
+  module _ (u : UsesTree) (fine : leaves_loops (whole_of d) site (Some s) u ≡ false) where
+    abbrev leaves : List ℕ → Bool
+    leaves k = leaves_two site (Some s) ((whole_of d).named k)
+
+    abbrev leaves_for : List ℕ → Bool
+    leaves_for k = leaves_two_for site (Some s) ((whole_of d).named k)
+
+    by-name : (k : List ℕ) (x : StandingTree) → list_any (bytes_eq k) u.names ≡ true → find (has_name k) (standings_of d.top) ≡ Some x
+        → nat_lt 1 (loops_left site (Some s) x) ≡ false
+    by-name k x among named =
+        sym (ap (leaves_two site (Some s)) named)
+        ∙ none-of leaves k u.names (none-first (list_any leaves u.names) (list_any leaves_for u.results) fine) among
+
+    by-result : (k : List ℕ) (x : StandingTree) → list_any (bytes_eq k) u.results ≡ true
+        → find (has_name k) (standings_of d.top) ≡ Some x
+        → (nat_lt 1 (loops_left site (Some s) x) || (is_loop (kind_at x) && nat_lt 0 (loops_left site (Some s) x))) ≡ false
+    by-result k x among named =
+        sym (ap (leaves_two_for site (Some s)) named)
+        ∙ none-of leaves_for k u.results (none-second (list_any leaves u.names) (list_any leaves_for u.results) fine) among
+
+    names-few : (k : List ℕ) (x : StandingTree) → (list_any (bytes_eq k) u.names ≡ true) ⊎ (list_any (bytes_eq k) u.results ≡ true)
+        → find (has_name k) (standings_of d.top) ≡ Some x → LeavesOne (layered d.top) s site x
+    names-few k x (inl among) named = leaves-one x (by-name k x among named)
+    names-few k x (inr among) named =
+        leaves-one x
+        (none-first (nat_lt 1 (loops_left site (Some s) x)) (is_loop (kind_at x) && nat_lt 0 (loops_left site (Some s) x))
+        (by-result k x among named))
+
+    leaves-few : LeavesFew d s site u
+    leaves-few = record {
+      names = λ k among x named.
+          names-few k x (either (list_any (bytes_eq k) u.names) (list_any (bytes_eq k) u.results) among) named;
+      results = λ k among x named loop. leaves-none x
+          (sym (ap (λ (b : Bool). b && nat_lt 0 (loops_left site (Some s) x)) loop)
+          ∙ none-second (nat_lt 1 (loops_left site (Some s) x)) (is_loop (kind_at x) && nat_lt 0 (loops_left site (Some s) x))
+          (by-result k x among named));
+    }
+
+pub all-leave-few : (d : DefTree) → AllByRecursion (Known (layered d.top)) (standings_of d.top) → offences d Rule.LoopsLeft ≡ []
+    → AllLeaveFew d
+all-leave-few d known none =
+    all-weaker (λ s. Known (layered d.top) s × HoldsAt d Rule.LoopsLeft s)
+    (λ s. (site : Site) → IsSiteOf s site → (u : UsesTree) → uses_of d site ≡ Some u → LeavesFew d s site u) (standings_of d.top)
+    (λ s h site of u there. leaves-few d s site h.0 u (h.1 site of u there))
+    (all-both (Known (layered d.top)) (HoldsAt d Rule.LoopsLeft) (standings_of d.top) known (all-hold d Rule.LoopsLeft none))

@@ -2,7 +2,9 @@
 //!
 //! The rules of `wf_rules` are tests on tables. Here stands what they are for, in the words of the order of actions (`wf_order`): in a
 //! definition that was read and breaks none of them, each action that an expression names is there, and is before the action of the
-//! expression, or inside the Until whose expression names it. So a run has its row as the expression is evaluated.
+//! expression, or inside the Until whose expression names it. So a run has its row as the expression is evaluated, and sees it at every
+//! address; it has each item and index that is asked for; and it knows which iteration of each loop is meant, but of one that a reference
+//! may leave.
 //!
 //! It has no code. Each public function has an empty body but for the laws that it calls, and its contract is a law.
 #![tactic(auto)]
@@ -10,7 +12,7 @@
 ghost use Rattle.std.specs.Prelude.{◌≡◌, None, map};
 ghost use Rattle.std.specs.List.{AllByRecursion};
 ghost use Rattle.wf_accepted.specs.Instances.{InstancesAreSeen};
-ghost use Rattle.wf_accepted.specs.Loops.{AllAskLoopsRound};
+ghost use Rattle.wf_accepted.specs.Loops.{AllAskLoopsRound, AllLeaveFew};
 ghost use Rattle.wf_accepted.specs.Seen.{AreSeen};
 ghost use Rattle.wf_def.specs.ActionTree.{ActionTrees, action_number};
 ghost use Rattle.wf_def.specs.DefTree.{DefTree};
@@ -62,6 +64,16 @@ pub fn what_is_named_is_seen()
 /// item of a Select or a Query: so a run has the item and the index.
 pub fn loops_asked_of_are_round()
     ensures { (d : DefTree) → IsRead d → broken_of d ≡ None → AllAskLoopsRound d }
+{
+    wf_rules::the_first_broken_rule();
+    wf_known::numbers_stand_once();
+    containers_are_those_of_the_order();
+}
+
+/// Of the loops round an action that is named, all but one at most are round the place where the name stands; and all are, where `result`
+/// names a loop. So a run knows which iteration of each loop but one is meant.
+pub fn references_leave_few_loops()
+    ensures { (d : DefTree) → IsRead d → broken_of d ≡ None → AllLeaveFew d }
 {
     wf_rules::the_first_broken_rule();
     wf_known::numbers_stand_once();
