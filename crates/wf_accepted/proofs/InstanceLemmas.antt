@@ -13,7 +13,8 @@ use Rattle.wf_accepted.specs.Instances.{InstancesAreSeen, IsSeenAt, MayLookAt, S
 use Rattle.wf_accepted.specs.Seen.{AreSeen, IsNamedAt, IsSeenFrom, IsSiteOf}
 
 module _ (d : DefTree)
-    (before-seen : (x y : Address) → Before (layered d.top) x.name y.name → HaveSameIndexes (layered d.top) x y → SeenIn (layered d.top) y x)
+    (before-seen : (x y : Address) → Before (layered d.top) x.name y.name → HaveSameIndexes (layered d.top) x y
+    → SeenIn (layered d.top) y x)
     (goes-along : (x y z : ℕ) → Before (layered d.top) x y → Contains (layered d.top) x z → Before (layered d.top) z y)
     (inside-inside : (x y z : ℕ) → Contains (layered d.top) x y → Contains (layered d.top) y z → Contains (layered d.top) x z) where
   abbrev Stands : StandingTree → Site → ℕ → Type 0

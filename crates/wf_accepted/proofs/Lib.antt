@@ -3,3 +3,4 @@ mod SeenLemmas
 mod RoundLemmas
 mod InstanceLemmas
 mod LoopLemmas
+mod HeldLemmas

@@ -17,14 +17,14 @@ use Rattle.wf_refs.specs.UsesTree.{UsesTree}
 use Rattle.wf_refs.specs.declared.site.Site.{Site}
 use Rattle.wf_rules.specs.Broken.{offences, told}
 use Rattle.wf_rules.specs.Kinds.{is_foreach, is_loop, is_until}
-use Rattle.wf_rules.specs.Rules.{action_breaks, breaks_at, breaks_if, breaks_itself, breaks_with, has_item, is_inside, is_items, is_left, is_test, leaves_loops, leaves_two, leaves_two_for, loops_left, names_outer}
+use Rattle.wf_rules.specs.Rules.{action_breaks, breaks_if, breaks_with, has_item, is_inside, is_items, is_left, is_test, leaves_loops, leaves_two, leaves_two_for, loops_left, names_outer}
 use Rattle.wf_rules.specs.Standing.{StandingTree, kind_at, number_at, pointer_at, standings_of}
-use Rattle.wf_rules.specs.Whole.{Whole, has_name, whole_of}
+use Rattle.wf_rules.specs.Whole.{has_name, whole_of}
 use Rattle.wf_rules.specs.declared.rule.Rule.{Rule}
 use Rattle.wf_accepted.proofs.RoundLemmas.{all-weaker}
-use Rattle.wf_accepted.proofs.SeenLemmas.{both, either, none-first, none-of, none-second, none-told, two}
+use Rattle.wf_accepted.proofs.SeenLemmas.{at-site, both, either, none-first, none-of, none-second, none-told, two}
 use Rattle.wf_accepted.specs.Loops.{AllAskLoopsRound, AllLeaveFew, AsksLoopsRound, IsInLoop, IsInLoopNamed, IsOneOf, IsRound, LeavesFew, LeavesNone, LeavesOne}
-use Rattle.wf_accepted.specs.Seen.{IsSiteOf, at_inputs, at_items, at_test, at_tracked}
+use Rattle.wf_accepted.specs.Seen.{IsSiteOf}
 
 -- ---- truth values and lists
 
@@ -82,27 +82,7 @@ module _ (p : ActionTree → Bool) where
   at-most-one (d ∷ cs) few b c (inr one) (inr other) of_b of_c =
       at-most-one cs (omega (arith, few, sum_by-cons size d cs)) b c one other of_b of_c
 
--- ---- what an action breaks, it breaks at no site
-
-module _ (whole : Whole) (rule : Rule) (s : StandingTree) where
-  abbrev At : Site → Bool
-  At site = breaks_at whole rule site (Some s)
-
-  at-one : (site : Site) → IsSiteOf s site
-      → (At (Site.Inputs (number_at s)) || (At (Site.Items (number_at s)) || (At (Site.Test (number_at s))
-      || At (Site.Tracked (number_at s))))) ≡ false
-      → At site ≡ false
-  at-one site at_inputs none = none-first (At (Site.Inputs (number_at s))) _ none
-  at-one site at_items none = none-first (At (Site.Items (number_at s))) _ (none-second (At (Site.Inputs (number_at s))) _ none)
-  at-one site at_test none =
-      none-first (At (Site.Test (number_at s))) _
-      (none-second (At (Site.Items (number_at s))) _ (none-second (At (Site.Inputs (number_at s))) _ none))
-  at-one site at_tracked none =
-      none-second (At (Site.Test (number_at s))) _
-      (none-second (At (Site.Items (number_at s))) _ (none-second (At (Site.Inputs (number_at s))) _ none))
-
-  at-site : (site : Site) → IsSiteOf s site → action_breaks whole rule s ≡ false → At site ≡ false
-  at-site site of none = at-one site of (none-second (breaks_itself rule s) _ none)
+-- ---- rules at sites
 
 -- a rule holds at all sites of an action
 abbrev HoldsAt : DefTree → Rule → StandingTree → Type 0

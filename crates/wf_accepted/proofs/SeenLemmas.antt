@@ -13,7 +13,7 @@ use Rattle.wf_reading.proofs.RunAfterLemmas.{append-first, append-second}
 use Rattle.wf_refs.specs.UsesTree.{UsesTree}
 use Rattle.wf_refs.specs.declared.site.Site.{Site}
 use Rattle.wf_rules.specs.Broken.{broken_of, first_broken, offences, rules_in_order, told}
-use Rattle.wf_rules.specs.Rules.{action_breaks, breaks_at, breaks_if, is_found_unseen, is_seen, is_test, is_unseen, names_unseen}
+use Rattle.wf_rules.specs.Rules.{action_breaks, breaks_at, breaks_if, breaks_itself, is_found_unseen, is_seen, is_test, is_unseen, names_unseen}
 use Rattle.wf_rules.specs.Standing.{StandingTree, number_at, pointer_at, standings_of}
 use Rattle.wf_rules.specs.Whole.{Whole, has_name, whole_of}
 use Rattle.wf_rules.specs.declared.rule.Rule.{Rule}
@@ -107,6 +107,28 @@ none-mapped f (Some x) is = absurd (cc)
 pub none-first_broken : (d : DefTree) → broken_of d ≡ None → first_broken d rules_in_order ≡ None
 none-first_broken d none = none-mapped _ (first_broken d rules_in_order) none
 
+-- ---- a rule that an action doesn't break is broken at none of its sites
+
+module _ (whole : Whole) (rule : Rule) (s : StandingTree) where
+  abbrev At : Site → Bool
+  At site = breaks_at whole rule site (Some s)
+
+  at-one : (site : Site) → IsSiteOf s site
+      → (At (Site.Inputs (number_at s)) || (At (Site.Items (number_at s)) || (At (Site.Test (number_at s))
+      || At (Site.Tracked (number_at s))))) ≡ false
+      → At site ≡ false
+  at-one site at_inputs none = none-first (At (Site.Inputs (number_at s))) _ none
+  at-one site at_items none = none-first (At (Site.Items (number_at s))) _ (none-second (At (Site.Inputs (number_at s))) _ none)
+  at-one site at_test none =
+      none-first (At (Site.Test (number_at s))) _
+      (none-second (At (Site.Items (number_at s))) _ (none-second (At (Site.Inputs (number_at s))) _ none))
+  at-one site at_tracked none =
+      none-second (At (Site.Test (number_at s))) _
+      (none-second (At (Site.Items (number_at s))) _ (none-second (At (Site.Inputs (number_at s))) _ none))
+
+  pub at-site : (site : Site) → IsSiteOf s site → action_breaks whole rule s ≡ false → At site ≡ false
+  at-site site of none = at-one site of (none-second (breaks_itself rule s) _ none)
+
 module _ (d : DefTree)
     (exact_before : (x y : ℕ) → has (layered d.top) x ≡ true → has (layered d.top) y ≡ true
     → ((whole_of d).before x y ≡ true) ↔ Before (layered d.top) x y)
@@ -114,22 +136,6 @@ module _ (d : DefTree)
     (had : (m : ℕ) → list_any (nat_eq m) (map number_at (standings_of d.top)) ≡ true → has (layered d.top) m ≡ true) where
   abbrev whole : Whole
   whole = whole_of d
-
-  -- of what an action breaks, each site breaks none
-  at_site : (s : StandingTree) (site : Site) → IsSiteOf s site → action_breaks whole Rule.References s ≡ false
-      → breaks_at whole Rule.References site (Some s) ≡ false
-  at_site s site at_inputs none = none-first (breaks_at whole Rule.References (Site.Inputs (number_at s)) (Some s)) _ none
-  at_site s site at_items none =
-      none-first (breaks_at whole Rule.References (Site.Items (number_at s)) (Some s)) _
-      (none-second (breaks_at whole Rule.References (Site.Inputs (number_at s)) (Some s)) _ none)
-  at_site s site at_test none =
-      none-first (breaks_at whole Rule.References (Site.Test (number_at s)) (Some s)) _
-      (none-second (breaks_at whole Rule.References (Site.Items (number_at s)) (Some s)) _
-      (none-second (breaks_at whole Rule.References (Site.Inputs (number_at s)) (Some s)) _ none))
-  at_site s site at_tracked none =
-      none-second (breaks_at whole Rule.References (Site.Test (number_at s)) (Some s)) _
-      (none-second (breaks_at whole Rule.References (Site.Items (number_at s)) (Some s)) _
-      (none-second (breaks_at whole Rule.References (Site.Inputs (number_at s)) (Some s)) _ none))
 
   -- a name there is seen
   name-seen : (s : StandingTree) (site : Site) (k : List ℕ) (u : UsesTree) → names_unseen whole site (Some s) u ≡ false
@@ -162,7 +168,7 @@ module _ (d : DefTree)
       → (site : Site) → IsSiteOf s site → (k : List ℕ) → IsNamedAt d site k → IsSeenFrom d s site k
   seen s own none site of k n =
       let here : names_unseen whole site (Some s) n.uses ≡ false =
-      sym (ap (breaks_if whole Rule.References site (Some s)) n.there) ∙ at_site s site of none in
+      sym (ap (breaks_if whole Rule.References site (Some s)) n.there) ∙ at-site whole Rule.References s site of none in
       seen-from s site k own (found whole site s k
       (name-seen s site k n.uses here (either (list_any (bytes_eq k) n.uses.names) (list_any (bytes_eq k) n.uses.results) n.named)))
 

@@ -9,7 +9,7 @@
 //! It has no code. Each public function has an empty body but for the laws that it calls, and its contract is a law.
 #![tactic(auto)]
 
-ghost use Rattle.std.specs.Prelude.{◌≡◌, None, map};
+ghost use Rattle.std.specs.Prelude.{◌≡◌, ℕ, true, List, Some, None, map};
 ghost use Rattle.std.specs.List.{AllByRecursion};
 ghost use Rattle.wf_accepted.specs.Instances.{InstancesAreSeen};
 ghost use Rattle.wf_accepted.specs.Loops.{AllAskLoopsRound, AllLeaveFew};
@@ -17,8 +17,10 @@ ghost use Rattle.wf_accepted.specs.Seen.{AreSeen};
 ghost use Rattle.wf_def.specs.ActionTree.{ActionTrees, action_number};
 ghost use Rattle.wf_def.specs.DefTree.{DefTree};
 ghost use Rattle.wf_def.specs.Layered.{layered};
+ghost use Rattle.wf_layers.specs.Address.{address, is_within, starts};
+ghost use Rattle.wf_layers.specs.Definition.{Graph, Kind, Until, holds, kind_of};
 ghost use Rattle.wf_layers.specs.Seen.{Once};
-ghost use Rattle.wf_order.specs.Order.{around};
+ghost use Rattle.wf_order.specs.Order.{Contains, around};
 ghost use Rattle.wf_reading.specs.Read.{IsRead};
 ghost use Rattle.wf_refs.specs.Actions.{all_actions};
 ghost use Rattle.wf_rules.specs.Broken.{broken_of};
@@ -59,6 +61,14 @@ pub fn what_is_named_is_seen()
     wf_known::numbers_stand_once();
     wf_known::entries_stay_in_their_graph();
 }
+
+/// What a container contains stands in the graphs of its kind. So what the expression of an Until names inside that Until stands in its
+/// iterations, at each address that begins with the indexes of one: these are the rows that a test may look at, beside those that it sees.
+pub fn what_an_until_contains_is_in_its_iterations()
+    ensures held { (g : Graph) → Once g → (n x : ℕ) (kind : Kind) → kind_of g n ≡ Some kind → Contains g n x → holds kind x ≡ true }
+    ensures iterations { (g : Graph) → Once g → (n x most : ℕ) (h : Graph) → kind_of g n ≡ Some (Until most h) → Contains g n x
+        → (i j : List ℕ) → starts i j ≡ true → is_within h i (address x j) ≡ true }
+{}
 
 /// `items` names a Foreach round the place where it stands, `iterationIndexes` an Until round it, and `item` stands in a Foreach or is the
 /// item of a Select or a Query: so a run has the item and the index.
