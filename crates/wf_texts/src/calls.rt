@@ -4,6 +4,7 @@ ghost use Rattle.wf_template.specs.ExprSeen.{expr_tree};
 ghost use Rattle.wf_template.specs.ExprTree.{expr_trees};
 ghost use Rattle.wf_texts.specs.Calls.{has_count, has_name, is_name, is_naming, is_sound_call, is_text};
 
+use wf_calls::function_named;
 use wf_template::Expr;
 use wf_val::{Fun, Text, Val};
 
@@ -52,7 +53,7 @@ fn has_name(function: Fun, args: &[Expr]) -> bool
 pub(crate) fn is_sound_call(name: &Text, args: &[Expr]) -> bool
     ensures { result ≡ is_sound_call name.now (expr_trees (map expr_tree args.now)) }
 {
-    match Fun::of(name) {
+    match function_named(name) {
         Some(function) => has_count(function, args) && has_name(function, args),
         None => false,
     }
