@@ -16,7 +16,7 @@ use Rattle.wf_template.specs.declared.expr.Expr.{Expr}
 use Rattle.wf_eval.specs.Measured.{Measured, with_more, measured_answer, measured}
 use Rattle.wf_eval.specs.Meets.{Meets, MeetsFault}
 use Rattle.wf_eval.specs.Outcomes.{Run, go_on, turned, strictly, all_after}
-use Rattle.wf_eval.specs.Rows.{fitted, as_text, joined_row}
+use Rattle.wf_functions.specs.Rows.{fitted, as_text, joined_row}
 use Rattle.wf_eval.specs.Seen.{args_tree}
 use Rattle.wf_eval.specs.TemplateValue.{joined, text_answer}
 use Rattle.wf_eval.specs.Told.{Told}

@@ -9,4 +9,7 @@ mod CondLoops
 mod Fitting
 mod Local
 mod MomentsAndWords
+mod WorkedLook
+mod WorkedFunctions
+mod WorkedCalls
 mod Worked

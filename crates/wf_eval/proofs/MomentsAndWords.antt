@@ -1,22 +1,18 @@
 -- Values of the functions that ask for the moment or draw a word, at worked calls; and which function each function on timestamps
--- is. A word itself, a SHA-256, doesn't compute here: its place in a value does, and what is made of a word that is written out.
-use lib.Utf8.{encode}
-use Rattle.std.proofs.Common.{◌≡◌, ℕ, ◌-◌, ◌^◌, refl, true, List, [], ◌∷◌, Ok, Err, None}
+-- is. A word itself, a SHA-256, doesn't compute here: its place in a value does.
+use Rattle.std.proofs.Common.{◌≡◌, ℕ, refl, true, List, [], ◌∷◌, Ok, Err, None}
 use Rattle.std.specs.Prelude.{ℤ, pos, negsuc, codes}
-use Rattle.std.specs.Str.{chars}
-use Rattle.jiff_core.specs.Calendar.{days_of_months}
-use Rattle.uuid.specs.Text.{by_index}
 use Rattle.wf_val.specs.ValueTree.{null, boolean, number, text}
 use Rattle.wf_val.specs.declared.fault.EvalFault.{EvalFault}
 use Rattle.wf_val.specs.declared.function.Fun.{Fun}
 use Rattle.wf_template.specs.ExprTree.{ExprTree, literal, call, expr_trees}
-use Rattle.wf_fn_time.specs.Calendar.{day_at, days_of_first_years}
-use Rattle.wf_eval.specs.declared.draw.Draw.{Draw}
-use Rattle.wf_eval.specs.declared.draw.GuidForm.{GuidForm}
-use Rattle.wf_eval.specs.Draws.{made, identifier, guid_text, number_in}
+use Rattle.wf_functions.specs.declared.draw.GuidForm.{GuidForm}
+use Rattle.wf_functions.specs.Draws.{identifier, guid_text, number_in}
 use Rattle.wf_eval.specs.Outcomes.{Outcome}
-use Rattle.wf_eval.specs.Rows.{fitted}
-use Rattle.wf_eval.specs.Told.{Told, word_of}
+use Rattle.wf_functions.specs.Rows.{fitted}
+use Rattle.wf_functions.specs.Timed.{timed_row}
+use Rattle.wf_functions.specs.Words.{word_of}
+use Rattle.wf_eval.specs.Told.{Told}
 use Rattle.wf_eval.specs.Value.{value}
 
 -- a look at a moment
@@ -105,35 +101,20 @@ ticks-is_its_own = refl
 dateDifference-is_its_own : here (of (codes "dateDifference") (truth ∷ truth ∷ [])) ≡ (Err (EvalFault.WrongType Fun.DateDifference 1), 7)
 dateDifference-is_its_own = refl
 
-addDays-of_a_day :
-    here (of (codes "addDays") (word (codes "0003-02-28") ∷ int (pos 1) ∷ []))
-    ≡ (Ok (text (codes "0003-03-01T00:00:00.0000000Z")), 7)
-unfolding chars encode day_at days_of_first_years days_of_months
-addDays-of_a_day = refl
-
-startOfHour-of_a_time :
-    here (of (codes "startOfHour") (word (codes "0001-01-01T02:03Z") ∷ word (codes "u") ∷ []))
-    ≡ (Ok (text (codes "0001-01-01 02:00:00Z")), 7)
-unfolding chars encode day_at days_of_first_years days_of_months
-startOfHour-of_a_time = refl
-
-ticks-of_a_time : here (of (codes "ticks") (word (codes "0001-01-01T00:00:01Z") ∷ [])) ≡ (Ok (number (pos 10000000)), 7)
-unfolding chars encode day_at days_of_first_years days_of_months
-ticks-of_a_time = refl
-
 -- ---- the moment
 
-utcNow-by_default : here (of (codes "utcNow") ([])) ≡ (Ok (text (codes "0001-01-01T01:00:00.0000000Z")), 7)
-unfolding chars encode day_at days_of_first_years days_of_months
-utcNow-by_default = refl
+utcNow-at_the_moment : here (of (codes "utcNow") ([])) ≡ (fitted (timed_row Fun.UtcNow (pos 36000000000) []), 7)
+utcNow-at_the_moment = refl
 
-utcNow-by_a_pattern : here (of (codes "utcNow") (word (codes "yyyy-MM-dd HH") ∷ [])) ≡ (Ok (text (codes "0001-01-01 01")), 7)
-unfolding chars encode day_at days_of_first_years days_of_months
-utcNow-by_a_pattern = refl
+getFutureTime-at_the_moment :
+    here (of (codes "getFutureTime") (int (pos 1) ∷ word (codes "Day") ∷ []))
+    ≡ (fitted (timed_row Fun.GetFutureTime (pos 36000000000) (number (pos 1) ∷ text (codes "Day") ∷ [])), 7)
+getFutureTime-at_the_moment = refl
 
-utcNow-pattern : here (of (codes "utcNow") (word (codes "q") ∷ [])) ≡ (Err (EvalFault.BadText Fun.UtcNow), 7)
-unfolding chars encode day_at days_of_first_years days_of_months
-utcNow-pattern = refl
+getPastTime-at_the_moment :
+    here (of (codes "getPastTime") (int (pos 1) ∷ word (codes "Day") ∷ []))
+    ≡ (fitted (timed_row Fun.GetPastTime (pos 36000000000) (number (pos 1) ∷ text (codes "Day") ∷ [])), 7)
+getPastTime-at_the_moment = refl
 
 utcNow-no_text : here (of (codes "utcNow") (int (pos 1) ∷ [])) ≡ (Err (EvalFault.WrongType Fun.UtcNow 1), 7)
 utcNow-no_text = refl
@@ -143,42 +124,6 @@ utcNow-counted = refl
 
 utcNow-arguments_first : here (of (codes "utcNow") (by_zero ∷ [])) ≡ (Err (EvalFault.Range Fun.Div), 7)
 utcNow-arguments_first = refl
-
-getFutureTime-later :
-    here (of (codes "getFutureTime") (int (pos 1) ∷ word (codes "Day") ∷ []))
-    ≡ (Ok (text (codes "0001-01-02T01:00:00.0000000Z")), 7)
-unfolding chars encode day_at days_of_first_years days_of_months
-getFutureTime-later = refl
-
-getFutureTime-by_a_pattern :
-    here (of (codes "getFutureTime") (int (pos 2) ∷ word (codes "hour") ∷ word (codes "HH") ∷ []))
-    ≡ (Ok (text (codes "03")), 7)
-unfolding chars encode day_at days_of_first_years days_of_months
-getFutureTime-by_a_pattern = refl
-
-getFutureTime-below_0 :
-    here (of (codes "getFutureTime") (int (negsuc 0) ∷ word (codes "Hour") ∷ []))
-    ≡ (Ok (text (codes "0001-01-01T00:00:00.0000000Z")), 7)
-unfolding chars encode day_at days_of_first_years days_of_months
-getFutureTime-below_0 = refl
-
-getFutureTime-before_year_1 :
-    here (of (codes "getFutureTime") (int (negsuc 1) ∷ word (codes "Hour") ∷ []))
-    ≡ (Err (EvalFault.Range Fun.GetFutureTime), 7)
-unfolding chars encode day_at days_of_first_years days_of_months
-getFutureTime-before_year_1 = refl
-
-getFutureTime-no_unit :
-    here (of (codes "getFutureTime") (int (pos 1) ∷ word (codes "Days") ∷ []))
-    ≡ (Err (EvalFault.Range Fun.GetFutureTime), 7)
-unfolding chars encode day_at days_of_first_years days_of_months
-getFutureTime-no_unit = refl
-
-getFutureTime-pattern_first :
-    here (of (codes "getFutureTime") (int (pos 1) ∷ word (codes "Days") ∷ word (codes "q") ∷ []))
-    ≡ (Err (EvalFault.BadText Fun.GetFutureTime), 7)
-unfolding chars encode day_at days_of_first_years days_of_months
-getFutureTime-pattern_first = refl
 
 getFutureTime-place_1 : here (of (codes "getFutureTime") (truth ∷ truth ∷ [])) ≡ (Err (EvalFault.WrongType Fun.GetFutureTime 1), 7)
 getFutureTime-place_1 = refl
@@ -195,30 +140,6 @@ getFutureTime-place_3 = refl
 
 getFutureTime-counted : here (of (codes "getFutureTime") (int (pos 1) ∷ [])) ≡ (Err (EvalFault.WrongType Fun.GetFutureTime 2), 7)
 getFutureTime-counted = refl
-
-getPastTime-earlier :
-    here (of (codes "getPastTime") (int (pos 30) ∷ word (codes "Minute") ∷ []))
-    ≡ (Ok (text (codes "0001-01-01T00:30:00.0000000Z")), 7)
-unfolding chars encode day_at days_of_first_years days_of_months
-getPastTime-earlier = refl
-
-getPastTime-below_0 :
-    here (of (codes "getPastTime") (int (negsuc 0) ∷ word (codes "Month") ∷ []))
-    ≡ (Ok (text (codes "0001-02-01T01:00:00.0000000Z")), 7)
-unfolding chars encode day_at days_of_first_years days_of_months
-getPastTime-below_0 = refl
-
-getPastTime-before_year_1 :
-    here (of (codes "getPastTime") (int (pos 1) ∷ word (codes "Day") ∷ []))
-    ≡ (Err (EvalFault.Range Fun.GetPastTime), 7)
-unfolding chars encode day_at days_of_first_years days_of_months
-getPastTime-before_year_1 = refl
-
-getPastTime-farthest :
-    here (of (codes "getPastTime") (int (negsuc (2 ^ 63 - 1)) ∷ word (codes "Year") ∷ []))
-    ≡ (Err (EvalFault.Range Fun.GetPastTime), 7)
-unfolding chars encode day_at days_of_first_years days_of_months
-getPastTime-farthest = refl
 
 getPastTime-place_2 : here (of (codes "getPastTime") (int (pos 1) ∷ int (pos 2) ∷ [])) ≡ (Err (EvalFault.WrongType Fun.GetPastTime 2), 7)
 getPastTime-place_2 = refl
@@ -300,49 +221,3 @@ rand-words_of_arguments_stay_drawn :
     here (of (codes "guid") (of (codes "rand") (int (pos 1) ∷ int (pos 5) ∷ []) ∷ []))
     ≡ (Err (EvalFault.WrongType Fun.Guid 1), 8)
 rand-words_of_arguments_stay_drawn = refl
-
--- ---- what is made of a word
-
-abbrev counting : List ℕ
-counting =
-    0 ∷ 1 ∷ 2 ∷ 3 ∷ 4 ∷ 5 ∷ 6 ∷ 7 ∷ 8 ∷ 9 ∷ 10 ∷ 11 ∷ 12 ∷ 13 ∷ 14 ∷ 15 ∷ 16 ∷ 17 ∷ 18 ∷ 19 ∷ 20 ∷ 21 ∷ 22 ∷ 23 ∷ 24 ∷ 25 ∷ 26 ∷ 27 ∷ 28
-    ∷ 29 ∷ 30 ∷ 31 ∷ []
-
-abbrev ones : List ℕ
-ones =
-    255 ∷ 255 ∷ 255 ∷ 255 ∷ 255 ∷ 255 ∷ 255 ∷ 255 ∷ 255 ∷ 255 ∷ 255 ∷ 255 ∷ 255 ∷ 255 ∷ 255 ∷ 255 ∷ []
-
-made-Dashed-counting : made (Draw.Guid GuidForm.Dashed) counting ≡ text (codes "00010203-0405-4607-8809-0a0b0c0d0e0f")
-unfolding by_index
-made-Dashed-counting = refl
-
-made-Digits-counting : made (Draw.Guid GuidForm.Digits) counting ≡ text (codes "000102030405460788090a0b0c0d0e0f")
-unfolding by_index
-made-Digits-counting = refl
-
-made-Braced-counting : made (Draw.Guid GuidForm.Braced) counting ≡ text (codes "{00010203-0405-4607-8809-0a0b0c0d0e0f}")
-unfolding by_index
-made-Braced-counting = refl
-
-made-Parenthesized-counting : made (Draw.Guid GuidForm.Parenthesized) counting ≡ text (codes "(00010203-0405-4607-8809-0a0b0c0d0e0f)")
-unfolding by_index
-made-Parenthesized-counting = refl
-
-made-Dashed-ones : made (Draw.Guid GuidForm.Dashed) ones ≡ text (codes "ffffffff-ffff-4fff-bfff-ffffffffffff")
-unfolding by_index
-made-Dashed-ones = refl
-
-made-number-first_byte_highest : made (Draw.Number (pos 0, pos 10)) counting ≡ number (pos 3)
-made-number-first_byte_highest = refl
-
-made-number-from_the_least : made (Draw.Number (negsuc 9, pos 0)) counting ≡ number (negsuc 6)
-made-number-from_the_least = refl
-
-made-number-one : made (Draw.Number (pos 4, pos 5)) ones ≡ number (pos 4)
-made-number-one = refl
-
-made-number-widest : made (Draw.Number (negsuc (2 ^ 63 - 1), pos (2 ^ 63 - 1))) ones ≡ number (negsuc (2 ^ 63 - 1))
-made-number-widest = refl
-
-made-number-widest_again : made (Draw.Number (negsuc (2 ^ 63 - 1), pos (2 ^ 63 - 1))) counting ≡ number (negsuc (9223088349902469624))
-made-number-widest_again = refl

@@ -4,9 +4,6 @@ pub mod Meets
 pub mod Ways
 pub mod Accesses
 pub mod Looked
-pub mod Rows
-pub mod Timed
-pub mod Draws
 pub mod Value
 pub mod Measured
 pub mod TemplateValue

@@ -1,6 +1,6 @@
 -- WHAT A LOOK TELLS: all that an expression may ask for beside its own text.
-use Rattle.std.specs.Prelude.{ℕ, zero, suc, ◌+◌, ◌-◌, ◌^◌, ℤ, List, [], ◌∷◌, ◌++◌, Option, nat_lt, if◌then◌else◌, decimal}
-use Rattle.sha2.specs.Sha256.{sha256}
+use Rattle.std.specs.Prelude.{ℕ, zero, suc, ◌+◌, ◌-◌, ◌^◌, ℤ, List, [], ◌∷◌, Option, nat_lt, if◌then◌else◌}
+use Rattle.wf_functions.specs.Words.{word_of}
 use Rattle.wf_val.specs.ValueTree.{ValueTree}
 
 -- all but the number of words already drawn; None says that the look has no such thing
@@ -35,10 +35,6 @@ over t l = record l { items = t ∷ l.items }
 -- the number drawn after one more word; at the greatest u64 it stays
 abbrev pub raised : ℕ → ℕ
 raised n = if nat_lt n (2 ^ 64 - 1) then n + 1 else n
-
--- the word of a number: SHA-256 (FIPS 180-4) of the seed, a zero byte, the place, a zero byte and the number in decimal
-abbrev pub word_of : List ℕ → List ℕ → ℕ → List ℕ
-word_of seed place n = sha256 (seed ++ (0 ∷ []) ++ place ++ (0 ∷ []) ++ decimal n)
 
 -- the next word, where so many were drawn
 abbrev pub next_word : Told → ℕ → List ℕ

@@ -7,14 +7,14 @@ use Rattle.wf_val.specs.ValueTree.{ValueTree, null, boolean, text}
 use Rattle.wf_val.specs.declared.fault.EvalFault.{EvalFault}
 use Rattle.wf_val.specs.declared.function.Fun.{Fun}
 use Rattle.wf_template.specs.ExprTree.{ExprTree, ExprTrees, literal, call, member, index, no_exprs, expr_then}
-use Rattle.wf_eval.specs.declared.draw.Draw.{Draw}
+use Rattle.wf_functions.specs.declared.draw.Draw.{Draw}
 use Rattle.wf_eval.specs.declared.way.Way.{Way}
 use Rattle.wf_eval.specs.Accesses.{member_row, index_row}
-use Rattle.wf_eval.specs.Draws.{draw_of, made}
+use Rattle.wf_functions.specs.Draws.{draw_of, made}
 use Rattle.wf_eval.specs.Looked.{named_by, told_row}
 use Rattle.wf_eval.specs.Outcomes.{Run, then_run, turned, all_after, strictly}
-use Rattle.wf_eval.specs.Rows.{fitted, strict_row, joined_row}
-use Rattle.wf_eval.specs.Timed.{timed_row}
+use Rattle.wf_functions.specs.Rows.{fitted, strict_row, joined_row}
+use Rattle.wf_functions.specs.Timed.{timed_row}
 use Rattle.wf_eval.specs.Told.{Told, raised, next_word}
 use Rattle.wf_eval.specs.Ways.{way_of}
 

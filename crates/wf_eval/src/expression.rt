@@ -7,20 +7,18 @@ ghost use Rattle.wf_template.specs.ChainSeen.{start_tree};
 ghost use Rattle.wf_template.specs.ExprSeen.{expr_tree};
 ghost use Rattle.wf_eval.specs.Meets.{Meets};
 ghost use Rattle.wf_eval.specs.Outcomes.{all_after, strictly};
-ghost use Rattle.wf_eval.specs.Rows.{fitted, joined_row};
+ghost use Rattle.wf_functions.specs.Rows.{fitted, joined_row};
 ghost use Rattle.wf_eval.specs.Seen.{args_tree, accessed_run};
 ghost use Rattle.wf_eval.specs.Value.{value, runs, called, called_by, if_run, early, stop, at_end, drawn, drawn_run};
 ghost use Rattle.wf_eval.specs.Ways.{way_of};
 
 use crate::accesses::{index_of, member_of};
-use crate::draw::{Draw, draw_of, made};
 use crate::look::Look;
 use crate::measured::{Measured, as_text};
 use crate::named::{named_by, told_row};
-use crate::rows::strict_row;
-use crate::timed::timed_row;
 use crate::way::{Way, way_of};
 use std::alloc::Global;
+use wf_functions::{Draw, draw_of, made, strict_row, timed_row};
 use wf_template::{Access, Expr, Start, chain_of};
 use wf_val::{EvalFault, Fun, Text, Val, Vals, bounded, wrong_type};
 

@@ -6,10 +6,9 @@
 //! `eval_cond` give the value, or the first fault from left to right, and draw just the words that the definition
 //! counts. Contracts see a look as what it `Told` and the number of words drawn.
 //!
-//! `specs/Value.antt` says what an expression comes to, `specs/Looked.antt` what the functions give that ask the look,
-//! and `specs/Rows.antt` names the row of each function of values alone. A function that has no row there has no value,
-//! whatever its arguments are. No call has a condition: an expression with a count of arguments that its function
-//! doesn't take has a fault too.
+//! `specs/Value.antt` says what an expression comes to, and `specs/Looked.antt` what the functions give that ask the look.
+//! What the others give of values, of the moment and of words is said by `wf_functions`. No call has a condition: an
+//! expression with a count of arguments that its function doesn't take has a fault too.
 //!
 //! `values_are_local` promises that a value depends only on what the look tells where the expression asks,
 //! `words_are_by_place` that words depend on nothing but seed, place and number, and `what_is_given_fits` that every
@@ -20,22 +19,18 @@
 
 mod accesses;
 mod cond;
-mod draw;
 mod expression;
 mod laws;
 mod look;
 mod measured;
 mod named;
-mod rows;
 mod template;
-mod timed;
 mod tree;
 mod way;
-mod word;
 
 pub use cond::eval_cond;
 pub use laws::{values_are_local, what_is_given_fits, words_are_by_place};
 pub use look::{Look, Over};
 pub use template::eval;
 pub use tree::eval_tree;
-pub use word::word_of;
+pub use wf_functions::word_of;

@@ -7,10 +7,10 @@ use Rattle.wf_val.specs.declared.function.Fun.{Fun}
 use Rattle.wf_json.specs.FaultText.{fault_text}
 use Rattle.wf_record.specs.declared.status.Status.TheVariants.{Succeeded, Failed, Skipped, TimedOut, Cancelled}
 use Rattle.wf_record.specs.declared.status.RunStatus.{RunStatus}
-use Rattle.wf_eval.specs.Draws.{number_in}
-use Rattle.wf_eval.specs.Rows.{fitted}
-use Rattle.wf_eval.specs.Timed.{utc_now_row}
-use Rattle.wf_eval.specs.Told.{word_of}
+use Rattle.wf_functions.specs.Draws.{number_in}
+use Rattle.wf_functions.specs.Rows.{fitted}
+use Rattle.wf_functions.specs.Timed.{utc_now_row}
+use Rattle.wf_functions.specs.Words.{word_of}
 use Rattle.wf_meaning.specs.Ending.{ending, outputs_error, section}
 use Rattle.wf_meaning.specs.Environment.{facts_of, last_facts}
 use Rattle.wf_meaning.specs.Flat.{composed, ended, faulted, skipped}

@@ -8,8 +8,8 @@ use Rattle.wf_val.specs.ValueTree.{ValueTree, null, boolean, number, text, list,
 use Rattle.wf_layers.specs.Definition.{Need}
 use Rattle.wf_layers.specs.Address.{Table}
 use Rattle.wf_layers.specs.Source.{all_met}
-use Rattle.wf_eval.specs.Draws.{number_in}
-use Rattle.wf_eval.specs.Told.{word_of}
+use Rattle.wf_functions.specs.Draws.{number_in}
+use Rattle.wf_functions.specs.Words.{word_of}
 use Rattle.wf_meaning.specs.Definition.{ActionTree}
 use Rattle.wf_meaning.specs.Environment.{Environment, Layer, facts_of, fresh}
 use Rattle.wf_meaning.specs.Flat.{composed, source}

@@ -64,7 +64,7 @@ texts_in t = t
 abbrev pub items_row : List ValueTree → Answer
 items_row ts = join_row (map texts_in ts)
 
--- the row of a function of values; one that isn't built has no value
+-- the row of each function of values; the others have no value by those of their arguments alone
 abbrev pub row_of : Fun → List ValueTree → Answer
 row_of Fun.Concat = concat_row
 row_of Fun.Substring = substring_row

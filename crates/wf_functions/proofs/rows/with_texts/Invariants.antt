@@ -1,7 +1,7 @@
 use Rattle.std.proofs.Common.{◌≡◌, map, take}
 use Rattle.wf_val.specs.Seen.{tree}
-use Rattle.wf_eval.specs.Rows.{texts_in}
-use Rattle.wf_eval.proofs.rows.with_texts.Given as goal
+use Rattle.wf_functions.specs.Rows.{texts_in}
+use Rattle.wf_functions.proofs.rows.with_texts.Given as goal
 
 -- the arguments so far
 abbrev pub invariant-loop-arg : goal.invariant-loop-arg

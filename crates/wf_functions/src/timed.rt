@@ -1,19 +1,14 @@
 //! Functions of the run's moment.
 ghost use Rattle.std.specs.Prelude.{◌≡◌, option_map};
 ghost use Rattle.wf_val.specs.Arguments.{Gives, seen};
-ghost use Rattle.wf_eval.specs.Timed.{timed_row, utc_now_row, get_future_time_row, get_past_time_row, moment_in};
+ghost use Rattle.wf_functions.specs.Timed.{timed_row, utc_now_row, get_future_time_row, get_past_time_row, moment_in};
 
 use std::alloc::Global;
 use wf_fn_time::{Shift, Ticks, TimeUnit, moved_time, print_time};
 use wf_val::{EvalFault, Fun, Val, Vals, number_at, optional_text_at, text_at, wrong_type};
 
 /// What a function of the moment gives of these arguments; whether that fits isn't tested.
-pub(crate) fn timed_row(
-    alloc: Global,
-    function: Fun,
-    moment: i64,
-    args: &Vals,
-) -> Result<Val, EvalFault>
+pub fn timed_row(alloc: Global, function: Fun, moment: i64, args: &Vals) -> Result<Val, EvalFault>
     ensures { Gives (seen result) (timed_row function moment args.now) }
 {
     if !function.takes(args.len()) {

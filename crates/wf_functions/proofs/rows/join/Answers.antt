@@ -2,8 +2,8 @@ use Rattle.std.proofs.Common.{◌≡◌, map, ap, ◌∙◌, subst}
 use Rattle.std.proofs.lemmas.List.{length-map}
 use Rattle.wf_val.specs.Arguments.{Gives, seen}
 use Rattle.wf_fn_list.specs.Parts.{join_row}
-use Rattle.wf_eval.specs.Rows.{texts_in}
-use Rattle.wf_eval.proofs.rows.join.Goals as goal
+use Rattle.wf_functions.specs.Rows.{texts_in}
+use Rattle.wf_functions.proofs.rows.join.Goals as goal
 
 -- there are as many texts as arguments
 pub f_join-requires : goal.f_join-requires

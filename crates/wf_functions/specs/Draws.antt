@@ -11,8 +11,8 @@ use Rattle.wf_val.specs.Arity.{takes}
 use Rattle.wf_val.specs.ValueTree.{ValueTree, number, text}
 use Rattle.wf_val.specs.declared.fault.EvalFault.{EvalFault}
 use Rattle.wf_val.specs.declared.function.Fun.{Fun}
-use Rattle.wf_eval.specs.declared.draw.Draw.{Draw}
-use Rattle.wf_eval.specs.declared.draw.GuidForm.{GuidForm}
+use Rattle.wf_functions.specs.declared.draw.Draw.{Draw}
+use Rattle.wf_functions.specs.declared.draw.GuidForm.{GuidForm}
 
 -- ---- what the arguments ask for
 

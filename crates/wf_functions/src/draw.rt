@@ -1,7 +1,7 @@
 //! Identifiers and numbers made of words.
 ghost use Rattle.std.specs.Prelude.{◌≡◌, IfOk};
 ghost use Rattle.wf_val.specs.Seen.{tree};
-ghost use Rattle.wf_eval.specs.Draws.{draw_of, form_of, form_named, bounds_of, made, guid_text, identifier, number_in};
+ghost use Rattle.wf_functions.specs.Draws.{draw_of, form_of, form_named, bounds_of, made, guid_text, identifier, number_in};
 
 use std::alloc::{AllocError, Global};
 use std::marker::Model;
@@ -10,7 +10,7 @@ use wf_val::{EvalFault, Fun, Text, Val, Vals, number_at, optional_text_at, wrong
 
 /// How an identifier is written (.NET, `Guid.ToString`).
 #[derive(Clone, Copy)]
-pub(crate) enum GuidForm {
+pub enum GuidForm {
     /// `D`: with dashes.
     Dashed,
     /// `N`: digits alone.
@@ -23,7 +23,7 @@ pub(crate) enum GuidForm {
 
 /// The numbers from the least on, below the end.
 #[derive(Clone, Copy)]
-pub(crate) struct Bounds {
+pub struct Bounds {
     least: i64,
     end: i64,
 }
@@ -42,13 +42,13 @@ impl Model for Bounds {
 
 /// What is to be made of the next word.
 #[derive(Clone, Copy)]
-pub(crate) enum Draw {
+pub enum Draw {
     Guid(GuidForm),
     Number(Bounds),
 }
 
 /// What a function makes of the next word, where its arguments pass.
-pub(crate) fn draw_of(function: Fun, args: &Vals) -> Result<Draw, EvalFault>
+pub fn draw_of(function: Fun, args: &Vals) -> Result<Draw, EvalFault>
     ensures { result ≡ draw_of function args.now }
 {
     if !function.takes(args.len()) {
@@ -104,7 +104,7 @@ fn bounds_of(args: &Vals) -> Result<Bounds, EvalFault>
 }
 
 /// The value that is made of a word.
-pub(crate) fn made(alloc: Global, draw: Draw, word: &[u8; 32]) -> Result<Val, AllocError>
+pub fn made(alloc: Global, draw: Draw, word: &[u8; 32]) -> Result<Val, AllocError>
     ensures { IfOk result (λ v. tree v ≡ made draw word.now) }
 {
     match draw {

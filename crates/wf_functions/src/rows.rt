@@ -2,7 +2,7 @@
 ghost use Rattle.std.specs.Prelude.{◌≡◌, length, map, IfOk};
 ghost use Rattle.wf_val.specs.Arguments.{Gives, seen};
 ghost use Rattle.wf_val.specs.Seen.{tree};
-ghost use Rattle.wf_eval.specs.Rows.{strict_row, string_row, json_row, as_text, texts_in, items_row};
+ghost use Rattle.wf_functions.specs.Rows.{strict_row, string_row, json_row, as_text, texts_in, items_row};
 
 use std::alloc::{AllocError, Global};
 use wf_fn_list::{
@@ -32,7 +32,7 @@ use wf_json::JsonFault;
 use wf_val::{EvalFault, Fields, Fun, Text, Val, Vals, wrong_type};
 
 /// What a function of values gives of these; whether that fits isn't tested.
-pub(crate) fn strict_row(alloc: Global, function: Fun, args: &Vals) -> Result<Val, EvalFault>
+pub fn strict_row(alloc: Global, function: Fun, args: &Vals) -> Result<Val, EvalFault>
     ensures { Gives (seen result) (strict_row function args.now) }
 {
     if !function.takes(args.len()) {

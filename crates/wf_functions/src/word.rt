@@ -1,6 +1,6 @@
 //! Words, from which identifiers and random numbers are made.
 ghost use Rattle.std.specs.Prelude.{◌≡◌};
-ghost use Rattle.wf_eval.specs.Told.{word_of};
+ghost use Rattle.wf_functions.specs.Words.{word_of};
 
 use itoa::Buffer;
 use sha2::{Digest, Sha256};

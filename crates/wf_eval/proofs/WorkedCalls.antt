@@ -1,0 +1,255 @@
+-- Values of the functions that have a way of their own with their arguments, or ask the look, at worked calls: each way of each function,
+-- and each fault with its function and place.
+use Rattle.std.proofs.Common.{◌≡◌, ◌-◌, ◌^◌, refl, [], ◌∷◌, Ok, Err, true, false}
+use Rattle.std.specs.Prelude.{pos, codes}
+use Rattle.wf_val.specs.ValueTree.{null, boolean, number, text, list, object, trees, no_members}
+use Rattle.wf_val.specs.declared.fault.EvalFault.{EvalFault}
+use Rattle.wf_val.specs.declared.function.Fun.{Fun}
+use Rattle.wf_template.specs.ExprTree.{literal}
+use Rattle.wf_eval.specs.Told.{over}
+use Rattle.wf_eval.specs.Value.{value}
+use Rattle.wf_eval.proofs.WorkedLook.{nested, one_member, with_body, somewhere, named_workflow, int, word, truth, untruth, nothing, of, by_zero, rest_by_zero, here, there}
+
+-- ---- `if`: only the chosen arm
+
+if-first : here (of (codes "if") (truth ∷ int 1 ∷ by_zero ∷ [])) ≡ (Ok (number (pos 1)), 7)
+if-first = refl
+
+if-second : here (of (codes "if") (untruth ∷ by_zero ∷ int 2 ∷ [])) ≡ (Ok (number (pos 2)), 7)
+if-second = refl
+
+if-judged_first : here (of (codes "if") (int 1 ∷ by_zero ∷ int 2 ∷ [])) ≡ (Err (EvalFault.WrongType Fun.If 1), 7)
+if-judged_first = refl
+
+if-test_faults : here (of (codes "if") (by_zero ∷ int 1 ∷ int 2 ∷ [])) ≡ (Err (EvalFault.Range Fun.Div), 7)
+if-test_faults = refl
+
+if-arm_faults : here (of (codes "if") (truth ∷ by_zero ∷ rest_by_zero ∷ [])) ≡ (Err (EvalFault.Range Fun.Div), 7)
+if-arm_faults = refl
+
+if-none : here (of (codes "if") ([])) ≡ (Err (EvalFault.WrongType Fun.If 1), 7)
+if-none = refl
+
+if-two : here (of (codes "if") (truth ∷ by_zero ∷ [])) ≡ (Err (EvalFault.WrongType Fun.If 3), 7)
+if-two = refl
+
+-- ---- `and`, `or`, `coalesce`: up to the first that decides, each judged before the next
+
+and-all : here (of (codes "and") (truth ∷ truth ∷ [])) ≡ (Ok (boolean true), 7)
+and-all = refl
+
+and-early : here (of (codes "and") (untruth ∷ by_zero ∷ [])) ≡ (Ok (boolean false), 7)
+and-early = refl
+
+and-second : here (of (codes "and") (truth ∷ int 1 ∷ [])) ≡ (Err (EvalFault.WrongType Fun.And 2), 7)
+and-second = refl
+
+and-judged_first : here (of (codes "and") (int 1 ∷ by_zero ∷ [])) ≡ (Err (EvalFault.WrongType Fun.And 1), 7)
+and-judged_first = refl
+
+and-faults : here (of (codes "and") (truth ∷ by_zero ∷ [])) ≡ (Err (EvalFault.Range Fun.Div), 7)
+and-faults = refl
+
+and-null : here (of (codes "and") (nothing ∷ [])) ≡ (Err (EvalFault.WrongType Fun.And 1), 7)
+and-null = refl
+
+or-none : here (of (codes "or") (untruth ∷ untruth ∷ [])) ≡ (Ok (boolean false), 7)
+or-none = refl
+
+or-early : here (of (codes "or") (truth ∷ int 1 ∷ [])) ≡ (Ok (boolean true), 7)
+or-early = refl
+
+or-second : here (of (codes "or") (untruth ∷ word (codes "true") ∷ [])) ≡ (Err (EvalFault.WrongType Fun.Or 2), 7)
+or-second = refl
+
+or-judged_first : here (of (codes "or") (int 1 ∷ by_zero ∷ [])) ≡ (Err (EvalFault.WrongType Fun.Or 1), 7)
+or-judged_first = refl
+
+coalesce-false : here (of (codes "coalesce") (nothing ∷ untruth ∷ by_zero ∷ [])) ≡ (Ok (boolean false), 7)
+coalesce-false = refl
+
+coalesce-empty : here (of (codes "coalesce") (word [] ∷ int 1 ∷ [])) ≡ (Ok (text []), 7)
+coalesce-empty = refl
+
+coalesce-all_null : here (of (codes "coalesce") (nothing ∷ nothing ∷ [])) ≡ (Ok null, 7)
+coalesce-all_null = refl
+
+coalesce-faults : here (of (codes "coalesce") (by_zero ∷ int 1 ∷ [])) ≡ (Err (EvalFault.Range Fun.Div), 7)
+coalesce-faults = refl
+
+-- ---- `string` and `json`
+
+string-null : here (of (codes "string") (nothing ∷ [])) ≡ (Ok (text []), 7)
+string-null = refl
+
+string-text : here (of (codes "string") (word (codes "x") ∷ [])) ≡ (Ok (text (codes "x")), 7)
+string-text = refl
+
+string-truth : here (of (codes "string") (truth ∷ [])) ≡ (Ok (text (codes "true")), 7)
+string-truth = refl
+
+string-list :
+    here (of (codes "string") (literal (list (trees (null ∷ text (codes "x") ∷ []))) ∷ []))
+    ≡ (Ok (text (codes "[null,\"x\"]")), 7)
+string-list = refl
+
+string-none : here (of (codes "string") ([])) ≡ (Err (EvalFault.WrongType Fun.String 1), 7)
+string-none = refl
+
+json-null : here (of (codes "json") (nothing ∷ [])) ≡ (Ok (object no_members), 7)
+json-null = refl
+
+json-number : here (of (codes "json") (int 5 ∷ [])) ≡ (Ok (number (pos 5)), 7)
+json-number = refl
+
+json-list : here (of (codes "json") (literal (nested 2) ∷ [])) ≡ (Ok (nested 2), 7)
+json-list = refl
+
+json-two : here (of (codes "json") (nothing ∷ nothing ∷ [])) ≡ (Err (EvalFault.WrongType Fun.Json 3), 7)
+json-two = refl
+
+-- ---- what a look has under a name
+
+actions-view : here (of (codes "actions") (word (codes "A") ∷ [])) ≡ (Ok (with_body (text (codes "a"))), 7)
+actions-view = refl
+
+actions-none : here (of (codes "actions") (word (codes "X") ∷ [])) ≡ (Err (EvalFault.NoValue (codes "X")), 7)
+actions-none = refl
+
+actions-case_of_name : here (of (codes "actions") (word (codes "a") ∷ [])) ≡ (Err (EvalFault.NoValue (codes "a")), 7)
+actions-case_of_name = refl
+
+actions-any_case : here (of (codes "ACTIONS") (word (codes "C") ∷ [])) ≡ (Ok null, 7)
+actions-any_case = refl
+
+actions-no_literal :
+    here (of (codes "actions") ((of (codes "string") (word (codes "A") ∷ [])) ∷ []))
+    ≡ (Err (EvalFault.WrongType Fun.Actions 1), 7)
+actions-no_literal = refl
+
+actions-no_text : here (of (codes "actions") (int 1 ∷ [])) ≡ (Err (EvalFault.WrongType Fun.Actions 1), 7)
+actions-no_text = refl
+
+actions-no_argument : here (of (codes "actions") ([])) ≡ (Err (EvalFault.WrongType Fun.Actions 1), 7)
+actions-no_argument = refl
+
+actions-deep : here (of (codes "actions") (word (codes "E") ∷ [])) ≡ (Err (EvalFault.TooBig 65 74), 7)
+actions-deep = refl
+
+outputs-of_deep : here (of (codes "outputs") (word (codes "E") ∷ [])) ≡ (Ok (nested 64), 7)
+outputs-of_deep = refl
+
+outputs-deep : here (of (codes "outputs") (word (codes "F") ∷ [])) ≡ (Err (EvalFault.TooBig 65 66), 7)
+outputs-deep = refl
+
+outputs-of_object :
+    here (of (codes "outputs") (word (codes "A") ∷ []))
+    ≡ (Ok (one_member (codes "body") (text (codes "a"))), 7)
+outputs-of_object = refl
+
+outputs-of_null : here (of (codes "outputs") (word (codes "C") ∷ [])) ≡ (Ok null, 7)
+outputs-of_null = refl
+
+outputs-absent : here (of (codes "outputs") (word (codes "G") ∷ [])) ≡ (Ok null, 7)
+outputs-absent = refl
+
+outputs-of_list :
+    here (of (codes "outputs") (word (codes "D") ∷ []))
+    ≡ (Ok (list (trees (one_member (codes "body") (boolean false) ∷ null ∷ null ∷ []))), 7)
+outputs-of_list = refl
+
+outputs-none : here (of (codes "outputs") (word (codes "X") ∷ [])) ≡ (Err (EvalFault.NoValue (codes "X")), 7)
+outputs-none = refl
+
+body-of_object : here (of (codes "body") (word (codes "A") ∷ [])) ≡ (Ok (text (codes "a")), 7)
+body-of_object = refl
+
+body-of_scalar : here (of (codes "body") (word (codes "B") ∷ [])) ≡ (Ok null, 7)
+body-of_scalar = refl
+
+body-of_null : here (of (codes "body") (word (codes "C") ∷ [])) ≡ (Ok null, 7)
+body-of_null = refl
+
+body-of_list :
+    here (of (codes "body") (word (codes "D") ∷ []))
+    ≡ (Ok (list (trees (boolean false ∷ null ∷ null ∷ []))), 7)
+body-of_list = refl
+
+body-none : here (of (codes "body") (word (codes "X") ∷ [])) ≡ (Err (EvalFault.NoValue (codes "X")), 7)
+body-none = refl
+
+result-views : here (of (codes "result") (word (codes "S") ∷ [])) ≡ (Ok (list (trees [])), 7)
+result-views = refl
+
+result-none : here (of (codes "result") (word (codes "A") ∷ [])) ≡ (Err (EvalFault.NoValue (codes "A")), 7)
+result-none = refl
+
+items-item : here (of (codes "items") (word (codes "L") ∷ [])) ≡ (Ok (text (codes "i")), 7)
+items-item = refl
+
+items-none : here (of (codes "items") (word (codes "M") ∷ [])) ≡ (Err (EvalFault.NoValue (codes "M")), 7)
+items-none = refl
+
+indexes-index : here (of (codes "iterationIndexes") (word (codes "L") ∷ [])) ≡ (Ok (number (pos 2)), 7)
+indexes-index = refl
+
+indexes-greatest : here (of (codes "iterationIndexes") (word (codes "M") ∷ [])) ≡ (Ok (number (pos (2 ^ 63 - 1))), 7)
+indexes-greatest = refl
+
+indexes-cut : here (of (codes "iterationIndexes") (word (codes "N") ∷ [])) ≡ (Ok (number (pos (2 ^ 63 - 1))), 7)
+indexes-cut = refl
+
+indexes-none : here (of (codes "iterationIndexes") (word (codes "X") ∷ [])) ≡ (Err (EvalFault.NoValue (codes "X")), 7)
+indexes-none = refl
+
+parameters-value : here (of (codes "parameters") (word (codes "p") ∷ [])) ≡ (Ok (boolean true), 7)
+parameters-value = refl
+
+parameters-none : here (of (codes "parameters") (word (codes "v") ∷ [])) ≡ (Err (EvalFault.NoValue (codes "v")), 7)
+parameters-none = refl
+
+variables-value : here (of (codes "variables") (word (codes "v") ∷ [])) ≡ (Ok (text (codes "x")), 7)
+variables-value = refl
+
+variables-none : here (of (codes "variables") (word (codes "p") ∷ [])) ≡ (Err (EvalFault.NoValue (codes "p")), 7)
+variables-none = refl
+
+-- ---- what a look has; a fault has the function's own name
+
+action-own : here (of (codes "action") ([])) ≡ (Ok (text (codes "me")), 7)
+action-own = refl
+
+action-none : there (of (codes "ACTION") ([])) ≡ (Err (EvalFault.NoValue (codes "action")), 7)
+action-none = refl
+
+item-nearest : here (of (codes "item") ([])) ≡ (Ok (boolean false), 7)
+item-nearest = refl
+
+item-none : there (of (codes "ITEM") ([])) ≡ (Err (EvalFault.NoValue (codes "item")), 7)
+item-none = refl
+
+item-over : value (over (text (codes "above")) somewhere) (of (codes "item") []) 7 ≡ (Ok (text (codes "above")), 7)
+item-over = refl
+
+items-over :
+    value (over (text (codes "above")) somewhere) (of (codes "items") (word (codes "L") ∷ [])) 7
+    ≡ (Ok (text (codes "i")), 7)
+items-over = refl
+
+trigger-value : here (of (codes "trigger") ([])) ≡ (Ok (with_body (boolean true)), 7)
+trigger-value = refl
+
+trigger-outputs : here (of (codes "triggerOutputs") ([])) ≡ (Ok (one_member (codes "body") (boolean true)), 7)
+trigger-outputs = refl
+
+trigger-body : here (of (codes "triggerBody") ([])) ≡ (Ok (boolean true), 7)
+trigger-body = refl
+
+trigger-no_object : there (of (codes "triggerOutputs") ([])) ≡ (Ok null, 7)
+trigger-no_object = refl
+
+trigger-no_body : there (of (codes "triggerBody") ([])) ≡ (Ok null, 7)
+trigger-no_body = refl
+
+workflow-run : here (of (codes "workflow") ([])) ≡ (Ok named_workflow, 7)
+workflow-run = refl
