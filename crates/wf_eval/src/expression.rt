@@ -18,6 +18,7 @@ use crate::measured::{Measured, as_text};
 use crate::named::{named_by, told_row};
 use crate::way::{Way, way_of};
 use std::alloc::Global;
+use wf_calls::function_named;
 use wf_functions::{Draw, draw_of, made, strict_row, timed_row};
 use wf_template::{Access, Expr, Start, chain_of};
 use wf_val::{EvalFault, Fun, Text, Val, Vals, bounded, wrong_type};
@@ -91,7 +92,7 @@ fn eval_call<L: Look>(
     ensures same { L.told look.new ≡ L.told look.old }
     ensures held { L.held look.new ≡ L.held look.old }
 {
-    match Fun::of(name) {
+    match function_named(name) {
         Some(function) => eval_known(alloc, function, args, look),
         None => {
             let _values = eval_all(alloc, args, look)?;
