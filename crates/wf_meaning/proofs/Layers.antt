@@ -41,24 +41,29 @@ module _ (name : List ℕ) where
   one_over facts (first ∷ earlier) later layer has none =
       one_over (if first.redone name then layer_facts first.inputs else facts) earlier later layer has none
 
-  pub one_layer : (e : Environment) (earlier later : List Layer) (layer : Layer) → e.layers ≡ earlier ++ layer ∷ later → layer.redone name ≡ true →
+  pub one_layer : (e : Environment) (earlier later : List Layer) (layer : Layer) → e.layers ≡ earlier ++ layer ∷ later
+      → layer.redone name ≡ true →
       list_any has_it later ≡ false → facts_of e name ≡ layer_facts layer.inputs
-  one_layer e earlier later layer are has none = ap (facts_over name (first_facts e)) are ∙ one_over (first_facts e) earlier later layer has none
+  one_layer e earlier later layer are has none = ap (facts_over name (first_facts e)) are ∙ one_over
+      (first_facts e) earlier later layer has none
 
 over_last : (facts : Facts) (earlier : List Layer) (layer : Layer) → last_over facts (earlier ++ layer ∷ []) ≡ layer_facts layer.inputs
 over_last facts [] layer = refl
 over_last facts (first ∷ earlier) layer = over_last (layer_facts first.inputs) earlier layer
 
-pub last_layer : (e : Environment) (earlier : List Layer) (layer : Layer) → e.layers ≡ earlier ++ layer ∷ [] → last_facts e ≡ layer_facts layer.inputs
+pub last_layer : (e : Environment) (earlier : List Layer) (layer : Layer) → e.layers ≡ earlier ++ layer ∷ []
+    → last_facts e ≡ layer_facts layer.inputs
 last_layer e earlier layer are = ap (last_over (first_facts e)) are ∙ over_last (first_facts e) earlier layer
 
 -- ---- environments that tell the same
 
 module _ (e f : Environment) (actions : List ActionTree) (same : TellTheSame actions e f) where
-  told_same : (known : Table Row) (n : ℕ) (a : ActionTree) → slice_get actions n ≡ Some a → told_at e actions a.name known ≡ told_at f actions a.name known
+  told_same : (known : Table Row) (n : ℕ) (a : ActionTree) → slice_get actions n ≡ Some a
+      → told_at e actions a.name known ≡ told_at f actions a.name known
   told_same known n a is = rw (same.trigger, same.parameters, same.facts n a is) refl
 
-  begun_same : (known : Table Row) (n : ℕ) (found : Option ActionTree) → slice_get actions n ≡ found → begun e actions known found ≡ begun f actions known found
+  begun_same : (known : Table Row) (n : ℕ) (found : Option ActionTree) → slice_get actions n ≡ found
+      → begun e actions known found ≡ begun f actions known found
   begun_same known n None is = refl
   begun_same known n (Some a) is = ap (λ (l : Told). (tree_value l a.inputs 0).0) (told_same known n a is)
 
@@ -71,7 +76,8 @@ module _ (e f : Environment) (actions : List ActionTree) (same : TellTheSame act
   told_out_same : (known : Table Row) → told_to_outputs e actions known ≡ told_to_outputs f actions known
   told_out_same known = rw (same.trigger, same.parameters, same.last) refl
 
-  ending_same : (outputs : List OutputTree) → ending_of outputs e actions (table_of e actions) ≡ ending_of outputs f actions (table_of f actions)
+  ending_same : (outputs : List OutputTree) → ending_of outputs e actions (table_of e actions)
+      ≡ ending_of outputs f actions (table_of f actions)
   ending_same outputs =
       ap (λ (l : Told). ending (graph_status actions (table_of e actions)) (section l outputs)) (told_out_same (table_of e actions))
       ∙ ap (λ (t : Table Row). ending_of outputs f actions t) table_same

@@ -56,7 +56,8 @@ module _ (env : Environment) (actions : List ActionTree) where
       ⊎_elim (of_layers d m at r) (λ own. own)
       (of_layer 0 actions d (layers d (layer (source env actions) (depth_of actions) (graph_of actions) []) (λ x. None)) m at r is)
 
-  only_actions : (m : ℕ) (at : List ℕ) (r : Row) → table_of env actions (address m at) ≡ Some r → (is_some (slice_get actions m) ≡ true) × (at ≡ [])
+  only_actions : (m : ℕ) (at : List ℕ) (r : Row) → table_of env actions (address m at) ≡ Some r
+      → (is_some (slice_get actions m) ≡ true) × (at ≡ [])
   only_actions m at r is =
       let own = of_layers (deepest (depth_of actions) (graph_of actions)) m at r is in
       (ap is_some (sym (numbered_is actions m)) ∙ own.0, own.1)
@@ -66,9 +67,11 @@ module _ (env : Environment) (actions : List ActionTree) where
 module _ (t : Table Row) where
   -- a row of the list, of actions numbered from n on
   abbrev IsRowOf : ℕ → List ActionTree → RowTree → Type 0
-  IsRowOf n rest r = (j : ℕ) × (a : ActionTree) × (slice_get rest j ≡ Some a) × (r.address ≡ instance a) × (t (address (n + j) []) ≡ Some r.row)
+  IsRowOf n rest r = (j : ℕ) × (a : ActionTree) × (slice_get rest j ≡ Some a) × (r.address ≡ instance a)
+      × (t (address (n + j) []) ≡ Some r.row)
 
-  first_or_later : (n : ℕ) (a : ActionTree) (found : Option Row) (rows : List RowTree) (r : RowTree) → Among (row_then (instance a) found rows) r →
+  first_or_later : (n : ℕ) (a : ActionTree) (found : Option Row) (rows : List RowTree) (r : RowTree)
+      → Among (row_then (instance a) found rows) r →
       ((row : Row) × (found ≡ Some row) × (r ≡ record { address = instance a; row = row })) ⊎ Among rows r
   first_or_later n a None rows r among = inr among
   first_or_later n a (Some row) rows r among = ⊎_elim (λ is. inl (row, refl, sym is)) (λ later. inr later) among
@@ -76,7 +79,8 @@ module _ (t : Table Row) where
   each_from : (n : ℕ) (rest : List ActionTree) (r : RowTree) → Among (rows_from t n rest) r → IsRowOf n rest r
   each_from n [] r among = absurd among
   each_from n (a ∷ more) r among =
-      ⊎_elim first (λ among'. later (each_from (suc n) more r among')) (first_or_later n a (t (address n [])) (rows_from t (suc n) more) r among)
+      ⊎_elim first (λ among'. later (each_from (suc n) more r among')) (first_or_later n a (t (address n [])) (rows_from t
+          (suc n) more) r among)
     where
       first : (row : Row) × (t (address n []) ≡ Some row) × (r ≡ record { address = instance a; row = row }) → IsRowOf n (a ∷ more) r
       first own = rw own.2 (0, a, refl, refl, ap (λ m. t (address m [])) (omega arith) ∙ own.1)
@@ -84,11 +88,13 @@ module _ (t : Table Row) where
       later : IsRowOf (suc n) more r → IsRowOf n (a ∷ more) r
       later found = (suc found.0, found.1, found.2, found.3, ap (λ m. t (address m [])) (omega arith) ∙ found.4)
 
-  behind : (a : ActionTree) (found : Option Row) (rows : List RowTree) (r : RowTree) → Among rows r → Among (row_then (instance a) found rows) r
+  behind : (a : ActionTree) (found : Option Row) (rows : List RowTree) (r : RowTree) → Among rows r
+      → Among (row_then (instance a) found rows) r
   behind a None rows r among = among
   behind a (Some row) rows r among = inr among
 
-  all_from : (n : ℕ) (rest : List ActionTree) (m j : ℕ) (a : ActionTree) (row : Row) → m ≡ n + j → slice_get rest j ≡ Some a → t (address m []) ≡ Some row →
+  all_from : (n : ℕ) (rest : List ActionTree) (m j : ℕ) (a : ActionTree) (row : Row) → m ≡ n + j → slice_get rest j ≡ Some a
+      → t (address m []) ≡ Some row →
       Among (rows_from t n rest) (record { address = instance a; row = row })
   all_from n [] m j a row is at there = absurd (true≢false (sym (ap is_some at)))
   all_from n (b ∷ more) m zero a row is at there =
@@ -106,14 +112,18 @@ stand_for env actions = record {
   all = every;
 }
   where
-    there : (m : ℕ) (row : Row) (found : Option ActionTree) → slice_get actions m ≡ found → is_some found ≡ true → table_of env actions (address m []) ≡ Some row →
-        (n : ℕ) × (a : ActionTree) × (slice_get actions n ≡ Some a) × (address m [] ≡ address n []) × Among (rows_of env actions) (record { address = instance a; row = row })
+    there : (m : ℕ) (row : Row) (found : Option ActionTree) → slice_get actions m ≡ found → is_some found ≡ true
+        → table_of env actions (address m []) ≡ Some row →
+        (n : ℕ) × (a : ActionTree) × (slice_get actions n ≡ Some a) × (address m [] ≡ address n [])
+            × Among (rows_of env actions) (record { address = instance a; row = row })
     there m row None is some at = absurd (true≢false (sym some))
     there m row (Some a) is some at = (m, a, is, refl, all_from (table_of env actions) 0 actions m m a row (omega arith) is at)
 
     every : (x : layered.Address) (row : Row) → table_of env actions x ≡ Some row →
-        (n : ℕ) × (a : ActionTree) × (slice_get actions n ≡ Some a) × (x ≡ address n []) × Among (rows_of env actions) (record { address = instance a; row = row })
+        (n : ℕ) × (a : ActionTree) × (slice_get actions n ≡ Some a) × (x ≡ address n [])
+            × Among (rows_of env actions) (record { address = instance a; row = row })
     every x row is =
         let own = only_actions env actions x.name x.at row is in
         let outside : x ≡ address x.name [] = ap (address x.name) own.1 in
-        rw outside (there x.name row (slice_get actions x.name) refl own.0 (subst (λ at. table_of env actions (address x.name at) ≡ Some row) own.1 is))
+        rw outside (there x.name row (slice_get actions x.name) refl own.0 (subst (λ at. table_of env actions (address x.name at)
+            ≡ Some row) own.1 is))

@@ -56,21 +56,27 @@ module _ (values : ValuesAreLocal) (env : Environment) (actions : List ActionTre
     agree_one asks_moment e = refl
     agree_one asks_words e = (refl, refl)
 
-    agree_all : (us : List Use) → list_all (use_before actions n) us ≡ true → AgreeAt (told_at env actions name t) (told_at env actions name u) us
+    agree_all : (us : List Use) → list_all (use_before actions n) us ≡ true
+        → AgreeAt (told_at env actions name t) (told_at env actions name u) us
     agree_all [] e = tt
     agree_all (asked ∷ us) e = let parts = and_in _ _ e in (agree_one asked parts.0, agree_all us parts.1)
 
   named_at : (n : ℕ) (a : ActionTree) → slice_get actions n ≡ Some a → list_all (use_before actions n) (tree_uses a.inputs) ≡ true
-  named_at n a is = subst (λ found. uses_before actions n found ≡ true) is (at_place (λ m. uses_before actions m (slice_get actions m)) actions n named (ap is_some is))
+  named_at n a is = subst (λ found. uses_before actions n found ≡ true) is (at_place (λ m. uses_before actions m
+      (slice_get actions m)) actions n named (ap is_some is))
 
   -- so its inputs come to the same
-  pub begun_same : (n : ℕ) (a : ActionTree) → slice_get actions n ≡ Some a → (t u : Table Row) → AlikeBefore actions n t u → begun env actions t (slice_get actions n) ≡ begun env actions u (slice_get actions n)
+  pub begun_same : (n : ℕ) (a : ActionTree) → slice_get actions n ≡ Some a → (t u : Table Row) → AlikeBefore actions n t u
+      → begun env actions t (slice_get actions n) ≡ begun env actions u (slice_get actions n)
   begun_same n a is t u same =
-      rw is (ap (λ r. (r 0).0) (values (told_at env actions a.name t) (told_at env actions a.name u) a.inputs (agree_all n a.name t u same (tree_uses a.inputs) (named_at n a is))))
+      rw is (ap (λ r. (r 0).0) (values (told_at env actions a.name t) (told_at env actions a.name u) a.inputs (agree_all n a.name t u same
+          (tree_uses a.inputs) (named_at n a is))))
 
-  start_local : (n : ℕ) (a : ActionTree) → slice_get actions n ≡ Some a → (i : List ℕ) → length i ≡ 0 → (t u : Table Row) → Agrees (SeenIn (graph_of actions)) (address n i) t u →
+  start_local : (n : ℕ) (a : ActionTree) → slice_get actions n ≡ Some a → (i : List ℕ) → length i ≡ 0 → (t u : Table Row)
+      → Agrees (SeenIn (graph_of actions)) (address n i) t u →
       begun env actions t (slice_get actions n) ≡ begun env actions u (slice_get actions n)
-  start_local n a is [] none t u same = begun_same n a is t u (λ p before. same (address p []) (sees actions all p n (there_both actions all p n before)))
+  start_local n a is [] none t u same = begun_same n a is t u (λ p before. same (address p []) (sees actions all p n
+      (there_both actions all p n before)))
   start_local n a is (j ∷ js) none t u same = absurd (omega (arith, none))
 
   fresh_name : (n : ℕ) (more : List ActionTree) (m : ℕ) → (nat_eq n m || false) ≡ true → has (graph_from (suc n) more) m ≡ false
@@ -80,11 +86,13 @@ module _ (values : ValuesAreLocal) (env : Environment) (actions : List ActionTre
       go (inl t) = has_is (suc n) more m ∙ ap is_some (numbered_below (suc n) more m (omega (arith, eqb-true n m t)))
       go (inr f) = absurd (true≢false (sym is ∙ ap (λ b. b || false) f))
 
-  at_no_index : (n p : ℕ) (i : List ℕ) → length i ≡ 0 → SeenIn (graph_of actions) (address n []) (address p []) → SeenIn (graph_of actions) (address n i) (address p i)
+  at_no_index : (n p : ℕ) (i : List ℕ) → length i ≡ 0 → SeenIn (graph_of actions) (address n []) (address p [])
+      → SeenIn (graph_of actions) (address n i) (address p i)
   at_no_index n p [] none sees = sees
   at_no_index n p (j ∷ js) none sees = absurd (omega (arith, none))
 
-  sound_from : (n : ℕ) (rest : List ActionTree) → ((m : ℕ) (a : ActionTree) → numbered n rest m ≡ Some a → slice_get actions m ≡ Some a) → Sound (source env actions) (SeenIn (graph_of actions)) (graph_from n rest) 0
+  sound_from : (n : ℕ) (rest : List ActionTree) → ((m : ℕ) (a : ActionTree) → numbered n rest m ≡ Some a → slice_get actions m ≡ Some a)
+      → Sound (source env actions) (SeenIn (graph_of actions)) (graph_from n rest) 0
   sound_from n [] stands = tt
   sound_from n (a ∷ more) stands =
       let is : slice_get actions n ≡ Some a = stands n a (rw (same_self n)) in (
@@ -98,7 +106,8 @@ module _ (values : ValuesAreLocal) (env : Environment) (actions : List ActionTre
   pub local : Sound (source env actions) (SeenIn (graph_of actions)) (graph_of actions) 0
   local = sound_from 0 actions (λ m a e. sym (numbered_is actions m) ∙ e)
 
-  closed_from : (n : ℕ) (rest : List ActionTree) → ((m : ℕ) (a : ActionTree) → numbered n rest m ≡ Some a → slice_get actions m ≡ Some a) → Closed (graph_from n rest) (graph_of actions)
+  closed_from : (n : ℕ) (rest : List ActionTree) → ((m : ℕ) (a : ActionTree) → numbered n rest m ≡ Some a → slice_get actions m ≡ Some a)
+      → Closed (graph_from n rest) (graph_of actions)
   closed_from n [] stands = tt
   closed_from n (a ∷ more) stands =
       let is : slice_get actions n ≡ Some a = stands n a (rw (same_self n)) in (

@@ -15,7 +15,8 @@ abbrev IsBelow : Address → List RowTree → Type 0
 IsBelow a rows = AllByRecursion (λ r. address_cmp a (address_of r) ≡ Less) rows
 
 -- a row before others
-then_below : (a b : Address) (found : Option Row) (rows : List RowTree) → address_cmp a b ≡ Less → IsBelow a rows → IsBelow a (row_then b found rows)
+then_below : (a b : Address) (found : Option Row) (rows : List RowTree) → address_cmp a b ≡ Less → IsBelow a rows
+    → IsBelow a (row_then b found rows)
 then_below a b None rows less all = all
 then_below a b (Some r) rows less all = (less, all)
 
@@ -29,16 +30,20 @@ below_instance : (a b : ActionTree) → bytes_cmp (action_name a) (action_name b
 below_instance a b less = rw less refl
 
 module _ (known : Table Row) where
-  below_rows : (a : ActionTree) (n : ℕ) (actions : List ActionTree) → AllByRecursion (λ b. bytes_cmp (action_name a) (action_name b) ≡ Less) actions →
+  below_rows : (a : ActionTree) (n : ℕ) (actions : List ActionTree) → AllByRecursion (λ b. bytes_cmp (action_name a) (action_name b)
+      ≡ Less) actions →
       IsBelow (instance a) (rows_from known n actions)
   below_rows a n [] all = tt
   below_rows a n (b ∷ more) all =
-      then_below (instance a) (instance b) (known (address n [])) (rows_from known (suc n) more) (below_instance a b all.0) (below_rows a (suc n) more all.1)
+      then_below (instance a) (instance b) (known (address n [])) (rows_from known (suc n) more) (below_instance a b all.0) (below_rows a
+          (suc n) more all.1)
 
-  ordered_from : (n : ℕ) (actions : List ActionTree) → IsInNameOrder action_name actions → IsInKeyOrder address_cmp address_of (rows_from known n actions)
+  ordered_from : (n : ℕ) (actions : List ActionTree) → IsInNameOrder action_name actions
+      → IsInKeyOrder address_cmp address_of (rows_from known n actions)
   ordered_from n [] order = tt
   ordered_from n (a ∷ more) order =
-      then_ordered (instance a) (known (address n [])) (rows_from known (suc n) more) (below_rows a (suc n) more order.0) (ordered_from (suc n) more order.1)
+      then_ordered (instance a) (known (address n [])) (rows_from known (suc n) more) (below_rows a (suc n) more order.0) (ordered_from
+          (suc n) more order.1)
 
 pub rows_ordered : (env : Environment) (actions : List ActionTree) → IsInNameOrder action_name actions →
     IsInKeyOrder address_cmp address_of (rows_of env actions)

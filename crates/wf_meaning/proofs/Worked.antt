@@ -236,11 +236,13 @@ layers-none = refl
 layers-one : runs_by (redone_in (codes "A") (codes "r2") ∷ []) (codes "A" ∷ codes "B" ∷ []) ≡ codes "r2" ∷ codes "r" ∷ []
 layers-one = refl
 
-layers-apart : runs_by (redone_in (codes "A") (codes "r2") ∷ redone_in (codes "B") (codes "r3") ∷ []) (codes "A" ∷ codes "B" ∷ codes "C" ∷ [])
+layers-apart : runs_by (redone_in (codes "A") (codes "r2") ∷ redone_in (codes "B") (codes "r3") ∷ []) (codes "A" ∷ codes "B" ∷ codes "C"
+    ∷ [])
     ≡ codes "r2" ∷ codes "r3" ∷ codes "r" ∷ []
 layers-apart = refl
 
-layers-twice : runs_by (redone_in (codes "A") (codes "r2") ∷ redone_in (codes "A") (codes "r3") ∷ []) (codes "A" ∷ codes "B" ∷ []) ≡ codes "r3" ∷ codes "r" ∷ []
+layers-twice : runs_by (redone_in (codes "A") (codes "r2") ∷ redone_in (codes "A") (codes "r3") ∷ []) (codes "A" ∷ codes "B" ∷ [])
+    ≡ codes "r3" ∷ codes "r" ∷ []
 layers-twice = refl
 
 last-none : (last_facts (under [])).run ≡ codes "r"
@@ -289,7 +291,8 @@ outputs-last : section (told_to_outputs (under (redone_in (codes "A") (codes "r2
 outputs-last = refl
 
 -- the first fault, in the order of names
-outputs-fault : section (told_to_outputs seeded [] (λ x. None)) (output (codes "a") (whole_of (call_of (codes "outputs") (text (codes "Z")))) ∷ faulty (codes "b") ∷ [])
+outputs-fault : section (told_to_outputs seeded [] (λ x. None)) (output (codes "a") (whole_of (call_of (codes "outputs") (text
+    (codes "Z")))) ∷ faulty (codes "b") ∷ [])
     ≡ Err (EvalFault.NoValue (codes "Z"))
 outputs-fault = refl
 
@@ -308,7 +311,8 @@ ending-failed = refl
 
 ending-faulted : ending Succeeded (Err (EvalFault.NoValue (codes "Z"))) ≡ record {
   status = RunStatus.Failed;
-  error = object (members ((codes "code", text (codes "InvalidTemplate")) ∷ (codes "message", text (fault_text (EvalFault.NoValue (codes "Z")))) ∷ []));
+  error = object (members ((codes "code", text (codes "InvalidTemplate"))
+      ∷ (codes "message", text (fault_text (EvalFault.NoValue (codes "Z")))) ∷ []));
   outputs = null;
 }
 ending-faulted = refl
@@ -317,7 +321,8 @@ ending-both : (ending Failed (Err (EvalFault.NoValue (codes "Z")))).error ≡ ou
 ending-both = refl
 
 -- a whole record: what it was started with, its rows, and what it gives out
-record-started : meaning (record { digest = 1 ∷ []; outputs = output (codes "o") (whole_of (call_of (codes "outputs") (text (codes "A")))) ∷ []; actions = told_of_start }) triggered ≡ record {
+record-started : meaning (record { digest = 1 ∷ []; outputs = output (codes "o") (whole_of (call_of (codes "outputs") (text (codes "A"))))
+    ∷ []; actions = told_of_start }) triggered ≡ record {
   run = codes "r";
   digest = 1 ∷ [];
   trigger = object (members ((codes "name", text (codes "t")) ∷ (codes "outputs", number (pos 3)) ∷ []));
@@ -334,6 +339,7 @@ unfolding meaning
 record-started = refl
 
 -- the record of a run that was made from another has the new name
-record-last : (meaning (record { digest = 1 ∷ []; outputs = []; actions = single }) (under (redone_in (codes "B") (codes "r2") ∷ []))).run ≡ codes "r2"
+record-last : (meaning (record { digest = 1 ∷ []; outputs = []; actions = single }) (under (redone_in (codes "B") (codes "r2") ∷ []))).run
+    ≡ codes "r2"
 unfolding meaning
 record-last = refl

@@ -11,5 +11,6 @@ pub in_name_order-prop : (actions : List ActionTree) → IsProp (IsInNameOrder a
 in_name_order-prop [] = Unit-prop
 in_name_order-prop (a ∷ actions) =
     ×_prop
-    (AllByRecursion-prop (λ b. bytes_cmp (action_name a) (action_name b) ≡ Less) (λ b. Ordering-set (bytes_cmp (action_name a) (action_name b)) Less) actions)
+    (AllByRecursion-prop (λ b. bytes_cmp (action_name a) (action_name b) ≡ Less) (λ b. Ordering-set (bytes_cmp (action_name a)
+        (action_name b)) Less) actions)
     (in_name_order-prop actions)

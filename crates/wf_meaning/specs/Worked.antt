@@ -73,7 +73,8 @@ loop = action (codes "A") (need 0 (Succeeded ∷ []) ∷ []) ∷ []
 
 -- B waits for A, and C for B.
 abbrev pub chain : List ActionTree
-chain = action (codes "A") [] ∷ (action (codes "B") (need 0 (Succeeded ∷ []) ∷ []) ∷ (action (codes "C") (need 1 (Succeeded ∷ []) ∷ []) ∷ []))
+chain = action (codes "A") [] ∷ (action (codes "B") (need 0 (Succeeded ∷ []) ∷ []) ∷ (action (codes "C") (need 1 (Succeeded ∷ []) ∷ [])
+    ∷ []))
 
 -- C waits for A and for B.
 abbrev pub joined : List ActionTree
@@ -104,7 +105,8 @@ untriggered run = fresh (start_for run) (inputs_for run)
 -- whether an entry that lists these is met, where the action that it names Succeeded, Failed, was Skipped, TimedOut or was Cancelled
 abbrev pub met_at : List Status → List Bool
 met_at listed =
-    map (λ status. all_met (source (untriggered []) single) (need 0 listed ∷ []) [] (statuses (status ∷ []))) (Succeeded ∷ (Failed ∷ (Skipped ∷ (TimedOut ∷ (Cancelled ∷ [])))))
+    map (λ status. all_met (source (untriggered []) single) (need 0 listed ∷ []) [] (statuses (status ∷ []))) (Succeeded ∷ (Failed
+        ∷ (Skipped ∷ (TimedOut ∷ (Cancelled ∷ [])))))
 
 -- an expression as the inputs of an action
 abbrev pub whole_of : ExprTree → inputs.DataTree
@@ -185,7 +187,8 @@ second = fresh (record (start_for (codes "r-1")) { seed = codes "s-1" }) (record
 
 -- A was done anew with another seed.
 abbrev pub reseeded : Environment
-reseeded = record seeded { layers = record { redone = bytes_eq (codes "A"); inputs = record (inputs_for (codes "r2")) { seed = codes "t" } } ∷ [] }
+reseeded = record seeded { layers = record { redone = bytes_eq (codes "A"); inputs = record (inputs_for
+    (codes "r2")) { seed = codes "t" } } ∷ [] }
 
 -- ---- the section `outputs`
 

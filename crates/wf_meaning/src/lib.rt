@@ -6,7 +6,8 @@
 //!
 //! Its meaning is an instance of the layered meaning of `wf_layers`: `specs/Flat` says which graph and which source of rows it is,
 //! `specs/Meaning` reads the record of `wf_record` off the rows, in the order of their addresses, and `specs/Status` says how a graph
-//! ends by the rows of its actions, which `specs/Judged` says once more, as a least set. `specs/Ending` says what the run gives out, and how it ends. When the actions end is said in rounds
+//! ends by the rows of its actions, which `specs/Judged` says once more, as a least set. `specs/Ending` says what the run gives out, and
+//! how it ends. When the actions end is said in rounds
 //! (`specs/Rounds`). These give the depths of the layers, and say at once that `runAfter` names only actions that are there and has no
 //! cycle. `specs/Worked` and `proofs/Worked` have worked values.
 //!
@@ -45,14 +46,16 @@ use wf_eval::{values_are_local, words_are_by_place};
 /// A definition all of whose actions end, and whose inputs name only actions before them, meets the premises of the laws
 /// of order, so its meaning doesn't depend on the order in which its actions end.
 pub fn a_graph_that_ends_is_an_instance()
-    ensures { (e : Environment) (actions : List ActionTree) → all_end actions ≡ true → names_before actions ≡ true → IsInstance (graph_of actions) (source e actions) (depth_of actions) }
+    ensures { (e : Environment) (actions : List ActionTree) → all_end actions ≡ true → names_before actions ≡ true
+        → IsInstance (graph_of actions) (source e actions) (depth_of actions) }
 {
     values_are_local();
 }
 
 /// And each row of its meaning is what the action comes to in any rows that are the meaning's of all actions before it.
 pub fn rows_come_from_before()
-    ensures { (e : Environment) (actions : List ActionTree) → all_end actions ≡ true → names_before actions ≡ true → RowsFromBefore e actions }
+    ensures { (e : Environment) (actions : List ActionTree) → all_end actions ≡ true → names_before actions ≡ true
+        → RowsFromBefore e actions }
 {
     values_are_local();
 }
@@ -66,7 +69,8 @@ pub fn a_walk_makes_the_meanings_rows()
 
 /// Where the actions stand in the byte order of their names, the rows of a run stand in the order of their addresses.
 pub fn rows_are_in_order()
-    ensures { (e : Environment) (actions : List ActionTree) → IsInNameOrder action_name actions → IsInKeyOrder address_cmp address_of (rows_of e actions) }
+    ensures { (e : Environment) (actions : List ActionTree) → IsInNameOrder action_name actions
+        → IsInKeyOrder address_cmp address_of (rows_of e actions) }
 {}
 
 /// And these rows stand for the meaning's table: each listed row is the table's, and each that the table has is listed.
@@ -76,10 +80,13 @@ pub fn rows_stand_for_the_table()
 
 /// An action goes by the last layer that has it, else by the run that came first; the section `outputs` and the record by the last layer.
 pub fn the_last_layer_counts()
-    ensures none { (e : Environment) (name : List ℕ) → list_any (λ (layer : Layer). layer.redone name) e.layers ≡ false → facts_of e name ≡ first_facts e }
+    ensures none { (e : Environment) (name : List ℕ) → list_any (λ (layer : Layer). layer.redone name) e.layers ≡ false
+        → facts_of e name ≡ first_facts e }
     ensures one { (e : Environment) (name : List ℕ) (earlier later : List Layer) (layer : Layer) → e.layers ≡ earlier ++ layer ∷ later
-        → layer.redone name ≡ true → list_any (λ (other : Layer). other.redone name) later ≡ false → facts_of e name ≡ layer_facts layer.inputs }
-    ensures last { (e : Environment) (earlier : List Layer) (layer : Layer) → e.layers ≡ earlier ++ layer ∷ [] → last_facts e ≡ layer_facts layer.inputs }
+        → layer.redone name ≡ true → list_any (λ (other : Layer). other.redone name) later ≡ false
+            → facts_of e name ≡ layer_facts layer.inputs }
+    ensures last { (e : Environment) (earlier : List Layer) (layer : Layer) → e.layers ≡ earlier ++ layer ∷ []
+        → last_facts e ≡ layer_facts layer.inputs }
 {}
 
 /// Environments that tell the same give a definition one record.
@@ -95,13 +102,15 @@ pub fn no_action_waits_for_itself()
 /// And all end wherever `runAfter` names only actions that are there, and each action has a depth greater than those of
 /// all that it waits for.
 pub fn all_end_where_there_are_depths()
-    ensures { (actions : List ActionTree) (depth : ℕ → ℕ) → Closed (graph_of actions) (graph_of actions) → IsDepth (graph_of actions) depth → all_end actions ≡ true }
+    ensures { (actions : List ActionTree) (depth : ℕ → ℕ) → Closed (graph_of actions) (graph_of actions) → IsDepth (graph_of actions) depth
+        → all_end actions ≡ true }
 {}
 
 /// The words that an action draws are those of the seed by which it goes and its own name, from the first on: neither other actions nor
 /// the rows that are known change them.
 pub fn words_are_by_action()
-    ensures { (e : Environment) (actions others : List ActionTree) (name : List ℕ) (known rows : Table Row) (n k : ℕ) → words (told_at e actions name known) n k ≡ words (told_at e others name rows) n k }
+    ensures { (e : Environment) (actions others : List ActionTree) (name : List ℕ) (known rows : Table Row) (n k : ℕ)
+        → words (told_at e actions name known) n k ≡ words (told_at e others name rows) n k }
 {
     words_are_by_place();
 }
@@ -111,8 +120,10 @@ pub fn words_are_by_action()
 /// Succeeded.
 pub fn the_status_is_that_of_the_judged()
     ensures failed { (actions : List ActionTree) (known : Table Row) → graph_status actions known ≡ Failed → AnyFailed actions known }
-    ensures judged { (actions : List ActionTree) (known : Table Row) → all_end actions ≡ true → AnyFailed actions known → graph_status actions known ≡ Failed }
-    ensures two { (actions : List ActionTree) (known : Table Row) → (graph_status actions known ≡ Failed) ⊎ (graph_status actions known ≡ Succeeded) }
+    ensures judged { (actions : List ActionTree) (known : Table Row) → all_end actions ≡ true → AnyFailed actions known
+        → graph_status actions known ≡ Failed }
+    ensures two { (actions : List ActionTree) (known : Table Row) → (graph_status actions known ≡ Failed) ⊎ (graph_status actions known
+        ≡ Succeeded) }
 {}
 
 /// Worked values: what runs and what is Skipped, which words are drawn, what never ends, and when a graph Failed.

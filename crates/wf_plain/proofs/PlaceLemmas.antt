@@ -27,7 +27,8 @@ found-put k p places =
     ap (option_map (λ x. x.place)) (find-put nat_list_cmp_total (λ x. x.name.now) k p places)
     ∙ go (is_eq (bytes_cmp k p.name.now))
   where
-    go : (b : Bool) → option_map (λ x. x.place) (cond b (Some p) (find_named (λ x. x.name.now) k places)) ≡ cond b (Some p.place) (place_found places k)
+    go : (b : Bool) → option_map (λ x. x.place) (cond b (Some p) (find_named (λ x. x.name.now) k places))
+        ≡ cond b (Some p.place) (place_found places k)
     go true = refl
     go false = refl
 

@@ -11,16 +11,19 @@ use Rattle.wf_plain.specs.declared.unbuilt.Purpose.{Purpose}
 abbrev pub own : Bool → ActionTree → List (List ℕ)
 own built a = cond built [] (action_pointer a ∷ [])
 
-pointers-then : (purpose : Purpose) (a : ActionTree) (more : List ActionTree) → pointers purpose (a ∷ more) ≡ own (is_built purpose a) a ++ pointers purpose more
+pointers-then : (purpose : Purpose) (a : ActionTree) (more : List ActionTree)
+    → pointers purpose (a ∷ more) ≡ own (is_built purpose a) a ++ pointers purpose more
 pointers-then purpose a more = go (is_built purpose a)
   where
-    go : (b : Bool) → map action_pointer (cond (not b) (a ∷ filter (λ x. not (is_built purpose x)) more) (filter (λ x. not (is_built purpose x)) more))
+    go : (b : Bool) → map action_pointer (cond (not b) (a ∷ filter (λ x. not (is_built purpose x)) more) (filter (λ x. not
+        (is_built purpose x)) more))
         ≡ own b a ++ pointers purpose more
     go true = refl
     go false = refl
 
 -- the best so far and the pointer of one more action, before those of the rest
-pub one-more : (purpose : Purpose) (best : Option (List ℕ)) (built : Bool) (a : ActionTree) (more : List ActionTree) → built ≡ is_built purpose a
+pub one-more : (purpose : Purpose) (best : Option (List ℕ)) (built : Bool) (a : ActionTree) (more : List ActionTree)
+    → built ≡ is_built purpose a
     → lesser (lesser best (least (own built a))) (least (pointers purpose more)) ≡ lesser best (least (pointers purpose (a ∷ more)))
 one-more purpose best built a more is =
     ap (λ b. lesser (lesser best (least (own b a))) (least (pointers purpose more))) is

@@ -7,4 +7,5 @@ use Rattle.wf_plain.proofs.flat.flat_with.Given as goal
 
 abbrev pub invariant-loop-action : goal.invariant-loop-action
 invariant-loop-action l =
-    map action_tree l.flat.items ≡ map (flat_action (place_found l.places) (length l.tops)) (map def.action_tree (take l.action-index l.tops))
+    map action_tree l.flat.items ≡ map (flat_action (place_found l.places) (length l.tops)) (map def.action_tree
+        (take l.action-index l.tops))

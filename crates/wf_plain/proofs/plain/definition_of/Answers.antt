@@ -27,7 +27,8 @@ invariant_of-result c =
           (λ read. flat-order tops (c.actions_stand_in_order.ensures d read)));
       ends = ap all_end made ∙ ∥∥₁_elim c.always_read.ensures (Bool-set _ _) (λ read. c.all_actions_end.ensures d read);
       before = ap names_before made
-          ∙ ∥∥₁_elim c.always_read.ensures (Bool-set _ _) (λ read. c.names_are_before.ensures d read c.always_checked.ensures.holds c.requires);
+          ∙ ∥∥₁_elim c.always_read.ensures (Bool-set _ _) (λ read. c.names_are_before.ensures d read c.always_checked.ensures.holds
+              c.requires);
     }
 
 pub returns : goal.returns
@@ -39,5 +40,6 @@ returns c =
       parameters = map param_tree c.args.checked.def.parameters;
       given = c.args.checked.def.given;
       triggers = map trigger_tree c.args.checked.def.triggers;
-      definition = record { digest = c.args.checked.def.digest.bytes; outputs = map output_tree c.args.checked.def.outputs; actions = actions };
+      definition = record { digest = c.args.checked.def.digest.bytes; outputs = map output_tree c.args.checked.def.outputs; actions =
+          actions };
     } in ap with_actions made
