@@ -11,6 +11,7 @@ ghost use Rattle.wf_val.specs.Function.{function_of};
 
 use crate::named::{Asked, Named};
 use std::alloc::{AllocError, Global};
+use wf_calls::function_named;
 use wf_template::Expr;
 use wf_val::{Fun, Text, Val};
 
@@ -63,7 +64,7 @@ fn found_by<'a>(function: Fun, args: &'a [Expr]) -> Option<Found<'a>>
 pub(crate) fn found_by_name<'a>(name: &Text, args: &'a [Expr]) -> Option<Found<'a>>
     ensures { option_to_list (option_map found_use result) ≡ used_by_name (args_tree args.now) (function_of name.now) }
 {
-    match Fun::of(name) {
+    match function_named(name) {
         Some(function) => found_by(function, args),
         None => None,
     }
