@@ -6,5 +6,4 @@ pub mod AlikeLemmas
 pub mod NamesLemmas
 pub mod ReferenceLemmas
 pub mod KeptLemmas
-pub mod InsertLemmas
 pub mod WorkedRows

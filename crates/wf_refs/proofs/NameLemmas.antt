@@ -74,7 +74,8 @@ named-insert_at k x y ys Equal is later =
 named-insert_at k x y ys Greater is later =
     ap (λ b. bytes_eq k y || b) later ∙ or-swap (bytes_eq k x) (bytes_eq k y) (list_any (bytes_eq k) ys)
 
-named-insert : (k x : List ℕ) (ys : List (List ℕ))
+-- a name is among those of a set in which one more is put where it is that one, or was among them
+pub named-insert : (k x : List ℕ) (ys : List (List ℕ))
     → list_any (bytes_eq k) (insert_key bytes_cmp ys x) ≡ (bytes_eq k x || list_any (bytes_eq k) ys)
 named-insert k x [] = refl
 named-insert k x (y ∷ ys) = named-insert_at k x y ys (bytes_cmp x y) refl (named-insert k x ys)
