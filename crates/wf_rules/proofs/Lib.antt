@@ -3,4 +3,6 @@ mod StandingLemmas
 mod ToldLemmas
 mod NameLemmas
 mod InitialLemmas
-mod WorkedRows
+mod RowWords
+mod WorkedNames
+mod WorkedLoops

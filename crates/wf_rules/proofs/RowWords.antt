@@ -1,0 +1,79 @@
+-- Words for the rows of worked definitions.
+use Prim.Native.String.{String}
+use Rattle.std.specs.Prelude.{ℕ, List, [], ◌∷◌, true, false, Option, Some, None, codes, pos}
+use Rattle.wf_val.specs.ValueTree as value
+use Rattle.wf_template.specs.ExprTree.{ExprTree, literal, call, expr_trees}
+use Rattle.wf_template.specs.TemplateTree.{whole, plain}
+use Rattle.wf_template.specs.DataTree.{DataTree, number, text, list, data_trees}
+use Rattle.wf_template.specs.CondTree.{CondTree, holds}
+use Rattle.wf_def.specs.ActionTree.{ActionTree, action, KindTree, compose, initialize, scope, foreach, until, action_trees}
+use Rattle.wf_def.specs.DefTree.{DefTree, OutputTree, TriggerTree}
+use Rattle.wf_def.specs.declared.after.After.{After}
+use Rattle.wf_def.specs.declared.sort.Sort.{Sort}
+use Rattle.wf_reading.specs.declared.definition.RuleFault.{RuleFault}
+
+-- a call without arguments, and one with a name
+abbrev pub asks : String → ExprTree
+asks f = call (codes f) (expr_trees [])
+
+abbrev pub asked : String → String → ExprTree
+asked f k = call (codes f) (expr_trees (literal (value.text (codes k)) ∷ []))
+
+abbrev pub data_of : ExprTree → DataTree
+data_of e = text (whole e)
+
+abbrev pub composes : ExprTree → KindTree
+composes e = compose (data_of e)
+
+abbrev pub one : KindTree
+one = compose (number (pos 1))
+
+abbrev pub truth : ExprTree → CondTree
+truth e = holds (whole e)
+
+abbrev pub yes : CondTree
+yes = holds (plain (codes "true"))
+
+-- waits for the action of a number
+abbrev pub after : ℕ → List After
+after n = record { name = []; number = n; statuses = record { succeeded = true; failed = false; skipped = false; timed_out = false } } ∷ []
+
+-- an action of a name and a number at a pointer
+abbrev pub at : String → ℕ → String → List After → KindTree → ActionTree
+at name n pointer waits kind = action (codes name) n (codes pointer) waits kind []
+
+-- with tracked properties
+abbrev pub tracking : String → ℕ → String → List After → KindTree → ExprTree → ActionTree
+tracking name n pointer waits kind e = action (codes name) n (codes pointer) waits kind ((codes "p", data_of e) ∷ [])
+
+abbrev pub in_scope : List ActionTree → KindTree
+in_scope as' = scope (action_trees as')
+
+abbrev pub each : DataTree → List ActionTree → KindTree
+each items as' = foreach items 20 (action_trees as')
+
+abbrev pub some : DataTree
+some = list (data_trees (number (pos 1) ∷ []))
+
+abbrev pub turns : CondTree → List ActionTree → KindTree
+turns test as' = until test 60 false (action_trees as')
+
+-- a definition with these actions
+abbrev pub of : List ActionTree → DefTree
+of as' = record { digest = []; parameters = []; given = []; triggers = []; top = action_trees as'; outputs = [] }
+
+abbrev pub output : ExprTree → List OutputTree
+output e = record { name = codes "o"; value = data_of e } ∷ []
+
+abbrev pub trigger : ExprTree → List TriggerTree
+trigger e = record { name = codes "t"; split = Some (whole e); conditions = [] } ∷ []
+
+abbrev pub fault : ℕ → String → Option RuleFault
+fault n pointer = Some (RuleFault.Rule n (codes pointer))
+
+-- a variable is initialised, and read
+abbrev pub init : Sort → KindTree
+init sort = initialize (record { name = codes "v"; sort = sort; value = None } ∷ [])
+
+abbrev pub reads : KindTree
+reads = composes (asked "variables" "v")
