@@ -1,7 +1,8 @@
 -- The actions that the rules look at, in the order of the tree.
 use Rattle.std.proofs.Common.{◌≡◌, ℕ, List, [], ◌∷◌, ◌++◌, map, refl, ap, ◌∙◌}
 use Rattle.std.proofs.lemmas.List.{map-append}
-use Rattle.wf_def.specs.ActionTree.{ActionTree, action, action_number, KindTree, scope, branch, switch, switch_else, foreach, until, ActionTrees, no_actions, action_then, CaseTrees, no_cases, case_then}
+use Rattle.wf_def.specs.ActionTree.{ActionTree, action, action_number, KindTree, scope, branch, switch, switch_else, foreach, until}
+use Rattle.wf_def.specs.ActionTree.{ActionTrees, no_actions, action_then, CaseTrees, no_cases, case_then}
 use Rattle.wf_reading.specs.Facts.{graph_numbers}
 use Rattle.wf_refs.proofs.NumberLemmas.{numbers_are}
 use Rattle.wf_refs.specs.Actions.{all_actions, cases_actions, kind_actions}

@@ -1,5 +1,6 @@
 -- Where the rules on loops hold, what is asked of a loop is asked inside it, and references leave few loops.
-use Rattle.std.proofs.Common.{◌≡◌, ℕ, ◌≤◌, Bool, true, false, not, cond, List, [], ◌∷◌, map, Some, ◌⊎◌, inl, inr, nat_eq, bytes_eq, count_by, refl, sym, ap, subst, ◌∙◌, true≢false, arith}
+use Rattle.std.proofs.Common.{◌≡◌, ℕ, ◌≤◌, Bool, true, false, not, cond, List, [], ◌∷◌, map, Some, ◌⊎◌, inl, inr, nat_eq, bytes_eq}
+use Rattle.std.proofs.Common.{count_by, refl, sym, ap, subst, ◌∙◌, true≢false, arith}
 use Rattle.std.specs.Prelude.{◌||◌, ◌&&◌, nat_lt}
 use Rattle.std.specs.List.{AllByRecursion, find, list_any}
 use Rattle.std.proofs.lemmas.Bool.{eqb-true, ltb-false}
@@ -17,13 +18,15 @@ use Rattle.wf_refs.specs.UsesTree.{UsesTree}
 use Rattle.wf_refs.specs.declared.site.Site.{Site}
 use Rattle.wf_rules.specs.Broken.{offences, told}
 use Rattle.wf_rules.specs.Kinds.{is_foreach, is_loop, is_until}
-use Rattle.wf_rules.specs.Rules.{action_breaks, breaks_if, breaks_with, has_item, is_inside, is_items, is_left, is_test, leaves_loops, leaves_two, leaves_two_for, loops_left, names_outer}
+use Rattle.wf_rules.specs.Rules.{action_breaks, breaks_if, breaks_with, has_item, is_inside, is_items, is_left, is_test, leaves_loops}
+use Rattle.wf_rules.specs.Rules.{leaves_two, leaves_two_for, loops_left, names_outer}
 use Rattle.wf_rules.specs.Standing.{StandingTree, kind_at, number_at, pointer_at, standings_of}
 use Rattle.wf_rules.specs.Whole.{has_name, whole_of}
 use Rattle.wf_rules.specs.declared.rule.Rule.{Rule}
 use Rattle.wf_accepted.proofs.RoundLemmas.{all-weaker}
 use Rattle.wf_accepted.proofs.SeenLemmas.{at-site, both, either, none-first, none-of, none-second, none-told, two}
-use Rattle.wf_accepted.specs.Loops.{AllAskLoopsRound, AllLeaveFew, AsksLoopsRound, IsInLoop, IsInLoopNamed, IsOneOf, IsRound, LeavesFew, LeavesNone, LeavesOne}
+use Rattle.wf_accepted.specs.Loops.{AllAskLoopsRound, AllLeaveFew, AsksLoopsRound, IsInLoop, IsInLoopNamed, IsOneOf, IsRound, LeavesFew}
+use Rattle.wf_accepted.specs.Loops.{LeavesNone, LeavesOne}
 use Rattle.wf_accepted.specs.Seen.{IsSiteOf}
 
 -- ---- truth values and lists

@@ -1,5 +1,6 @@
 -- Where the rule on references holds, what is named is seen.
-use Rattle.std.proofs.Common.{◌≡◌, ℕ, Bool, true, false, not, cond, List, [], ◌∷◌, map, Option, Some, None, option_map, ◌⊎◌, inl, inr, nat_eq, bytes_eq, refl, sym, ap, subst, ◌∙◌, true≢false}
+use Rattle.std.proofs.Common.{◌≡◌, ℕ, Bool, true, false, not, cond, List, [], ◌∷◌, map, Option, Some, None, option_map, ◌⊎◌, inl, inr}
+use Rattle.std.proofs.Common.{nat_eq, bytes_eq, refl, sym, ap, subst, ◌∙◌, true≢false}
 use Rattle.std.specs.Prelude.{◌||◌, ◌&&◌, ◌↔◌}
 use Rattle.std.specs.List.{AllByRecursion, find, list_any}
 use Rattle.std.proofs.lemmas.Bool.{eq-eqb}
@@ -13,7 +14,8 @@ use Rattle.wf_reading.proofs.RunAfterLemmas.{append-first, append-second}
 use Rattle.wf_refs.specs.UsesTree.{UsesTree}
 use Rattle.wf_refs.specs.declared.site.Site.{Site}
 use Rattle.wf_rules.specs.Broken.{broken_of, first_broken, offences, rules_in_order, told}
-use Rattle.wf_rules.specs.Rules.{action_breaks, breaks_at, breaks_if, breaks_itself, is_found_unseen, is_seen, is_test, is_unseen, names_unseen}
+use Rattle.wf_rules.specs.Rules.{action_breaks, breaks_at, breaks_if, breaks_itself, is_found_unseen, is_seen, is_test, is_unseen}
+use Rattle.wf_rules.specs.Rules.{names_unseen}
 use Rattle.wf_rules.specs.Standing.{StandingTree, number_at, pointer_at, standings_of}
 use Rattle.wf_rules.specs.Whole.{Whole, has_name, whole_of}
 use Rattle.wf_rules.specs.declared.rule.Rule.{Rule}

@@ -1,13 +1,15 @@
 -- Each graph of a definition that breaks no rule, at any depth: its `runAfter` has depths, its actions are numbered by their names, and its
 -- numbers have their ranges.
-use Rattle.std.proofs.Common.{◌≡◌, ◌≤◌, ℕ, ℤ, pos, Bool, true, false, List, [], ◌∷◌, ◌++◌, Option, Some, None, Result, Ok, Err, map, refl, arith, sym, ap, ◌∙◌}
+use Rattle.std.proofs.Common.{◌≡◌, ◌≤◌, ℕ, ℤ, pos, Bool, true, false, List, [], ◌∷◌, ◌++◌, Option, Some, None, Result, Ok, Err, map, refl}
+use Rattle.std.proofs.Common.{arith, sym, ap, ◌∙◌}
 use Rattle.std.specs.Prelude.{◌||◌, nat_le, if◌then◌else◌, codes}
 use Rattle.std.specs.List.{AllByRecursion}
 use Rattle.std.specs.Str.{str_eq_ignore_ascii_case}
 use Rattle.std.proofs.lemmas.Bool.{leb-true}
 use Rattle.wf_val.specs.Get.{get, name_of}
 use Rattle.wf_val.specs.NameOrder.{IsInNameOrder}
-use Rattle.wf_val.specs.ValueTree.{ValueTree, null, boolean, number, text, list, object, MemberTrees, no_members, member_then, Member, pairs}
+use Rattle.wf_val.specs.ValueTree.{ValueTree, null, boolean, number, text, list, object, MemberTrees, no_members, member_then, Member}
+use Rattle.wf_val.specs.ValueTree.{pairs}
 use Rattle.wf_json.specs.Pointer.{member_step}
 use Rattle.wf_retry.specs.Reading.{are_intervals, number_in as count_in, policy_by, policy_by_count, policy_of, policy_of_type}
 use Rattle.wf_retry.specs.declared.policy.Policy.{Policy}

@@ -1,6 +1,7 @@
 -- What follows for the graphs that a definition is read as, from a rule that it doesn't break: one walk along the values that the rule
 -- looks at.
-use Rattle.std.proofs.Common.{◌≡◌, ℕ, Bool, true, false, List, [], ◌++◌, Option, Some, None, map, option_map, bytes_eq, refl, sym, ap, subst, ◌∙◌}
+use Rattle.std.proofs.Common.{◌≡◌, ℕ, Bool, true, false, List, [], ◌++◌, Option, Some, None, map, option_map, bytes_eq, refl, sym, ap}
+use Rattle.std.proofs.Common.{subst, ◌∙◌}
 use Rattle.std.specs.Prelude.{if◌then◌else◌, codes, unwrap_or}
 use Rattle.wf_val.specs.ValueTree.{ValueTree, null, boolean, number, text, list, object, MemberTrees, no_members, member_then, pairs}
 use Rattle.wf_val.specs.Get.{get, name_of, value_of}
@@ -20,8 +21,10 @@ use Rattle.wf_form.specs.Whole.{Whole}
 use Rattle.wf_form.specs.declared.role.Role.{Role}
 use Rattle.wf_form.specs.declared.role.Holder.{Holder}
 use Rattle.wf_form.specs.declared.rule.Rule.{Rule}
-use Rattle.wf_def.specs.ActionTree.{KindTree, scope, branch, switch, switch_else, foreach, until, ActionTrees, no_actions, action_then, CaseTree, case_trees, CaseTrees, no_cases, case_then}
-use Rattle.wf_reading.specs.Graphs.{action_with, branch_in, branch_of, cases_in, cases_of, each_case, graph_in, graph_of, kind_at, kind_with, switch_of}
+use Rattle.wf_def.specs.ActionTree.{KindTree, scope, branch, switch, switch_else, foreach, until, ActionTrees, no_actions, action_then}
+use Rattle.wf_def.specs.ActionTree.{CaseTree, case_trees, CaseTrees, no_cases, case_then}
+use Rattle.wf_reading.specs.Graphs.{action_with, branch_in, branch_of, cases_in, cases_of, each_case, graph_in, graph_of, kind_at}
+use Rattle.wf_reading.specs.Graphs.{kind_with, switch_of}
 use Rattle.wf_leaves.specs.Leaves.{leaf_of, nothing}
 use Rattle.wf_reading.specs.Meant.{top_at}
 use Rattle.wf_reading.proofs.GraphLemmas.{value_of-here, value_of-later}

@@ -6,7 +6,8 @@ use Rattle.wf_template.specs.TemplateTree.{plain}
 use Rattle.wf_template.specs.DataTree.{null}
 use Rattle.wf_template.specs.CondTree.{CondTree, holds}
 use Rattle.wf_retry.specs.declared.policy.Policy.{Policy}
-use Rattle.wf_def.specs.ActionTree.{ActionTree, action, KindTree, compose, connector, scope, branch, switch, switch_else, foreach, until, ActionTrees, no_actions, action_then, actions_in, CaseTrees, no_cases, case_then}
+use Rattle.wf_def.specs.ActionTree.{ActionTree, action, KindTree, compose, connector, scope, branch, switch, switch_else, foreach, until}
+use Rattle.wf_def.specs.ActionTree.{ActionTrees, no_actions, action_then, actions_in, CaseTrees, no_cases, case_then}
 use Rattle.wf_known.specs.Each.{EachGraph}
 use Rattle.wf_known.specs.Held.{AreInRange, levels}
 

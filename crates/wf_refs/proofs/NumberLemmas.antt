@@ -1,5 +1,6 @@
 -- Each action of a definition that was read has a number of its own.
-use Rattle.std.proofs.Common.{◌≡◌, ℕ, ◌+◌, ◌<◌, ◌≤◌, Bool, true, false, cond, ◌||◌, List, [], ◌∷◌, ◌++◌, map, Some, nat_eq, is_lt, is_eq, Ordering, Less, Equal, Greater, refl, sym, ap, ◌∙◌, subst, arith, true≢false}
+use Rattle.std.proofs.Common.{◌≡◌, ℕ, ◌+◌, ◌<◌, ◌≤◌, Bool, true, false, cond, ◌||◌, List, [], ◌∷◌, ◌++◌, map, Some, nat_eq, is_lt, is_eq}
+use Rattle.std.proofs.Common.{Ordering, Less, Equal, Greater, refl, sym, ap, ◌∙◌, subst, arith, true≢false}
 use Rattle.std.proofs.lemmas.Bool.{eqb-true, eq-eqb}
 use Rattle.std.proofs.lemmas.Cmp.{nat_list_cmp_total, tied_itself}
 use Rattle.std.proofs.lemmas.List.{map-append}
@@ -10,7 +11,8 @@ use Rattle.std.specs.List.{AllByRecursion, count_by, find, list_any}
 use Rattle.std.specs.Ordering.{ordering_reverse}
 use Rattle.std.specs.Str.{bytes_eq}
 use Rattle.wf_val.specs.NameOrder.{bytes_cmp}
-use Rattle.wf_def.specs.ActionTree.{ActionTree, action, action_name, action_number, KindTree, scope, branch, switch, switch_else, foreach, until, ActionTrees, no_actions, action_then, CaseTrees, no_cases, case_then}
+use Rattle.wf_def.specs.ActionTree.{ActionTree, action, action_name, action_number, KindTree, scope, branch, switch, switch_else, foreach}
+use Rattle.wf_def.specs.ActionTree.{until, ActionTrees, no_actions, action_then, CaseTrees, no_cases, case_then}
 use Rattle.wf_def.specs.Names.{graph_names, kind_names, cases_names}
 use Rattle.wf_reading.specs.Facts.{AreNumbered, AreOnce, graph_numbers, kind_numbers, cases_numbers}
 use Rattle.wf_reading.specs.Numbers.{is_below}

@@ -1,5 +1,6 @@
 -- Tables of actions that are filled number by number.
-use Rattle.std.proofs.Common.{◌≡◌, ℕ, zero, suc, ◌+◌, ◌<◌, ◌≤◌, Bool, true, false, cond, List, [], ◌∷◌, ◌++◌, map, length, drop, get_or, set, Option, Some, None, option_map, nat_eq, refl, sym, ap, ◌∙◌, arith, rules, true≢false}
+use Rattle.std.proofs.Common.{◌≡◌, ℕ, zero, suc, ◌+◌, ◌<◌, ◌≤◌, Bool, true, false, cond, List, [], ◌∷◌, ◌++◌, map, length, drop, get_or}
+use Rattle.std.proofs.Common.{set, Option, Some, None, option_map, nat_eq, refl, sym, ap, ◌∙◌, arith, rules, true≢false}
 use Rattle.std.proofs.lemmas.Bool.{eq-eqb, eqb-true}
 use Rattle.std.proofs.lemmas.List.{drop_all}
 use Rattle.std.specs.List.{find}
@@ -13,7 +14,8 @@ use Rattle.wf_def.specs.declared.graph.Kind.TheFolds.{fold_out-Action}
 use Rattle.wf_def.proofs.SizeLemmas.{drop_at_place}
 use Rattle.wf_refs.specs.Actions.{has_number, numbered}
 use Rattle.wf_refs.specs.Seen.{action_at, action_uses_seen, is_free, uses_at, uses_seen}
-use Rattle.wf_refs.specs.Sites.{action_uses, uses_at_inputs, uses_at_items, uses_at_output, uses_at_test, uses_at_tracked, uses_at_trigger, uses_of}
+use Rattle.wf_refs.specs.Sites.{action_uses, uses_at_inputs, uses_at_items, uses_at_output, uses_at_test, uses_at_tracked, uses_at_trigger}
+use Rattle.wf_refs.specs.Sites.{uses_of}
 use Rattle.wf_refs.specs.UsesTree.{ActionUsesTree, UsesTree}
 use Rattle.wf_refs.specs.declared.site.Site.{Site}
 use Rattle.wf_refs.specs.declared.table.ActionUses.{ActionUses}

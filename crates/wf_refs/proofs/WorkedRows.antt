@@ -9,7 +9,10 @@ use Rattle.wf_template.specs.TemplateTree.{TemplateTree, letters, part, plain, w
 use Rattle.wf_template.specs.DataTree.{DataTree, null, number, text, list, object, data_trees, data_members, DataMember}
 use Rattle.wf_template.specs.CondTree.{CondTree, holds, all_of, any_of, not_of, compare_by, cond_trees}
 use Rattle.wf_retry.specs.declared.policy.Policy.{Policy}
-use Rattle.wf_def.specs.ActionTree.{ActionTree, action, action_number, InitialTree, KindTree, compose, connector, wait, response, terminate, select, query, join, parse_json, initialize, set_to, increment, decrement, append_array, append_string, scope, branch, switch, switch_else, foreach, until, ActionTrees, no_actions, action_then, action_trees, CaseTrees, no_cases, case_then}
+use Rattle.wf_def.specs.ActionTree.{ActionTree, action, action_number, InitialTree, KindTree, compose, connector, wait, response, terminate}
+use Rattle.wf_def.specs.ActionTree.{select, query, join, parse_json, initialize, set_to, increment, decrement, append_array, append_string}
+use Rattle.wf_def.specs.ActionTree.{scope, branch, switch, switch_else, foreach, until, ActionTrees, no_actions, action_then, action_trees}
+use Rattle.wf_def.specs.ActionTree.{CaseTrees, no_cases, case_then}
 use Rattle.wf_def.specs.DefTree.{DefTree}
 use Rattle.wf_def.specs.declared.sort.Sort.{Sort}
 use Rattle.wf_eval.specs.Uses.{cond_uses, template_uses, tree_uses, uses}

@@ -2,7 +2,10 @@
 -- of its graph.
 use Rattle.std.specs.Prelude.{ℕ, Bool, List, [], ◌∷◌, ◌++◌, Option, nat_eq}
 use Rattle.std.specs.List.{find}
-use Rattle.wf_def.specs.ActionTree.{ActionTree, action, action_number, KindTree, compose, connector, wait, response, terminate, select, query, join, parse_json, initialize, set_to, increment, decrement, append_array, append_string, scope, branch, switch, switch_else, foreach, until, ActionTrees, no_actions, action_then, CaseTrees, no_cases, case_then}
+use Rattle.wf_def.specs.ActionTree.{ActionTree, action, action_number, KindTree, compose, connector, wait, response, terminate, select}
+use Rattle.wf_def.specs.ActionTree.{query, join, parse_json, initialize, set_to, increment, decrement, append_array, append_string, scope}
+use Rattle.wf_def.specs.ActionTree.{branch, switch, switch_else, foreach, until, ActionTrees, no_actions, action_then, CaseTrees, no_cases}
+use Rattle.wf_def.specs.ActionTree.{case_then}
 
 abbrev mutual
   pub all_actions : ActionTrees → List ActionTree

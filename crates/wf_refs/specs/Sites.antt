@@ -5,7 +5,9 @@ use Rattle.std.specs.Prelude.{ℕ, List, [], ◌∷◌, ◌++◌, map, Option, S
 use Rattle.std.specs.Option.{option_and_then}
 use Rattle.wf_template.specs.TemplateTree.{TemplateTree}
 use Rattle.wf_template.specs.DataTree.{DataTree, data_members}
-use Rattle.wf_def.specs.ActionTree.{ActionTree, action, InitialTree, KindTree, compose, connector, wait, response, terminate, select, query, join, parse_json, initialize, set_to, increment, decrement, append_array, append_string, scope, branch, switch, switch_else, foreach, until}
+use Rattle.wf_def.specs.ActionTree.{ActionTree, action, InitialTree, KindTree, compose, connector, wait, response, terminate, select, query}
+use Rattle.wf_def.specs.ActionTree.{join, parse_json, initialize, set_to, increment, decrement, append_array, append_string, scope, branch}
+use Rattle.wf_def.specs.ActionTree.{switch, switch_else, foreach, until}
 use Rattle.wf_def.specs.DefTree.{DefTree, OutputTree, TriggerTree}
 use Rattle.wf_eval.specs.Uses.{Use, cond_uses, members_uses, template_uses, tree_uses}
 use Rattle.wf_refs.specs.Actions.{numbered}

@@ -1,5 +1,6 @@
 -- One more of those that may be told of.
-use Rattle.std.proofs.Common.{◌≡◌, ◌+◌, ℕ, suc, Bool, true, false, cond, List, [], ◌∷◌, ◌++◌, Option, Some, None, add-one, refl, sym, ap, ◌∙◌}
+use Rattle.std.proofs.Common.{◌≡◌, ◌+◌, ℕ, suc, Bool, true, false, cond, List, [], ◌∷◌, ◌++◌, Option, Some, None, add-one, refl, sym, ap}
+use Rattle.std.proofs.Common.{◌∙◌}
 use Rattle.wf_json.specs.Pointer.{lesser, least, member_step}
 use Rattle.wf_json.proofs.PointerLemmas.{lesser-assoc, least-append}
 use Rattle.wf_val.specs.Cut.{cut_u32}

@@ -1,6 +1,7 @@
 -- What the rules ask of the kind of an action.
 use Rattle.std.specs.Prelude.{Bool, true, false, ◌||◌}
-use Rattle.wf_def.specs.ActionTree.{KindTree, response, terminate, initialize, increment, decrement, append_array, append_string, scope, branch, switch, switch_else, foreach, until}
+use Rattle.wf_def.specs.ActionTree.{KindTree, response, terminate, initialize, increment, decrement, append_array, append_string, scope}
+use Rattle.wf_def.specs.ActionTree.{branch, switch, switch_else, foreach, until}
 use Rattle.wf_def.specs.declared.sort.Sort.{Sort}
 use Rattle.wf_rules.specs.declared.kinds.Loop.{Loop}
 

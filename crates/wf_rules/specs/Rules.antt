@@ -3,7 +3,8 @@
 --
 -- Each rule but V17 is a test of what is asked for at one site. A site stands at an action, or in the section `outputs`, where there is no
 -- action. What breaks a rule is told at the action, the output, the trigger or the parameter (specs/Broken).
-use Rattle.std.specs.Prelude.{ℕ, List, [], ◌∷◌, Bool, true, false, not, ◌&&◌, ◌||◌, nat_eq, nat_lt, bytes_eq, Option, Some, None, count_by, if◌then◌else◌}
+use Rattle.std.specs.Prelude.{ℕ, List, [], ◌∷◌, Bool, true, false, not, ◌&&◌, ◌||◌, nat_eq, nat_lt, bytes_eq, Option, Some, None, count_by}
+use Rattle.std.specs.Prelude.{if◌then◌else◌}
 use Rattle.std.specs.List.{list_any}
 use Rattle.std.specs.Ordering.{is_lt}
 use Rattle.wf_val.specs.NameOrder.{bytes_cmp}

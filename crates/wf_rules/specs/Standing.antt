@@ -1,6 +1,9 @@
 -- Where each action of a definition stands.
 use Rattle.std.specs.Prelude.{ℕ, List, [], ◌∷◌, ◌++◌}
-use Rattle.wf_def.specs.ActionTree.{ActionTree, action, action_kind, action_name, action_number, action_pointer, KindTree, compose, connector, wait, response, terminate, select, query, join, parse_json, initialize, set_to, increment, decrement, append_array, append_string, scope, branch, switch, switch_else, foreach, until, ActionTrees, no_actions, action_then, CaseTrees, no_cases, case_then}
+use Rattle.wf_def.specs.ActionTree.{ActionTree, action, action_kind, action_name, action_number, action_pointer, KindTree, compose}
+use Rattle.wf_def.specs.ActionTree.{connector, wait, response, terminate, select, query, join, parse_json, initialize, set_to, increment}
+use Rattle.wf_def.specs.ActionTree.{decrement, append_array, append_string, scope, branch, switch, switch_else, foreach, until, ActionTrees}
+use Rattle.wf_def.specs.ActionTree.{no_actions, action_then, CaseTrees, no_cases, case_then}
 
 -- an action, and the containers round it, outermost first
 pub record StandingTree : Type 0 where

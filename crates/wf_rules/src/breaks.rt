@@ -4,7 +4,10 @@ ghost use Rattle.std.specs.Prelude.{◌≡◌, map, option_map};
 ghost use Rattle.wf_def.specs.DefSeen.{param_tree};
 ghost use Rattle.wf_refs.specs.Seen.{uses_seen};
 ghost use Rattle.wf_rules.specs.KnownSeen.{whole_seen};
-ghost use Rattle.wf_rules.specs.Rules.{action_breaks, asks_elsewhere, asks_leaf, asks_too_soon, breaks_at, breaks_if, breaks_itself, breaks_with, comes_early, has_misfit, has_sort, is_any, is_misdeclared, is_misfit, is_misfit_if, is_too_big_if, leaves_loops, misuses, names_outer, names_undeclared, names_unseen, output_breaks, parameter_breaks, trigger_breaks, trigger_breaks_if, trigger_breaks_with};
+ghost use Rattle.wf_rules.specs.Rules.{action_breaks, asks_elsewhere, asks_leaf, asks_too_soon, breaks_at, breaks_if, breaks_itself};
+ghost use Rattle.wf_rules.specs.Rules.{breaks_with, comes_early, has_misfit, has_sort, is_any, is_misdeclared, is_misfit, is_misfit_if};
+ghost use Rattle.wf_rules.specs.Rules.{is_too_big_if, leaves_loops, misuses, names_outer, names_undeclared, names_unseen, output_breaks};
+ghost use Rattle.wf_rules.specs.Rules.{parameter_breaks, trigger_breaks, trigger_breaks_if, trigger_breaks_with};
 ghost use Rattle.wf_rules.specs.Seen.{standing_tree};
 ghost use Rattle.wf_val.specs.Seen.{tree};
 

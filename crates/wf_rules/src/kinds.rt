@@ -1,7 +1,8 @@
 //! What the rules ask of the kind of an action.
 ghost use Rattle.std.specs.Prelude.{◌≡◌};
 ghost use Rattle.wf_def.specs.ActionSeen.{kind_tree};
-ghost use Rattle.wf_rules.specs.Kinds.{ends_or_responds, is_container, is_foreach, is_initialize, is_list, is_loop, is_number, is_of, is_text, is_until, suits};
+ghost use Rattle.wf_rules.specs.Kinds.{ends_or_responds, is_container, is_foreach, is_initialize, is_list, is_loop, is_number, is_of};
+ghost use Rattle.wf_rules.specs.Kinds.{is_text, is_until, suits};
 
 use wf_def::{Kind, Sort};
 

@@ -4,7 +4,8 @@ ghost use Rattle.std.specs.Prelude.{◌≡◌, map, nat_eq, count_by, option_map
 ghost use Rattle.wf_def.specs.ActionSeen.{action_tree};
 ghost use Rattle.wf_def.specs.ActionTree.{action_kind, action_number};
 ghost use Rattle.wf_rules.specs.Kinds.{is_foreach, is_loop};
-ghost use Rattle.wf_rules.specs.Rules.{ends_in_loop, has_item, is_inside, is_items, is_left, is_loop_named, is_outside, is_test, is_tracked, loops_left};
+ghost use Rattle.wf_rules.specs.Rules.{ends_in_loop, has_item, is_inside, is_items, is_left, is_loop_named, is_outside, is_test};
+ghost use Rattle.wf_rules.specs.Rules.{is_tracked, loops_left};
 ghost use Rattle.wf_rules.specs.Seen.{standing_tree};
 
 use crate::kinds::{Loop, ends_or_responds, is_foreach, is_loop};

@@ -1,4 +1,5 @@
-use Rattle.std.proofs.Common.{◌+◌, ◌++◌, ℕ, Bool, List, Option, Some, None, codes, cond, drop, map, option_map, string_bytes, ap, sym, ◌∙◌, arith}
+use Rattle.std.proofs.Common.{◌+◌, ◌++◌, ℕ, Bool, List, Option, Some, None, codes, cond, drop, map, option_map, string_bytes, ap, sym, ◌∙◌}
+use Rattle.std.proofs.Common.{arith}
 use Rattle.wf_def.proofs.SizeLemmas.{drop_at_place}
 use Rattle.wf_def.specs.DefSeen.{trigger_tree}
 use Rattle.wf_def.specs.declared.section.Trigger.{Trigger}
