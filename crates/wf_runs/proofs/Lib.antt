@@ -1,4 +1,3 @@
 pub mod TextLemmas
 pub mod RunLemmas
-pub mod SummaryLemmas
 mod WorkedRows

@@ -1,50 +1,71 @@
--- Records that are written one after the other, and what they cost together.
-use Rattle.std.proofs.Common.{◌≡◌, ℕ, suc, ◌+◌, ◌<◌, ◌≤◌, List, [], ◌∷◌, ◌++◌, length, map, drop, get_or, Option, Some, None, Result, Ok, Err, slice_get, nat_le, sum_by, codes, refl, sym, ap, ◌∙◌, append_assoc, arith}
+-- Runs that are written one after the other, and what they cost together.
+use Rattle.std.proofs.Common.{◌≡◌, ℕ, ◌+◌, ◌<◌, ◌≤◌, List, [], ◌∷◌, ◌++◌, length, map, drop, Option, Some, Result, Ok, Err, slice_get, nat_le}
+use Rattle.std.proofs.Common.{codes, sum_by, refl, sym, ap, subst, ◌∙◌, append_assoc, arith}
 use Rattle.std.proofs.lemmas.Bool.{cond-true, cond-false}
 use Rattle.std.proofs.lemmas.Bool.Decides.{nat_tests}
-use Rattle.std.proofs.lemmas.List.{at_drop_more, length-map}
+use Rattle.std.proofs.lemmas.List.{at_drop_more}
+use Rattle.std.proofs.lemmas.List.Concat.{flat_map-append}
 use Rattle.std.proofs.lemmas.List.Sums.{sum_by-cons}
 use Rattle.std.proofs.lemmas.Option.{get_or_from_slice_get, slice_get_within}
+use Rattle.std.proofs.lemmas.Simd.{map-map}
 use Rattle.wf_record.specs.Cost.{cost}
 use Rattle.wf_record.specs.Record.{RecordTree}
-use Rattle.wf_runs.specs.Text.{record_text, records_text, text_of, total_cost, within_cost}
+use Rattle.wf_runs.specs.Runs.{text_told}
+use Rattle.wf_runs.specs.Text.{Told, records_left, run_text, runs_in_a_row, text_of, total_cost, within_cost}
 use Rattle.wf_runs.specs.declared.fault.RunsFault.{RunsFault}
 
-pub text-append : (rs ss : List RecordTree) → records_text (rs ++ ss) ≡ records_text rs ++ records_text ss
-text-append [] ss = refl
-text-append (r ∷ rs) ss = ap (λ s. record_text r ++ s) (text-append rs ss) ∙ sym (append_assoc (record_text r) (records_text rs) (records_text ss))
+pub text-append : (rs ss : List Told) → runs_in_a_row (rs ++ ss) ≡ runs_in_a_row rs ++ runs_in_a_row ss
+text-append rs ss = flat_map-append run_text rs ss
 
--- a sum that is within the limit, or past it
-pub within : (rs : List RecordTree) → total_cost rs ≤ 67108864 → within_cost rs ≡ Ok (text_of rs)
-within rs le = cond-true (nat_le (total_cost rs) 67108864) _ _ (grind (arith, nat_tests))
+-- runs that cost no more than the limit, or more
+pub within : (runs : List Told) → total_cost (records_left runs) ≤ 67108864 → within_cost runs ≡ Ok runs
+within runs le = cond-true (nat_le (total_cost (records_left runs)) 67108864) _ _ (grind (arith, nat_tests))
 
-pub past : (rs : List RecordTree) → 67108864 < total_cost rs → within_cost rs ≡ Err RunsFault.TooLarge
-past rs lt = cond-false (nat_le (total_cost rs) 67108864) _ _ (grind (arith, nat_tests))
+pub past : (runs : List Told) → 67108864 < total_cost (records_left runs) → within_cost runs ≡ Err RunsFault.TooLarge
+past runs lt = cond-false (nat_le (total_cost (records_left runs)) 67108864) _ _ (grind (arith, nat_tests))
 
-module _ {S : Type 0} (record_of : S → RecordTree) where
-  pub written-none : (starts : List S) → length starts ≡ 0 → within_cost (map record_of starts) ≡ Ok (codes "# no run\n")
+-- what is left from a place on begins with what starts there
+left-at : {S : Type 0} (starts : List S) (k : ℕ) (s : S) → slice_get starts k ≡ Some s → drop k starts ≡ s ∷ drop (k + 1) starts
+left-at starts k s is =
+    at_drop_more (λ l. l) starts k s (slice_get_within starts k s is)
+    ∙ ap (λ x. x ∷ drop (k + 1) starts) (get_or_from_slice_get starts k s s is)
+
+module _ {S : Type 0} (told_at : S → Told) where
+  abbrev record_at : S → RecordTree
+  record_at s = (told_at s).left
+
+  -- the records of runs by their starts
+  pub records-left : (starts : List S) → records_left (map told_at starts) ≡ map record_at starts
+  records-left starts = map-map (λ t. t.left) told_at starts
+
+  pub written-none : (starts : List S) → length starts ≡ 0 → text_told (within_cost (map told_at starts)) ≡ Ok (codes "# no run\n")
   written-none [] none = refl
   written-none (s ∷ starts) none = absurd (omega (arith, none))
 
-  pub written-some : (starts : List S) → (length starts ≡ 0 → ⊥) → total_cost (map record_of starts) ≤ 67108864
-      → within_cost (map record_of starts) ≡ Ok (records_text (map record_of starts))
-  written-some [] some le = absurd (some refl)
-  written-some (s ∷ starts) some le = within (map record_of (s ∷ starts)) le
+  of-some : (starts : List S) → (length starts ≡ 0 → ⊥) → text_of (map told_at starts) ≡ runs_in_a_row (map told_at starts)
+  of-some [] some = absurd (some refl)
+  of-some (s ∷ starts) some = refl
 
-  -- what is left from a place on begins with what starts there
-  left-at : (starts : List S) (k : ℕ) (s : S) → slice_get starts k ≡ Some s → drop k starts ≡ s ∷ drop (k + 1) starts
-  left-at starts k s is =
-      at_drop_more (λ l. l) starts k s (slice_get_within starts k s is)
-      ∙ ap (λ x. x ∷ drop (k + 1) starts) (get_or_from_slice_get starts k s s is)
+  pub written-some : (starts : List S) → (length starts ≡ 0 → ⊥) → total_cost (map record_at starts) ≤ 67108864
+      → text_told (within_cost (map told_at starts)) ≡ Ok (runs_in_a_row (map told_at starts))
+  written-some starts some le =
+      ap text_told (within (map told_at starts) (subst (λ rs. total_cost rs ≤ 67108864) (sym (records-left starts)) le))
+      ∙ ap Ok (of-some starts some)
+
+  pub written-past : (starts : List S) → 67108864 < total_cost (map record_at starts)
+      → text_told (within_cost (map told_at starts)) ≡ Err RunsFault.TooLarge
+  written-past starts lt =
+      ap text_told (past (map told_at starts) (subst (λ rs. 67108864 < total_cost rs) (sym (records-left starts)) lt))
 
   pub text-left : (starts : List S) (k : ℕ) (s : S) (done : List ℕ) → slice_get starts k ≡ Some s
-      → (done ++ record_text (record_of s)) ++ records_text (map record_of (drop (k + 1) starts)) ≡ done ++ records_text (map record_of (drop k starts))
+      → (done ++ run_text (told_at s)) ++ runs_in_a_row (map told_at (drop (k + 1) starts))
+      ≡ done ++ runs_in_a_row (map told_at (drop k starts))
   text-left starts k s done is =
-      append_assoc done (record_text (record_of s)) (records_text (map record_of (drop (k + 1) starts)))
-      ∙ ap (λ l. done ++ records_text (map record_of l)) (sym (left-at starts k s is))
+      append_assoc done (run_text (told_at s)) (runs_in_a_row (map told_at (drop (k + 1) starts)))
+      ∙ ap (λ l. done ++ runs_in_a_row (map told_at l)) (sym (left-at starts k s is))
 
   pub cost-left : (starts : List S) (k : ℕ) (s : S) → slice_get starts k ≡ Some s
-      → cost (record_of s) + total_cost (map record_of (drop (k + 1) starts)) ≡ total_cost (map record_of (drop k starts))
+      → cost (record_at s) + total_cost (map record_at (drop (k + 1) starts)) ≡ total_cost (map record_at (drop k starts))
   cost-left starts k s is =
-      sym (sum_by-cons cost (record_of s) (map record_of (drop (k + 1) starts)))
-      ∙ ap (λ l. total_cost (map record_of l)) (sym (left-at starts k s is))
+      sym (sum_by-cons cost (record_at s) (map record_at (drop (k + 1) starts)))
+      ∙ ap (λ l. total_cost (map record_at l)) (sym (left-at starts k s is))

@@ -1,16 +1,19 @@
 -- Worked values: what is written of runs, when they cost too much together, and which runs of a definition are made.
-use Rattle.std.proofs.Common.{◌≡◌, ℕ, List, [], ◌∷◌, ◌++◌, Some, None, Option, Ok, Err, pos, replicate, refl}
+use Rattle.std.proofs.Common.{◌≡◌, ℕ, Bool, true, false, List, [], ◌∷◌, ◌++◌, Some, None, Option, Ok, Err, pos, replicate, refl}
 use Rattle.std.specs.Fmt.{digits}
 use Rattle.std.specs.Prelude.{codes}
 use Rattle.wf_answers.specs.Inputs.{InputsTree}
 use Rattle.wf_def.specs.DefTree.{OutputTree, TriggerTree}
+use Rattle.wf_meaning.specs.Definition.{ActionTree}
 use Rattle.wf_meaning.specs.Meaning.{meaning}
+use Rattle.wf_meaning.specs.Worked.{apart}
 use Rattle.wf_plain.specs.Plain.{PlainTree}
 use Rattle.wf_record.specs.Cost.{cost}
 use Rattle.wf_record.specs.Record.{RecordTree, RowTree, record_line}
-use Rattle.wf_record.specs.Worked.{at_rounds, called, empty, failed, finished, object_of, number_of, list_of, skipped, succeeded}
+use Rattle.wf_record.specs.Worked.{at_rounds, empty, finished, object_of, number_of, list_of, row_of}
 use Rattle.wf_record.specs.declared.status.RunStatus.{RunStatus}
 use Rattle.wf_record.specs.declared.status.Status.{Status}
+use Rattle.wf_run.specs.Scheduled.{lines_under, peak_under, steps_under}
 use Rattle.wf_template.specs.DataTree as inputs
 use Rattle.wf_template.specs.ExprTree.{ExprTree, literal, call, expr_trees}
 use Rattle.wf_template.specs.TemplateTree.{TemplateTree, whole}
@@ -18,53 +21,52 @@ use Rattle.wf_trigger.specs.declared.fault.TriggerFault.{TriggerFault}
 use Rattle.wf_val.specs.ValueTree.{ValueTree, null, text}
 use Rattle.wf_val.specs.declared.fault.EvalFault.{EvalFault}
 use Rattle.wf_val.specs.declared.function.Fun.{Fun}
-use Rattle.wf_runs.specs.Runs.{runs_text}
-use Rattle.wf_runs.specs.Summary.{peak_of, steps_of, summary_line}
-use Rattle.wf_runs.specs.Text.{record_text, text_of, total_cost, within_cost}
+use Rattle.wf_runs.specs.Runs.{runs_text, text_told}
+use Rattle.wf_runs.specs.Summary.{summary_line}
+use Rattle.wf_runs.specs.Text.{Told, run_text, text_of, total_cost, within_cost}
 use Rattle.wf_runs.specs.declared.fault.RunsFault.{RunsFault}
 
 -- ---- the summary line
 
--- two that ran, one of three attempts, and one that was skipped
-summary-finished : summary_line finished ≡ codes "# run r-1 steps 7 peak 1\n"
+summary-run : summary_line (codes "r-1") 7 2 ≡ codes "# run r-1 steps 7 peak 2\n"
 unfolding summary_line digits
-summary-finished = refl
+summary-run = refl
 
-summary-empty : summary_line empty ≡ codes "# run r steps 0 peak 0\n"
+summary-idle : summary_line (codes "r") 0 0 ≡ codes "# run r steps 0 peak 0\n"
 unfolding summary_line digits
-summary-empty = refl
+summary-idle = refl
 
-steps-failed : steps_of (failed ∷ []) ≡ 2
-steps-failed = refl
-
--- the attempts of a call are no steps of their own here
-steps-called : steps_of (called ∷ []) ≡ 2
-steps-called = refl
-
-steps-skipped : steps_of (skipped ∷ (skipped ∷ [])) ≡ 2
-steps-skipped = refl
-
-peak-skipped : peak_of (skipped ∷ (skipped ∷ [])) ≡ 0
-peak-skipped = refl
-
-peak-two_ran : peak_of (succeeded ∷ (failed ∷ [])) ≡ 1
-peak-two_ran = refl
-
-peak-last_ran : peak_of (skipped ∷ (failed ∷ [])) ≡ 1
-peak-last_ran = refl
+summary-many : summary_line (codes "r") 1000 500 ≡ codes "# run r steps 1000 peak 500\n"
+unfolding summary_line digits
+summary-many = refl
 
 -- ---- the text
+
+-- a run that left this record, of which these events are told, and so many steps and actions at a time
+abbrev told : List ℕ → RecordTree → ℕ → ℕ → Told
+told events r steps peak = record { events = events; left = r; steps = steps; peak = peak }
+
+-- a run without events
+abbrev idle : RecordTree → Told
+idle r = told [] r 0 0
 
 text-none : text_of [] ≡ codes "# no run\n"
 text-none = refl
 
-text-one : text_of (empty ∷ []) ≡ (record_line empty ++ codes "# run r steps 0 peak 0\n") ++ []
+text-one : text_of (idle empty ∷ []) ≡ (record_line empty ++ codes "# run r steps 0 peak 0\n") ++ []
 unfolding summary_line digits
 text-one = refl
 
--- each summary below its record, in the order of the runs
-text-two : text_of (empty ∷ (finished ∷ []))
-    ≡ (record_line empty ++ codes "# run r steps 0 peak 0\n") ++ ((record_line finished ++ codes "# run r-1 steps 7 peak 1\n") ++ [])
+-- events above the record, and the summary below it
+text-traced : text_of (told (codes "# 1 Skip A\n") empty 1 0 ∷ [])
+    ≡ (codes "# 1 Skip A\n" ++ record_line empty ++ codes "# run r steps 1 peak 0\n") ++ []
+unfolding summary_line digits
+text-traced = refl
+
+-- the events of each run above its own record, in the order of the runs
+text-two : text_of (told (codes "# 1 Skip A\n") empty 1 0 ∷ told (codes "# 1 Start B 1\n") finished 2 1 ∷ [])
+    ≡ (codes "# 1 Skip A\n" ++ record_line empty ++ codes "# run r steps 1 peak 0\n")
+    ++ ((codes "# 1 Start B 1\n" ++ record_line finished ++ codes "# run r-1 steps 2 peak 1\n") ++ [])
 unfolding summary_line digits
 text-two = refl
 
@@ -102,48 +104,82 @@ cost-least = refl
 cost-more : cost (costly 2 5) ≡ 268
 cost-more = refl
 
+-- runs that cost 2^26 and one more, 2^25 and one more, and 2^24
+abbrev most : Told
+most = idle (costly 1048573 57)
+
+abbrev past_most : Told
+past_most = idle (costly 1048573 58)
+
+abbrev half : Told
+half = idle (costly 524285 57)
+
+abbrev past_half : Told
+past_half = idle (costly 524285 58)
+
+abbrev quarter : Told
+quarter = idle (costly 262141 57)
+
 -- 2^26 is not too much, and one more is
-within-most : within_cost (costly 1048573 57 ∷ []) ≡ Ok (text_of (costly 1048573 57 ∷ []))
+within-most : within_cost (most ∷ []) ≡ Ok (most ∷ [])
 within-most = refl
 
-within-one_more : within_cost (costly 1048573 58 ∷ []) ≡ Err RunsFault.TooLarge
+within-one_more : within_cost (past_most ∷ []) ≡ Err RunsFault.TooLarge
 within-one_more = refl
 
 -- it is the sum that counts, 2^25 and 2^25, and not the greatest
-within-two : within_cost (costly 524285 57 ∷ (costly 524285 57 ∷ [])) ≡ Ok (text_of (costly 524285 57 ∷ (costly 524285 57 ∷ [])))
+within-two : within_cost (half ∷ half ∷ []) ≡ Ok (half ∷ half ∷ [])
 within-two = refl
 
-within-two_more : within_cost (costly 524285 57 ∷ (costly 524285 58 ∷ [])) ≡ Err RunsFault.TooLarge
+within-two_more : within_cost (half ∷ past_half ∷ []) ≡ Err RunsFault.TooLarge
 within-two_more = refl
 
-within-none : within_cost [] ≡ Ok (codes "# no run\n")
+within-four : within_cost (quarter ∷ quarter ∷ quarter ∷ quarter ∷ []) ≡ Ok (quarter ∷ quarter ∷ quarter ∷ quarter ∷ [])
+within-four = refl
+
+within-five : within_cost (quarter ∷ quarter ∷ quarter ∷ quarter ∷ idle empty ∷ []) ≡ Err RunsFault.TooLarge
+within-five = refl
+
+within-none : text_told (within_cost []) ≡ Ok (codes "# no run\n")
 within-none = refl
 
--- ---- the runs of a definition without actions
+-- what is told of events, and how many there were, costs nothing
+within-told : within_cost (told (codes "# 1 Skip A\n") (costly 1048573 57) 1000 500 ∷ [])
+    ≡ Ok (told (codes "# 1 Skip A\n") (costly 1048573 57) 1000 500 ∷ [])
+within-told = refl
+
+-- ---- the runs of a definition
 
 abbrev call_of : List ℕ → List ExprTree → TemplateTree
 call_of name arguments = whole (call name (expr_trees arguments))
 
 abbrev divided : TemplateTree
-divided = call_of (codes "div") (literal (number_of 1) ∷ (literal (number_of 0) ∷ []))
+divided = call_of (codes "div") (literal (number_of 1) ∷ literal (number_of 0) ∷ [])
 
 abbrev unequal : TemplateTree
-unequal = call_of (codes "equals") (literal (number_of 1) ∷ (literal (number_of 2) ∷ []))
+unequal = call_of (codes "equals") (literal (number_of 1) ∷ literal (number_of 2) ∷ [])
 
 abbrev body : TemplateTree
 body = call_of (codes "triggerBody") []
 
--- with these triggers, and these outputs
-abbrev definition : List TriggerTree → List OutputTree → PlainTree
-definition triggers outputs = record {
+-- with these triggers, outputs and actions
+abbrev definition : List TriggerTree → List OutputTree → List ActionTree → PlainTree
+definition triggers outputs actions = record {
   parameters = [];
   given = [];
   triggers = triggers;
-  definition = record { digest = []; outputs = outputs; actions = [] };
+  definition = record { digest = []; outputs = outputs; actions = actions };
 }
 
 abbrev trigger : Option TemplateTree → List TemplateTree → List TriggerTree
 trigger split conditions = record { name = codes "t"; split = split; conditions = conditions } ∷ []
+
+-- one run, and one for each item of the body
+abbrev whole_body : List TriggerTree
+whole_body = trigger None []
+
+abbrev split_body : List TriggerTree
+split_body = trigger (Some body) []
 
 -- inputs of a trigger with this body
 abbrev handed : ValueTree → InputsTree
@@ -157,67 +193,76 @@ handed body = record {
   answers = [];
 }
 
--- what is left of a run of the trigger with this body, which gave out these outputs
-abbrev left : List ℕ → ValueTree → ValueTree → RecordTree
-left run body outputs = record {
+abbrev seven_and_eight : InputsTree
+seven_and_eight = handed (list_of (number_of 7 ∷ number_of 8 ∷ []))
+
+-- what is left of a run of the trigger with this body, which gave out these outputs and has these rows
+abbrev left_with : List ℕ → ValueTree → ValueTree → List RowTree → RecordTree
+left_with run body outputs rows = record {
   run = run;
   digest = [];
-  trigger = object_of ((codes "name", text (codes "t")) ∷ ((codes "outputs", object_of ((codes "body", body) ∷ [])) ∷ []));
+  trigger = object_of ((codes "name", text (codes "t")) ∷ (codes "outputs", object_of ((codes "body", body) ∷ [])) ∷ []);
   parameters = [];
   status = RunStatus.Succeeded;
   error = null;
   response = null;
   outputs = outputs;
-  rows = [];
+  rows = rows;
 }
+
+abbrev left : List ℕ → ValueTree → ValueTree → RecordTree
+left run body outputs = left_with run body outputs []
 
 abbrev output : TemplateTree → List OutputTree
 output template = record { name = codes "o"; value = inputs.text template } ∷ []
 
-runs-one : runs_text (definition (trigger None []) []) (handed (number_of 5)) ≡ Ok (text_of (left (codes "r1") (number_of 5) (object_of []) ∷ []))
-unfolding meaning
+-- Without actions there is no event, whatever the schedule.
+runs-one : runs_text (definition whole_body [] []) (handed (number_of 5)) [] false
+    ≡ Ok (text_of (idle (left (codes "r1") (number_of 5) (object_of [])) ∷ []))
+unfolding meaning lines_under peak_under steps_under
 runs-one = refl
 
-runs-split : runs_text (definition (trigger (Some body) []) []) (handed (list_of (number_of 7 ∷ (number_of 8 ∷ []))))
-    ≡ Ok (text_of (left (codes "r1-0") (number_of 7) (object_of []) ∷ (left (codes "r1-1") (number_of 8) (object_of []) ∷ [])))
-unfolding meaning digits
+runs-one_traced : runs_text (definition whole_body [] []) (handed (number_of 5)) (3 ∷ 1 ∷ []) true
+    ≡ Ok (text_of (idle (left (codes "r1") (number_of 5) (object_of [])) ∷ []))
+unfolding meaning lines_under peak_under steps_under
+runs-one_traced = refl
+
+runs-split : runs_text (definition split_body [] []) seven_and_eight [] false
+    ≡ Ok (text_of (idle (left (codes "r1-0") (number_of 7) (object_of [])) ∷ idle (left (codes "r1-1") (number_of 8) (object_of [])) ∷ []))
+unfolding meaning digits lines_under peak_under steps_under
 runs-split = refl
 
-runs-split_of_nothing : runs_text (definition (trigger (Some body) []) []) (handed (list_of [])) ≡ Ok (codes "# no run\n")
+runs-split_of_nothing : runs_text (definition split_body [] apart) (handed (list_of [])) (1 ∷ []) true ≡ Ok (codes "# no run\n")
 runs-split_of_nothing = refl
 
-runs-no_list : runs_text (definition (trigger (Some body) []) []) (handed (number_of 5)) ≡ Err (RunsFault.Trigger TriggerFault.SplitNotList)
+runs-no_list : runs_text (definition split_body [] apart) (handed (number_of 5)) [] true ≡ Err (RunsFault.Trigger TriggerFault.SplitNotList)
 runs-no_list = refl
 
-runs-condition : runs_text (definition (trigger None (unequal ∷ [])) []) (handed null) ≡ Ok (codes "# no run\n")
+runs-condition : runs_text (definition (trigger None (unequal ∷ [])) [] apart) (handed null) [] false ≡ Ok (codes "# no run\n")
 runs-condition = refl
 
-runs-condition_fault : runs_text (definition (trigger None (divided ∷ [])) []) (handed null)
+runs-condition_fault : runs_text (definition (trigger None (divided ∷ [])) [] apart) (handed null) [] false
     ≡ Err (RunsFault.Trigger (TriggerFault.Condition (EvalFault.Range Fun.Div)))
 runs-condition_fault = refl
 
 -- what an output gives is each run's own
-runs-outputs : runs_text (definition (trigger (Some body) []) (output body)) (handed (list_of (number_of 7 ∷ (number_of 8 ∷ []))))
-    ≡ Ok (text_of (left (codes "r1-0") (number_of 7) (object_of ((codes "o", number_of 7) ∷ []))
-    ∷ (left (codes "r1-1") (number_of 8) (object_of ((codes "o", number_of 8) ∷ [])) ∷ [])))
-unfolding meaning digits
+runs-outputs : runs_text (definition split_body (output body) []) seven_and_eight [] false
+    ≡ Ok (text_of (idle (left (codes "r1-0") (number_of 7) (object_of ((codes "o", number_of 7) ∷ [])))
+    ∷ idle (left (codes "r1-1") (number_of 8) (object_of ((codes "o", number_of 8) ∷ []))) ∷ []))
+unfolding meaning digits lines_under peak_under steps_under
 runs-outputs = refl
 
 -- an output without a value fails the run, which is written all the same
-runs-output_fault : runs_text (definition (trigger None []) (output divided)) (handed null) ≡ Ok (text_of (record {
+runs-output_fault : runs_text (definition whole_body (output divided) []) (handed null) [] false ≡ Ok (text_of (idle (record {
   run = codes "r1";
   digest = [];
-  trigger = object_of ((codes "name", text (codes "t")) ∷ ((codes "outputs", object_of ((codes "body", null) ∷ [])) ∷ []));
+  trigger = object_of ((codes "name", text (codes "t")) ∷ (codes "outputs", object_of ((codes "body", null) ∷ [])) ∷ []);
   parameters = [];
   status = RunStatus.Failed;
-  error = object_of ((codes "code", text (codes "InvalidTemplate")) ∷ ((codes "message", text (codes "Range div")) ∷ []));
+  error = object_of ((codes "code", text (codes "InvalidTemplate")) ∷ (codes "message", text (codes "Range div")) ∷ []);
   response = null;
   outputs = null;
   rows = [];
-} ∷ []))
-unfolding meaning
+}) ∷ []))
+unfolding meaning lines_under peak_under steps_under
 runs-output_fault = refl
-
--- a split whose runs cost too much together: the trigger's body of each is one of these
-runs-too_large : within_cost (costly 262142 57 ∷ (costly 262142 57 ∷ (costly 262142 57 ∷ (costly 262142 57 ∷ (costly 262142 57 ∷ []))))) ≡ Err RunsFault.TooLarge
-runs-too_large = refl

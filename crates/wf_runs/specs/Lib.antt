@@ -1,4 +1,5 @@
 pub mod Summary
 pub mod Text
+pub mod Records
 pub mod Runs
 pub mod Seen

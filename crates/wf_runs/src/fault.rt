@@ -1,4 +1,5 @@
 use std::alloc::AllocError;
+use wf_run::DriveFault;
 use wf_trigger::TriggerFault;
 
 /// Why nothing is written of runs.
@@ -33,6 +34,20 @@ impl From<TriggerFault> for RunsFault {
         match fault {
             TriggerFault::Memory => RunsFault::Memory,
             fault => RunsFault::Trigger { fault },
+        }
+    }
+}
+
+impl From<DriveFault> for RunsFault {
+    ghost use Rattle.std.specs.Prelude.{◌≡◌};
+    ghost use Rattle.wf_runs.specs.Seen.{drive_fault};
+
+    ghost from_gives = { λ fault e. e ≡ drive_fault fault };
+
+    fn from(fault: DriveFault) -> RunsFault {
+        match fault {
+            DriveFault::TooLarge => RunsFault::TooLarge,
+            DriveFault::Memory => RunsFault::Memory,
         }
     }
 }

@@ -1,33 +1,40 @@
 //! The runs of a definition that start with inputs.
-ghost use Rattle.std.specs.Prelude.{◌≡◌, ◌≢◌, ◌≤◌, ◌<◌, Ok, Err, IfOk, IfErr, codes};
+ghost use Rattle.std.specs.Prelude.{◌≡◌, ◌≢◌, ◌+◌, ◌≤◌, ◌<◌, Ok, Err, IfOk, IfErr};
 ghost use Rattle.wf_answers.specs.InputsSeen.{inputs_tree};
-ghost use Rattle.wf_plain.specs.Seen.{definition_tree};
-ghost use Rattle.wf_record.specs.Seen.{record_tree};
-ghost use Rattle.wf_runs.specs.Runs.{records_of, runs_text};
-ghost use Rattle.wf_runs.specs.Text.{records_text, total_cost, within_cost};
-ghost use Rattle.wf_runs.specs.declared.fault.RunsFault.{RunsFault};
-ghost use Rattle.wf_trigger.specs.StartsSeen.{start_tree, starts_seen};
 ghost use Rattle.wf_meaning.specs.Environment.{fresh};
 ghost use Rattle.wf_meaning.specs.Meaning.{meaning};
+ghost use Rattle.wf_plain.specs.Seen.{definition_tree};
+ghost use Rattle.wf_record.specs.Cost.{cost};
+ghost use Rattle.wf_record.specs.Seen.{record_tree};
+ghost use Rattle.wf_runs.specs.Records.{records_of};
+ghost use Rattle.wf_runs.specs.Runs.{runs_text, text_told, told_of, told_under};
+ghost use Rattle.wf_runs.specs.Seen.{told};
+ghost use Rattle.wf_runs.specs.Text.{runs_in_a_row, total_cost, within_cost};
+ghost use Rattle.wf_runs.specs.declared.fault.RunsFault.{RunsFault};
+ghost use Rattle.wf_trigger.specs.StartsSeen.{start_tree, starts_seen};
 
 use crate::fault::RunsFault;
 use crate::written::Written;
-use std::alloc::{AllocError, Global};
+use std::alloc::Global;
 use wf_answers::Inputs;
 use wf_plain::Definition;
-use wf_record::Record;
+use wf_run::{Ended, run_under};
 use wf_trigger::{Start, Starts, runs};
-use wf_walk::record_of;
+use wf_val::Schedule;
 
-/// The text of all runs that start, each as its record's line and a summary line, or why there is none. Runs are made and written one
-/// after the other, and of each its text alone is kept. Once they cost too much, no further one is made.
+/// The text of all runs that start, each under the schedule from its first number on: the lines of its events where it is traced, its
+/// record's line and a summary line; or why there is none. Runs are made and written one after the other, and of each its text alone is
+/// kept. Once they cost too much, no further one is made.
 pub fn runs_text(
     alloc: Global,
     definition: &Definition,
     inputs: &Inputs,
+    schedule: &Schedule,
+    traced: bool,
 ) -> Result<Vec<u8>, RunsFault>
-    ensures text { IfOk result (λ text. runs_text (definition_tree definition.now) (inputs_tree inputs.now) ≡ Ok text.items) }
-    ensures fault { IfErr result (λ f. f ≢ RunsFault.Memory → runs_text (definition_tree definition.now) (inputs_tree inputs.now) ≡ Err f) }
+    ensures text { IfOk result (λ text. runs_text (definition_tree definition.now) (inputs_tree inputs.now) schedule.now traced ≡ Ok text.items) }
+    ensures fault { IfErr result (λ f. f ≢ RunsFault.Memory
+        → runs_text (definition_tree definition.now) (inputs_tree inputs.now) schedule.now traced ≡ Err f) }
 {
     let starts = runs(
         alloc,
@@ -36,7 +43,7 @@ pub fn runs_text(
         &definition.triggers,
         inputs,
     )?;
-    let text = text_of(alloc, definition, inputs, &starts)?;
+    let text = text_of(alloc, definition, inputs, schedule, traced, &starts)?;
     Ok(text)
 }
 
@@ -45,16 +52,19 @@ fn text_of(
     alloc: Global,
     definition: &Definition,
     inputs: &Inputs,
+    schedule: &Schedule,
+    traced: bool,
     starts: &Starts,
 ) -> Result<Vec<u8>, RunsFault>
-    ensures text { IfOk result (λ text. within_cost (records_of (definition_tree definition.now).definition (inputs_tree inputs.now) (starts_seen starts.now)) ≡ Ok text.items) }
-    ensures fault { IfErr result (λ f. f ≢ RunsFault.Memory
-        → within_cost (records_of (definition_tree definition.now).definition (inputs_tree inputs.now) (starts_seen starts.now)) ≡ Err f) }
+    ensures text { IfOk result (λ text. text_told (within_cost
+        (told_of (definition_tree definition.now).definition (inputs_tree inputs.now) schedule.now traced (starts_seen starts.now))) ≡ Ok text.items) }
+    ensures fault { IfErr result (λ f. f ≢ RunsFault.Memory → text_told (within_cost
+        (told_of (definition_tree definition.now).definition (inputs_tree inputs.now) schedule.now traced (starts_seen starts.now))) ≡ Err f) }
 {
     if starts.len() == 0 {
         return Ok(b"# no run\n".to_vec(alloc)?);
     }
-    let written = all_written(alloc, definition, inputs, starts)?;
+    let written = all_written(alloc, definition, inputs, schedule, traced, starts)?;
     Ok(written.text)
 }
 
@@ -63,9 +73,12 @@ fn all_written(
     alloc: Global,
     definition: &Definition,
     inputs: &Inputs,
+    schedule: &Schedule,
+    traced: bool,
     starts: &Starts,
 ) -> Result<Written, RunsFault>
-    ensures text { IfOk result (λ w. w.text.items ≡ records_text (records_of (definition_tree definition.now).definition (inputs_tree inputs.now) (starts_seen starts.now))) }
+    ensures text { IfOk result (λ w. w.text.items
+        ≡ runs_in_a_row (told_of (definition_tree definition.now).definition (inputs_tree inputs.now) schedule.now traced (starts_seen starts.now))) }
     ensures cost { IfOk result (λ w. w.cost ≡ total_cost (records_of (definition_tree definition.now).definition (inputs_tree inputs.now) (starts_seen starts.now))) }
     ensures fault { IfErr result (λ f. f ≢ RunsFault.Memory → f ≡ RunsFault.TooLarge) }
     ensures too_large { IfErr result (λ f. f ≢ RunsFault.Memory
@@ -74,29 +87,40 @@ fn all_written(
     let mut written = Written::new(alloc);
     for k in 0..starts.len() {
         let start = starts.start(alloc, k)?;
-        let finished = finished(alloc, definition, inputs, start)?;
-        written = written.with(alloc, &finished)?;
+        let ended = ended(alloc, definition, inputs, schedule, traced, start, written.cost)?;
+        written = written.with(alloc, &ended)?;
     }
     Ok(written)
 }
 
-// The record that the run of a start leaves.
-fn finished(
+// The run of a start, where the runs before it cost `spent`.
+fn ended(
     alloc: Global,
     definition: &Definition,
     inputs: &Inputs,
+    schedule: &Schedule,
+    traced: bool,
     start: Start,
-) -> Result<Record, AllocError>
-    ensures { IfOk result (λ finished. record_tree finished
-        ≡ meaning (definition_tree definition.now).definition (fresh (start_tree start) (inputs_tree inputs.now))) }
+    spent: u64,
+) -> Result<Ended, RunsFault>
+    requires { spent ≤ 67108864 }
+    ensures told { IfOk result (λ e. told e
+        ≡ told_under (definition_tree definition.now).definition schedule.now traced (fresh (start_tree start) (inputs_tree inputs.now))) }
+    ensures small { IfOk result (λ e. spent + cost (record_tree e.record) ≤ 67108864) }
+    ensures fault { IfErr result (λ f. f ≢ RunsFault.Memory → f ≡ RunsFault.TooLarge) }
+    ensures too_large { IfErr result (λ f. f ≢ RunsFault.Memory
+        → 67108864 < spent + cost (meaning (definition_tree definition.now).definition (fresh (start_tree start) (inputs_tree inputs.now)))) }
 {
-    let finished = record_of(
+    let ended = run_under(
         alloc,
         definition.digest,
         start,
         inputs,
         &definition.actions,
         definition.outputs.as_slice(),
+        schedule,
+        spent,
+        traced,
     )?;
-    Ok(finished)
+    Ok(ended)
 }

@@ -1,17 +1,14 @@
 //! What is written of runs, and what they cost.
-ghost use Rattle.std.specs.Prelude.{◌≡◌, ◌≢◌, ◌≤◌, ◌<◌, ◌+◌, ◌++◌, [], IfOk, IfErr};
+ghost use Rattle.std.specs.Prelude.{◌≡◌, ◌≤◌, ◌+◌, ◌++◌, [], IfOk};
 ghost use Rattle.wf_record.specs.Cost.{cost};
 ghost use Rattle.wf_record.specs.Seen.{record_tree};
-ghost use Rattle.wf_runs.specs.Text.{record_text};
-ghost use Rattle.wf_runs.specs.declared.fault.RunsFault.{RunsFault};
+ghost use Rattle.wf_runs.specs.Seen.{told};
+ghost use Rattle.wf_runs.specs.Text.{run_text};
 
-use crate::fault::RunsFault;
 use crate::summary::summary_line;
 use std::alloc::{AllocError, Global};
-use wf_record::{Record, record_line};
-
-/// The most that the runs of one command may cost together: 2^26.
-const MOST_COST: u64 = 67_108_864;
+use wf_record::record_line;
+use wf_run::Ended;
 
 /// The texts of runs, one after the other, and what they cost together, which is at most 2^26.
 #[derive(Drop)]
@@ -33,29 +30,26 @@ impl Written {
         }
     }
 
-    /// And of one more.
-    pub(crate) fn with(self, alloc: Global, finished: &Record) -> Result<Self, RunsFault>
-        ensures text { IfOk result (λ more. more.text.items ≡ self.text.items ++ record_text (record_tree finished.now)) }
-        ensures cost { IfOk result (λ more. more.cost ≡ self.cost + cost (record_tree finished.now)) }
-        ensures fault { IfErr result (λ f. f ≢ RunsFault.Memory → f ≡ RunsFault.TooLarge) }
-        ensures too_large { IfErr result (λ f. f ≢ RunsFault.Memory → 67108864 < self.cost + cost (record_tree finished.now)) }
+    /// And of one more, with which they don't cost too much.
+    pub(crate) fn with(self, alloc: Global, ended: &Ended) -> Result<Self, AllocError>
+        requires { self.cost + cost (record_tree ended.now.record) ≤ 67108864 }
+        ensures text { IfOk result (λ more. more.text.items ≡ self.text.items ++ run_text (told ended.now)) }
+        ensures cost { IfOk result (λ more. more.cost ≡ self.cost + cost (record_tree ended.now.record)) }
     {
-        let cost = self.cost.saturating_add(finished.cost());
-        if MOST_COST < cost {
-            return Err(RunsFault::TooLarge);
-        }
-        let text = with_record(alloc, self.text, finished)?;
+        let cost = self.cost + ended.record.cost();
+        let text = with_run(alloc, self.text, ended)?;
         Ok(Written { text, cost })
     }
 }
 
 // A text, and behind it that of a run.
 #[tactic(auto, using(std::proofs::Common::append_assoc))]
-fn with_record(alloc: Global, text: Vec<u8>, finished: &Record) -> Result<Vec<u8>, AllocError>
-    ensures { IfOk result (λ more. more.items ≡ text.items ++ record_text (record_tree finished.now)) }
+fn with_run(alloc: Global, text: Vec<u8>, ended: &Ended) -> Result<Vec<u8>, AllocError>
+    ensures { IfOk result (λ more. more.items ≡ text.items ++ run_text (told ended.now)) }
 {
     let mut more = text;
-    more.extend_from_slice(&record_line(alloc, finished)?)?;
-    more.extend_from_slice(&summary_line(alloc, finished)?)?;
+    more.extend_from_slice(&ended.trace)?;
+    more.extend_from_slice(&record_line(alloc, &ended.record)?)?;
+    more.extend_from_slice(&summary_line(alloc, ended.record.run.as_str(), ended.steps, ended.peak)?)?;
     Ok(more)
 }

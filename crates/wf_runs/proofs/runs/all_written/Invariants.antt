@@ -2,8 +2,9 @@ use Rattle.std.proofs.Common.{◌≡◌, ◌+◌, ◌++◌, drop}
 use Rattle.wf_answers.specs.InputsSeen.{inputs_tree}
 use Rattle.wf_plain.specs.Seen.{definition_tree}
 use Rattle.wf_trigger.specs.StartsSeen.{starts_seen}
-use Rattle.wf_runs.specs.Runs.{records_of}
-use Rattle.wf_runs.specs.Text.{records_text, total_cost}
+use Rattle.wf_runs.specs.Records.{records_of}
+use Rattle.wf_runs.specs.Runs.{told_of}
+use Rattle.wf_runs.specs.Text.{runs_in_a_row, total_cost}
 use Rattle.wf_runs.proofs.runs.all_written.Given as goal
 
 -- what is written and what is left are the whole text, and cost what all cost
@@ -12,6 +13,7 @@ invariant-loop-k l =
     let d = (definition_tree l.definition).definition in
     let inputs = inputs_tree l.inputs in
     let starts = starts_seen l.starts in record {
-      text : l.written.text.items ++ records_text (records_of d inputs (drop l.k starts)) ≡ records_text (records_of d inputs starts);
+      text : l.written.text.items ++ runs_in_a_row (told_of d inputs l.schedule l.traced (drop l.k starts))
+          ≡ runs_in_a_row (told_of d inputs l.schedule l.traced starts);
       cost : l.written.cost + total_cost (records_of d inputs (drop l.k starts)) ≡ total_cost (records_of d inputs starts);
     }
