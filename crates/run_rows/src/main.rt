@@ -3,7 +3,9 @@
 //! Each row hands `wf_top::serve_words` files, a source and a sink in memory, and prints the status that it answers, what failed and
 //! every byte that the sink took. A line of the standard input is one of these:
 //!
-//! - `file NAME TEXT`: from here on a file of this name holds the text;
+//! - `file NAME TEXT`: from here on a file of this name holds the text, and nothing else;
+//! - `bytes NAME TEXT`: the same, where `\n` in the text stands for a line feed, `\r` for a carriage return, `\t` for a tab and `\\` for a
+//!   backslash;
 //! - `pad SIZE`: the file of the last such line is as long as that many bytes, by blanks behind its text;
 //! - `fail read N`, `fail write N`: in the next row the Nth read of a file, or the Nth write, fails;
 //! - `pieces SIZE`: in the next row a write takes at most so many bytes;
@@ -63,13 +65,61 @@ fn with_trouble(trouble: Trouble, line: &str) -> Trouble {
     more
 }
 
-fn hold(alloc: Global, held: &mut Vec<Held>, file: &str) -> Result<(), AllocError> {
-    let (name, text) = file.split_once(' ').unwrap_or((file, ""));
-    let bytes = text.as_bytes().to_vec(alloc)?;
+// Pushes what a backslash and this byte stand for: both, where the byte is none of those that stand for another.
+fn push_escaped(bytes: &mut Vec<u8>, byte: u8) -> Result<(), AllocError> {
+    match byte {
+        b'n' => bytes.push(b'\n')?,
+        b'r' => bytes.push(b'\r')?,
+        b't' => bytes.push(b'\t')?,
+        b'\\' => bytes.push(b'\\')?,
+        other => {
+            bytes.push(b'\\')?;
+            bytes.push(other)?;
+        }
+    }
+    Ok(())
+}
+
+// The bytes that a text with escapes stands for.
+fn unescaped(alloc: Global, text: &str) -> Result<Vec<u8>, AllocError> {
+    let mut bytes = Vec::new(alloc);
+    let mut escaped = false;
+    for byte in text.as_bytes() {
+        if escaped {
+            push_escaped(&mut bytes, *byte)?;
+        } else if *byte != b'\\' {
+            bytes.push(*byte)?;
+        }
+        escaped = !escaped && *byte == b'\\';
+    }
+    Ok(bytes)
+}
+
+// Holds a file, in the place of one that has its name.
+fn hold(
+    alloc: Global,
+    held: &mut Vec<Held>,
+    name: &str,
+    bytes: Vec<u8>,
+) -> Result<(), AllocError> {
+    held.retain(|file| file.name.as_str() != name);
     held.push(Held {
         name: Text::of(alloc, name)?,
         bytes,
     })?;
+    Ok(())
+}
+
+// Holds the file that a line names and spells.
+fn hold_line(alloc: Global, held: &mut Vec<Held>, line: &str) -> Result<(), AllocError> {
+    if let Some(file) = line.strip_prefix("file ") {
+        let (name, text) = file.split_once(' ').unwrap_or((file, ""));
+        hold(alloc, held, name, text.as_bytes().to_vec(alloc)?)?;
+    }
+    if let Some(file) = line.strip_prefix("bytes ") {
+        let (name, text) = file.split_once(' ').unwrap_or((file, ""));
+        hold(alloc, held, name, unescaped(alloc, text)?)?;
+    }
     Ok(())
 }
 
@@ -149,9 +199,7 @@ fn main(rt: HostRuntime) -> io::Result<()> {
     let mut trouble = NO_TROUBLE;
     for line in rows.lines() {
         trouble = with_trouble(trouble, line);
-        if let Some(file) = line.strip_prefix("file ") {
-            hold(alloc, &mut held, file)?;
-        }
+        hold_line(alloc, &mut held, line)?;
         if let Some(size) = line.strip_prefix("pad ") {
             pad(&mut held, number(size))?;
         }
