@@ -1,19 +1,21 @@
 -- A command asks for no file but those that its words name.
-use Rattle.std.proofs.Common.{◌≡◌, ◌<◌, ℕ, List, [], length, Option, None, Some, Result, Ok, Err, inl, inr, refl, subst, sym, arith}
+use Rattle.std.proofs.Common.{◌≡◌, ◌<◌, ℕ, List, [], length, Bool, true, Option, None, Some, Result, Ok, Err, inl, inr, refl, subst, sym, arith}
 use Rattle.std.specs.Prelude.{Contains}
+use Rattle.std.specs.Option.{IfSome}
 use Rattle.std.specs.Option.{option_map}
 use Rattle.std.proofs.lemmas.Grind.{common_steps}
 use Rattle.std.proofs.lemmas.List.Elements.{Contains-get_or}
+use Rattle.std.proofs.lemmas.Option.{get_or_from_slice_get, slice_get_within}
 use Rattle.wf_outside.specs.Outside.{Held}
 use Rattle.wf_top.specs.Plan.{Plan, Says, Reads, ComesTo, AsksAmong}
 use Rattle.wf_answers.specs.Inputs.{InputsTree}
 use Rattle.wf_def.specs.DefTree.{DefTree}
-use Rattle.wf_top.specs.Form.{definition_of, form_of, inputs_of}
-use Rattle.wf_top.specs.Commands.{plan, plan_of, accepted, judged_definition, judged_inputs, made_runs, text_of_runs}
+use Rattle.wf_top.specs.Form.{definition_form, inputs_form, schedule_form}
+use Rattle.wf_top.specs.Commands.{plan, plan_of, accepted, judged_definition, judged_inputs, judged_schedule, made_runs, run, scheduled, text_of_runs}
 use Rattle.wf_top.specs.Served.{FailedAt}
-use Rattle.wf_top.specs.Words.{command_of}
+use Rattle.wf_top.specs.Words.{command_of, is_traced, makes_runs, schedule_word, word}
 use Rattle.wf_top.specs.declared.words.Command.{Command}
-use Rattle.wf_top.specs.declared.words.Command.TheVariants.{Check, Run}
+use Rattle.wf_top.specs.declared.words.Command.TheVariants.{Check, Run, Trace}
 use Rattle.wf_top.specs.declared.fault.FormFault.{FormFault}
 use Rattle.wf_runs.specs.declared.fault.RunsFault.{RunsFault}
 
@@ -32,21 +34,60 @@ runs_ask words (Err (RunsFault.Trigger fault)) = tt
 runs_ask words (Err RunsFault.TooLarge) = tt
 runs_ask words (Err RunsFault.Memory) = tt
 
-inputs_ask : (words : List (List ℕ)) (d : DefTree) (form : Result InputsTree FormFault) → AsksAmong words (judged_inputs d form)
-inputs_ask words d (Ok inputs) = runs_ask words (text_of_runs d inputs)
-inputs_ask words d (Err fault) = tt
+schedule_asks : (words : List (List ℕ)) (traced : Bool) (d : DefTree) (inputs : InputsTree) (form : Result (List ℕ) FormFault) →
+    AsksAmong words (judged_schedule traced d inputs form)
+schedule_asks words traced d inputs (Ok schedule) = runs_ask words (text_of_runs traced d inputs schedule)
+schedule_asks words traced d inputs (Err fault) = tt
+
+-- the word SCHEDULE, where there is one, is one of the words
+word_among : (words : List (List ℕ)) → IfSome (schedule_word words) (λ name. Contains words name)
+word_among words = among (schedule_word words) refl
+  where
+    among : (found : Option (List ℕ)) → schedule_word words ≡ found → IfSome found (λ name. Contains words name)
+    among None is = tt
+    among (Some name) is =
+        subst (λ n. Contains words n) (get_or_from_slice_get words 3 name [] is) (Contains-get_or words 3 []
+        (slice_get_within words 3 name is))
+
+module _ (words : List (List ℕ)) (traced : Bool) (d : DefTree) where
+  under_asks : (schedule : Option (List ℕ)) → IfSome schedule (λ name. Contains words name) → (inputs : InputsTree) →
+      AsksAmong words (scheduled traced schedule d inputs)
+  under_asks None among inputs = runs_ask words (text_of_runs traced d inputs [])
+  under_asks (Some name) among inputs = (among, λ file. schedule_asks words traced d inputs (schedule_form file))
+
+  inputs_ask : (schedule : Option (List ℕ)) → IfSome schedule (λ name. Contains words name) → (form : Result InputsTree FormFault) →
+      AsksAmong words (judged_inputs traced schedule d form)
+  inputs_ask schedule among (Ok inputs) = under_asks schedule among inputs
+  inputs_ask schedule among (Err fault) = tt
 
 check_length : (words : List (List ℕ)) → command_of words ≡ Some Check → 1 < length words
 check_length words is = grind (arith, common_steps)
 
-pub run_length : (words : List (List ℕ)) → command_of words ≡ Some Run → 2 < length words
+run_length : (words : List (List ℕ)) → command_of words ≡ Some Run → 2 < length words
 run_length words is = grind (arith, common_steps)
+
+trace_length : (words : List (List ℕ)) → command_of words ≡ Some Trace → 3 < length words
+trace_length words is = grind (arith, common_steps)
+
+-- each command that makes runs has a second file
+pub second_length : (command : Command) (words : List (List ℕ)) → makes_runs command ≡ true → command_of words ≡ Some command
+    → 2 < length words
+second_length Check words makes is = absurd (cc)
+second_length Run words makes is = run_length words is
+second_length Trace words makes is = let more : 3 < length words = trace_length words is in omega arith
+
+run_asks : (words : List (List ℕ)) (traced : Bool) (d : DefTree) → 2 < length words →
+    AsksAmong words (run traced (word words 2) (schedule_word words) d)
+run_asks words traced d longer = (
+  Contains-get_or words 2 [] longer,
+  λ file. inputs_ask words traced d (schedule_word words) (word_among words) (inputs_form file),
+)
 
 accepted_asks : (command : Command) (words : List (List ℕ)) (d : DefTree) → command_of words ≡ Some command →
     AsksAmong words (accepted command words d)
 accepted_asks Check words d is = tt
-accepted_asks Run words d is =
-    (Contains-get_or words 2 [] (run_length words is), λ file. inputs_ask words d (form_of inputs_of file))
+accepted_asks Run words d is = run_asks words (is_traced Run) d (second_length Run words refl is)
+accepted_asks Trace words d is = run_asks words (is_traced Trace) d (second_length Trace words refl is)
 
 definition_asks : (command : Command) (words : List (List ℕ)) (form : Result DefTree FormFault) → command_of words ≡ Some command →
     AsksAmong words (judged_definition command words form)
@@ -56,13 +97,14 @@ definition_asks command words (Err fault) is = tt
 -- each command has a first file
 some_length : (command : Command) (words : List (List ℕ)) → command_of words ≡ Some command → 1 < length words
 some_length Check words is = check_length words is
-some_length Run words is = let more : 2 < length words = run_length words is in omega arith
+some_length Run words is = let more : 2 < length words = second_length Run words refl is in omega arith
+some_length Trace words is = let more : 2 < length words = second_length Trace words refl is in omega arith
 
 plan_asks : (command : Command) (words : List (List ℕ)) → command_of words ≡ Some command → AsksAmong words (plan command words)
 unfolding plan
 plan_asks command words is = (
   Contains-get_or words 1 [] (some_length command words is),
-  λ file. definition_asks command words (form_of (definition_of command) file) is,
+  λ file. definition_asks command words (definition_form command file) is,
 )
 
 by_command : (held : Held) (words : List (List ℕ)) (command : Option Command) (old new : List (List ℕ)) (name : List ℕ) →

@@ -1,29 +1,30 @@
 -- What the outcome of a command says of its files.
-use Rattle.std.proofs.Common.{◌≡◌, ◌⊎◌, ℕ, List, Option, None, Some, Result, Ok, Err, inl, inr, refl, ap, subst, sym, ◌∙◌, arith}
+use Rattle.std.proofs.Common.{◌≡◌, ◌⊎◌, ℕ, List, [], Bool, true, Option, None, Some, Result, Ok, Err, inl, inr, refl, ap, subst, sym, ◌∙◌, arith}
 use Rattle.std.specs.Prelude.{codes}
 use Rattle.std.specs.Option.{IfSome, option_map, option_and_then}
 use Rattle.std.specs.Io.KnownBytes.{Appends}
 use Rattle.wf_answers.specs.Inputs.{InputsTree}
 use Rattle.wf_def.specs.DefTree.{DefTree}
 use Rattle.wf_outside.specs.Outside.{Held, IsCalm}
-use Rattle.wf_top.specs.Commands.{accepted, accepted_line, judged_definition, judged_inputs, made_runs, plan, plan_of, text_of_runs, too_large}
+use Rattle.wf_top.specs.Commands.{accepted, accepted_line, judged_definition, judged_inputs, judged_schedule, made_runs, plan, plan_of, run, scheduled, text_of_runs, too_large}
 use Rattle.wf_top.specs.Fault.{fault_line}
-use Rattle.wf_top.specs.Form.{definition_of, form_of, inputs_of}
+use Rattle.wf_top.specs.Form.{definition_form, inputs_form, schedule_form}
 use Rattle.wf_plain.specs.Plain.{plain_of}
 use Rattle.wf_runs.proofs.RunLemmas.{never_memory}
-use Rattle.wf_top.specs.Limits.{definition_bytes, inputs_bytes}
+use Rattle.wf_top.specs.Limits.{definition_bytes, inputs_bytes, schedule_bytes}
 use Rattle.wf_top.specs.Plan.{Plan, Reads, MaySay, MayGive, said_by, within}
-use Rattle.wf_top.specs.Ran.{Checked, GivesDefinition, GivesInputs, Holds, HoldsDefinition, IsWhole, PassesAll, Ran, RefusedCost, RefusedDefinition, RefusedInputs, RefusedTrigger}
+use Rattle.wf_top.specs.Ran.{Checked, GivesDefinition, GivesInputs, GivesNumbers, GivesSchedule, Holds, HoldsDefinition, HoldsSchedule, IsGiven, IsWhole, PassesAll, Ran}
+use Rattle.wf_top.specs.Ran.{RefusedCost, RefusedDefinition, RefusedInputs, RefusedSchedule, RefusedTrigger}
 use Rattle.wf_top.proofs.Outcomes.{misused_at}
 use Rattle.wf_top.specs.Served.{Comes, Outcome, IsSaid, Misused, Serves, Speaks, Spent, Unread, Writes, number, said_of, say, status_of, text_of}
 use Rattle.wf_top.specs.Trigger.{trigger_line}
-use Rattle.wf_top.specs.Words.{command_of, word}
+use Rattle.wf_top.specs.Words.{command_of, is_traced, makes_runs, schedule_word, word}
 use Rattle.wf_top.specs.declared.fault.FormFault.{FormFault}
 use Rattle.wf_runs.specs.declared.fault.RunsFault.{RunsFault}
 use Rattle.wf_top.specs.declared.said.Verdict.{Verdict}
 use Rattle.wf_top.specs.declared.said.Verdict.TheVariants.{Done}
 use Rattle.wf_top.specs.declared.words.Command.{Command}
-use Rattle.wf_top.specs.declared.words.Command.TheVariants.{Check, Run}
+use Rattle.wf_top.specs.declared.words.Command.TheVariants.{Check, Run, Trace}
 use Rattle.wf_trigger.specs.declared.fault.TriggerFault.{TriggerFault}
 
 -- What a command may say: what was found in its files, the status and the text.
@@ -32,46 +33,78 @@ data CommandOutcome (held : Held) (words : List (List ℕ)) (status : ℕ) (text
       text ≡ fault_line (codes "definition ") fault → CommandOutcome held words status text
   checks : (d : DefTree) → GivesDefinition held words Check (Ok d) → status ≡ 0 → text ≡ accepted_line d →
       CommandOutcome held words status text
-  no_inputs : (d : DefTree) (fault : FormFault) → GivesDefinition held words Run (Ok d) → GivesInputs held words (Err fault) →
-      status ≡ 6 → text ≡ fault_line (codes "inputs ") fault → CommandOutcome held words status text
-  runs : (d : DefTree) (inputs : InputsTree) → GivesDefinition held words Run (Ok d) → GivesInputs held words (Ok inputs) →
-      status ≡ 0 → text_of_runs d inputs ≡ Ok text → CommandOutcome held words status text
-  no_run : (d : DefTree) (inputs : InputsTree) (fault : TriggerFault) → GivesDefinition held words Run (Ok d) →
-      GivesInputs held words (Ok inputs) → status ≡ 6 → text_of_runs d inputs ≡ Err (RunsFault.Trigger fault) →
-      text ≡ trigger_line fault → CommandOutcome held words status text
-  costs : (d : DefTree) (inputs : InputsTree) → GivesDefinition held words Run (Ok d) → GivesInputs held words (Ok inputs) →
-      status ≡ 8 → text_of_runs d inputs ≡ Err RunsFault.TooLarge → text ≡ too_large → CommandOutcome held words status text
+  no_inputs : (command : Command) (d : DefTree) (fault : FormFault) → makes_runs command ≡ true →
+      GivesDefinition held words command (Ok d) → GivesInputs held words (Err fault) → status ≡ 6 →
+      text ≡ fault_line (codes "inputs ") fault → CommandOutcome held words status text
+  no_schedule : (command : Command) (d : DefTree) (inputs : InputsTree) (fault : FormFault) → IsGiven held words command d inputs →
+      GivesSchedule held words (Err fault) → status ≡ 6 → text ≡ fault_line (codes "schedule ") fault →
+      CommandOutcome held words status text
+  runs : (command : Command) (d : DefTree) (inputs : InputsTree) (schedule : List ℕ) → IsGiven held words command d inputs →
+      GivesSchedule held words (Ok schedule) → status ≡ 0 → text_of_runs (is_traced command) d inputs schedule ≡ Ok text →
+      CommandOutcome held words status text
+  no_run : (command : Command) (d : DefTree) (inputs : InputsTree) (schedule : List ℕ) (fault : TriggerFault) →
+      IsGiven held words command d inputs → GivesSchedule held words (Ok schedule) → status ≡ 6 →
+      text_of_runs (is_traced command) d inputs schedule ≡ Err (RunsFault.Trigger fault) → text ≡ trigger_line fault →
+      CommandOutcome held words status text
+  costs : (command : Command) (d : DefTree) (inputs : InputsTree) (schedule : List ℕ) → IsGiven held words command d inputs →
+      GivesSchedule held words (Ok schedule) → status ≡ 8 →
+      text_of_runs (is_traced command) d inputs schedule ≡ Err RunsFault.TooLarge → text ≡ too_large →
+      CommandOutcome held words status text
 
 -- want of memory is no fault of runs
-no_memory : (d : DefTree) (inputs : InputsTree) → text_of_runs d inputs ≡ Err RunsFault.Memory → ⊥
+no_memory : (traced : Bool) (d : DefTree) (inputs : InputsTree) (schedule : List ℕ) →
+    text_of_runs traced d inputs schedule ≡ Err RunsFault.Memory → ⊥
 unfolding text_of_runs
-no_memory d inputs is = never_memory (plain_of d) inputs is
+no_memory traced d inputs schedule is = never_memory (plain_of d) inputs schedule traced is
 
 module _ (held : Held) (words : List (List ℕ)) (verdict : Verdict) (text : List ℕ) where
   abbrev Ends : Type 0
   Ends = CommandOutcome held words (number verdict) text
 
-  after_runs : (d : DefTree) (inputs : InputsTree) → GivesDefinition held words Run (Ok d) → GivesInputs held words (Ok inputs) →
-      (made : Result (List ℕ) RunsFault) → text_of_runs d inputs ≡ made → MaySay held (made_runs made) verdict text → Ends
-  after_runs d inputs given handed (Ok t) is saying = runs d inputs given handed (ap number saying.0) (rw saying.1 is)
-  after_runs d inputs given handed (Err (RunsFault.Trigger fault)) is saying =
-      no_run d inputs fault given handed (ap number saying.0) is saying.1
-  after_runs d inputs given handed (Err RunsFault.TooLarge) is saying = costs d inputs given handed (ap number saying.0) is saying.1
-  after_runs d inputs given handed (Err RunsFault.Memory) is saying = absurd (no_memory d inputs is)
+  module _ (command : Command) (d : DefTree) where
+    after_runs : (inputs : InputsTree) (schedule : List ℕ) → IsGiven held words command d inputs → GivesSchedule held words (Ok schedule) →
+        (made : Result (List ℕ) RunsFault) → text_of_runs (is_traced command) d inputs schedule ≡ made →
+        MaySay held (made_runs made) verdict text → Ends
+    after_runs inputs schedule given timed (Ok t) is saying =
+        runs command d inputs schedule given timed (ap number saying.0) (rw saying.1 is)
+    after_runs inputs schedule given timed (Err (RunsFault.Trigger fault)) is saying =
+        no_run command d inputs schedule fault given timed (ap number saying.0) is saying.1
+    after_runs inputs schedule given timed (Err RunsFault.TooLarge) is saying =
+        costs command d inputs schedule given timed (ap number saying.0) is saying.1
+    after_runs inputs schedule given timed (Err RunsFault.Memory) is saying = absurd (no_memory (is_traced command) d inputs schedule is)
 
-  after_inputs : (d : DefTree) → GivesDefinition held words Run (Ok d) → (file : Option (List ℕ)) →
-      MayGive held (word words 2) inputs_bytes file → (form : Result InputsTree FormFault) → form_of inputs_of file ≡ form →
-      MaySay held (judged_inputs d form) verdict text → Ends
-  after_inputs d given file may (Ok inputs) is saying = after_runs d inputs given (file, may, is) (text_of_runs d inputs) refl saying
-  after_inputs d given file may (Err fault) is saying = no_inputs d fault given (file, may, is) (ap number saying.0) saying.1
+    after_schedule : (inputs : InputsTree) → IsGiven held words command d inputs → (form : Result (List ℕ) FormFault) →
+        GivesSchedule held words form → MaySay held (judged_schedule (is_traced command) d inputs form) verdict text → Ends
+    after_schedule inputs given (Ok schedule) timed saying =
+        after_runs inputs schedule given timed (text_of_runs (is_traced command) d inputs schedule) refl saying
+    after_schedule inputs given (Err fault) timed saying = no_schedule command d inputs fault given timed (ap number saying.0) saying.1
+
+    -- the runs are made under the schedule of a file, or under the empty one
+    after_under : (inputs : InputsTree) → IsGiven held words command d inputs → (named : Option (List ℕ)) → schedule_word words ≡ named →
+        MaySay held (scheduled (is_traced command) named d inputs) verdict text → Ends
+    after_under inputs given None is saying =
+        after_schedule inputs given (Ok []) (subst (λ named. GivesNumbers held named (Ok [])) (sym is) refl) saying
+    after_under inputs given (Some name) is (file, may, saying) =
+        after_schedule inputs given (schedule_form file)
+        (subst (λ named. GivesNumbers held named (schedule_form file)) (sym is) (file, may, refl)) saying
+
+    after_inputs : makes_runs command ≡ true → GivesDefinition held words command (Ok d) → (file : Option (List ℕ)) →
+        MayGive held (word words 2) inputs_bytes file → (form : Result InputsTree FormFault) → inputs_form file ≡ form →
+        MaySay held (judged_inputs (is_traced command) (schedule_word words) d form) verdict text → Ends
+    after_inputs makes given file may (Ok inputs) is saying =
+        after_under inputs (record { makes = makes; definition_given = given; inputs_given = (file, may, is) })
+        (schedule_word words) refl saying
+    after_inputs makes given file may (Err fault) is saying =
+        no_inputs command d fault makes given (file, may, is) (ap number saying.0) saying.1
 
   after_accepted : (command : Command) (d : DefTree) → GivesDefinition held words command (Ok d) →
       MaySay held (accepted command words d) verdict text → Ends
   after_accepted Check d given saying = checks d given (ap number saying.0) saying.1
-  after_accepted Run d given saying = after_inputs d given saying.0 saying.1 (form_of inputs_of saying.0) refl saying.2
+  after_accepted Run d given saying = after_inputs Run d refl given saying.0 saying.1 (inputs_form saying.0) refl saying.2
+  after_accepted Trace d given saying = after_inputs Trace d refl given saying.0 saying.1 (inputs_form saying.0) refl saying.2
 
   after_definition : (command : Command) → command_of words ≡ Some command → (file : Option (List ℕ)) →
-      MayGive held (word words 1) definition_bytes file → (form : Result DefTree FormFault) → form_of (definition_of command) file ≡ form →
+      MayGive held (word words 1) definition_bytes file → (form : Result DefTree FormFault) → definition_form command file ≡ form →
       MaySay held (judged_definition command words form) verdict text → Ends
   after_definition command names file may (Ok d) is saying = after_accepted command d (names, (file, may, is)) saying
   after_definition command names file may (Err fault) is saying =
@@ -80,7 +113,7 @@ module _ (held : Held) (words : List (List ℕ)) (verdict : Verdict) (text : Lis
   command_comes : (command : Command) → command_of words ≡ Some command → MaySay held (plan command words) verdict text → Ends
   unfolding plan
   command_comes command names saying =
-      after_definition command names saying.0 saying.1 (form_of (definition_of command) saying.0) refl saying.2
+      after_definition command names saying.0 saying.1 (definition_form command saying.0) refl saying.2
 
 -- What was said, and what it says of the files: its status was answered, and its text taken.
 record Spoke (held : Held) (words : List (List ℕ)) (before after : Option (List ℕ)) (result : ℕ) : Type 0 where
@@ -103,7 +136,8 @@ module _ (held : Held) (words : List (List ℕ)) (old new : List (List ℕ)) (be
   spoke_at (Some command) names (Speaks verdict text) comes writes spoken = elim writes [
     | inl all ↦ record {
       text = text;
-      says = subst (λ status. CommandOutcome held words status text) (sym all.0) (command_comes held words verdict text command names comes.1);
+      says = subst (λ status. CommandOutcome held words status text) (sym all.0)
+          (command_comes held words verdict text command names comes.1);
       written = all.1;
     }
     | inr cut ↦ absurd (spoken.2 cut.0)
@@ -140,74 +174,96 @@ module _ (held : Held) (words : List (List ℕ)) (old new : List (List ℕ)) (be
   checked_by names zero text written (no_definition command fault given is said) = absurd (omega (arith, zero, is))
   checked_by names zero text written (checks d given is said) =
       record { definition = d; definition_given = given; written = rw said at written }
-  checked_by names zero text written (no_inputs d fault given handed is said) = absurd (omega (arith, zero, is))
-  checked_by names zero text written (runs d inputs given handed is made) = absurd (let e : Check ≡ Run = one_command _ _ names given.0 in cc)
-  checked_by names zero text written (no_run d inputs fault given handed is made said) = absurd (omega (arith, zero, is))
-  checked_by names zero text written (costs d inputs given handed is made said) = absurd (omega (arith, zero, is))
+  checked_by names zero text written (no_inputs command d fault makes given handed is said) = absurd (omega (arith, zero, is))
+  checked_by names zero text written (no_schedule command d inputs fault given timed is said) = absurd (omega (arith, zero, is))
+  checked_by names zero text written (runs command d inputs schedule given timed is made) = absurd (
+      let e : Check ≡ command = one_command _ _ names given.definition_given.0 in
+      let makes : makes_runs command ≡ true = given.makes in cc
+      )
+  checked_by names zero text written (no_run command d inputs schedule fault given timed is made said) = absurd (omega (arith, zero, is))
+  checked_by names zero text written (costs command d inputs schedule given timed is made said) = absurd (omega (arith, zero, is))
 
   pub serves_checked : HasServed → command_of words ≡ Some Check → result ≡ 0 → Checked held words before after
   serves_checked serves names zero =
       let s = spoke serves (zero_spoken zero) in checked_by names zero s.text s.written s.says
 
-  ran_by : command_of words ≡ Some Run → result ≡ 0 → (text : List ℕ) → Appends before after text →
-      CommandOutcome held words result text → Ran held words before after
-  ran_by names zero text written (no_definition command fault given is said) = absurd (omega (arith, zero, is))
-  ran_by names zero text written (checks d given is said) = absurd (let e : Check ≡ Run = one_command _ _ given.0 names in cc)
-  ran_by names zero text written (no_inputs d fault given handed is said) = absurd (omega (arith, zero, is))
-  ran_by names zero text written (runs d inputs given handed is made) = record {
-    definition = d;
-    inputs = inputs;
-    text = text;
-    definition_given = given;
-    inputs_given = handed;
-    runs_made = made;
-    written = written;
-  }
-  ran_by names zero text written (no_run d inputs fault given handed is made said) = absurd (omega (arith, zero, is))
-  ran_by names zero text written (costs d inputs given handed is made said) = absurd (omega (arith, zero, is))
+  module _ (command : Command) (makes : makes_runs command ≡ true) where
+    ran_by : command_of words ≡ Some command → result ≡ 0 → (text : List ℕ) → Appends before after text →
+        CommandOutcome held words result text → Ran held words command before after
+    ran_by names zero text written (no_definition c fault given is said) = absurd (omega (arith, zero, is))
+    ran_by names zero text written (checks d given is said) = absurd (let e : Check ≡ command = one_command _ _ given.0 names in cc)
+    ran_by names zero text written (no_inputs c d fault made given handed is said) = absurd (omega (arith, zero, is))
+    ran_by names zero text written (no_schedule c d inputs fault given timed is said) = absurd (omega (arith, zero, is))
+    ran_by names zero text written (runs c d inputs schedule given timed is made) =
+        subst (λ called. Ran held words called before after) (one_command c command given.definition_given.0 names) (record {
+          definition = d;
+          inputs = inputs;
+          schedule = schedule;
+          text = text;
+          given = given;
+          schedule_given = timed;
+          runs_made = made;
+          written = written;
+        })
+    ran_by names zero text written (no_run c d inputs schedule fault given timed is made said) = absurd (omega (arith, zero, is))
+    ran_by names zero text written (costs c d inputs schedule given timed is made said) = absurd (omega (arith, zero, is))
 
-  pub serves_ran : HasServed → command_of words ≡ Some Run → result ≡ 0 → Ran held words before after
-  serves_ran serves names zero = let s = spoke serves (zero_spoken zero) in ran_by names zero s.text s.written s.says
+    pub serves_ran : HasServed → command_of words ≡ Some command → result ≡ 0 → Ran held words command before after
+    serves_ran serves names zero = let s = spoke serves (zero_spoken zero) in ran_by names zero s.text s.written s.says
 
   definition_by : result ≡ 1 → (text : List ℕ) → Appends before after text → CommandOutcome held words result text →
       RefusedDefinition held words before after
   definition_by one text written (no_definition command fault given is said) =
       record { command = command; fault = fault; definition_given = given; written = rw said at written }
   definition_by one text written (checks d given is said) = absurd (omega (arith, one, is))
-  definition_by one text written (no_inputs d fault given handed is said) = absurd (omega (arith, one, is))
-  definition_by one text written (runs d inputs given handed is made) = absurd (omega (arith, one, is))
-  definition_by one text written (no_run d inputs fault given handed is made said) = absurd (omega (arith, one, is))
-  definition_by one text written (costs d inputs given handed is made said) = absurd (omega (arith, one, is))
+  definition_by one text written (no_inputs command d fault makes given handed is said) = absurd (omega (arith, one, is))
+  definition_by one text written (no_schedule command d inputs fault given timed is said) = absurd (omega (arith, one, is))
+  definition_by one text written (runs command d inputs schedule given timed is made) = absurd (omega (arith, one, is))
+  definition_by one text written (no_run command d inputs schedule fault given timed is made said) = absurd (omega (arith, one, is))
+  definition_by one text written (costs command d inputs schedule given timed is made said) = absurd (omega (arith, one, is))
 
   pub serves_definition : HasServed → result ≡ 1 → RefusedDefinition held words before after
   serves_definition serves one = let s = spoke serves (one_spoken one) in definition_by one s.text s.written s.says
 
   abbrev RefusedSix : Type 0
-  RefusedSix = RefusedInputs held words before after ⊎ RefusedTrigger held words before after
+  RefusedSix = RefusedInputs held words before after ⊎ RefusedSchedule held words before after ⊎ RefusedTrigger held words before after
 
   inputs_by : result ≡ 6 → (text : List ℕ) → Appends before after text → CommandOutcome held words result text → RefusedSix
   inputs_by six text written (no_definition command fault given is said) = absurd (omega (arith, six, is))
   inputs_by six text written (checks d given is said) = absurd (omega (arith, six, is))
-  inputs_by six text written (no_inputs d fault given handed is said) = inl (record {
+  inputs_by six text written (no_inputs command d fault makes given handed is said) = inl (record {
+    command = command;
     definition = d;
     fault = fault;
+    makes = makes;
     definition_given = given;
     inputs_given = handed;
     written = rw said at written;
   })
-  inputs_by six text written (runs d inputs given handed is made) = absurd (omega (arith, six, is))
-  inputs_by six text written (no_run d inputs fault given handed is made said) = inr (
+  inputs_by six text written (no_schedule command d inputs fault given timed is said) = inr (inl (record {
+    command = command;
+    definition = d;
+    inputs = inputs;
+    fault = fault;
+    given = given;
+    schedule_given = timed;
+    written = rw said at written;
+  }))
+  inputs_by six text written (runs command d inputs schedule given timed is made) = absurd (omega (arith, six, is))
+  inputs_by six text written (no_run command d inputs schedule fault given timed is made said) = inr (inr (
     fault,
     record {
+      command = command;
       definition = d;
       inputs = inputs;
-      definition_given = given;
-      inputs_given = handed;
+      schedule = schedule;
+      given = given;
+      schedule_given = timed;
       runs_refused = made;
       written = rw said at written;
     },
-  )
-  inputs_by six text written (costs d inputs given handed is made said) = absurd (omega (arith, six, is))
+  ))
+  inputs_by six text written (costs command d inputs schedule given timed is made said) = absurd (omega (arith, six, is))
 
   pub serves_inputs : HasServed → result ≡ 6 → RefusedSix
   serves_inputs serves six = let s = spoke serves (six_spoken six) in inputs_by six s.text s.written s.says
@@ -216,14 +272,17 @@ module _ (held : Held) (words : List (List ℕ)) (old new : List (List ℕ)) (be
       RefusedCost held words before after
   cost_by eight text written (no_definition command fault given is said) = absurd (omega (arith, eight, is))
   cost_by eight text written (checks d given is said) = absurd (omega (arith, eight, is))
-  cost_by eight text written (no_inputs d fault given handed is said) = absurd (omega (arith, eight, is))
-  cost_by eight text written (runs d inputs given handed is made) = absurd (omega (arith, eight, is))
-  cost_by eight text written (no_run d inputs fault given handed is made said) = absurd (omega (arith, eight, is))
-  cost_by eight text written (costs d inputs given handed is made said) = record {
+  cost_by eight text written (no_inputs command d fault makes given handed is said) = absurd (omega (arith, eight, is))
+  cost_by eight text written (no_schedule command d inputs fault given timed is said) = absurd (omega (arith, eight, is))
+  cost_by eight text written (runs command d inputs schedule given timed is made) = absurd (omega (arith, eight, is))
+  cost_by eight text written (no_run command d inputs schedule fault given timed is made said) = absurd (omega (arith, eight, is))
+  cost_by eight text written (costs command d inputs schedule given timed is made said) = record {
+    command = command;
     definition = d;
     inputs = inputs;
-    definition_given = given;
-    inputs_given = handed;
+    schedule = schedule;
+    given = given;
+    schedule_given = timed;
     runs_refused = made;
     written = rw said at written;
   }
@@ -246,16 +305,33 @@ module _ (bytes_of : List ℕ → Option (List ℕ)) (words : List (List ℕ)) w
   unfolding plan
   plan_said command d holds =
       let file = holds.held in
-      read_on bytes_of (word words 1) definition_bytes (λ file. judged_definition command words (form_of (definition_of command) file))
+      read_on bytes_of (word words 1) definition_bytes (λ file. judged_definition command words (definition_form command file))
       file.0 file.1
       ∙ ap (λ found. said_by bytes_of (judged_definition command words found)) file.2
 
-  -- `run` makes its runs with the inputs that INPUTS holds
-  run_said : (d : DefTree) (inputs : InputsTree) → Holds bytes_of (word words 2) inputs_bytes inputs_of inputs →
-      said_by bytes_of (accepted Run words d) ≡ said_by bytes_of (made_runs (text_of_runs d inputs))
-  run_said d inputs (bytes, there, form) =
-      read_on bytes_of (word words 2) inputs_bytes (λ file. judged_inputs d (form_of inputs_of file)) bytes there
-      ∙ ap (λ found. said_by bytes_of (judged_inputs d found)) form
+  -- the runs are made under the schedule that SCHEDULE holds
+  schedule_said : (traced : Bool) (d : DefTree) (inputs : InputsTree) (named : Option (List ℕ)) (schedule : List ℕ) →
+      HoldsSchedule bytes_of named schedule →
+      said_by bytes_of (scheduled traced named d inputs) ≡ said_by bytes_of (made_runs (text_of_runs traced d inputs schedule))
+  schedule_said traced d inputs None schedule is = ap (λ s. said_by bytes_of (made_runs (text_of_runs traced d inputs s))) (sym is)
+  schedule_said traced d inputs (Some name) schedule (bytes, there, form) =
+      read_on bytes_of name schedule_bytes (λ file. judged_schedule traced d inputs (schedule_form file)) bytes there
+      ∙ ap (λ found. said_by bytes_of (judged_schedule traced d inputs found)) form
+
+  -- the inputs are those that INPUTS holds
+  run_said : (traced : Bool) (d : DefTree) (inputs : InputsTree) → Holds bytes_of (word words 2) inputs_bytes inputs_form inputs →
+      said_by bytes_of (run traced (word words 2) (schedule_word words) d)
+      ≡ said_by bytes_of (scheduled traced (schedule_word words) d inputs)
+  run_said traced d inputs (bytes, there, form) =
+      read_on bytes_of (word words 2) inputs_bytes (λ file. judged_inputs traced (schedule_word words) d (inputs_form file)) bytes there
+      ∙ ap (λ found. said_by bytes_of (judged_inputs traced (schedule_word words) d found)) form
+
+  -- what a command makes of an accepted definition that makes runs
+  accepted_said : (command : Command) (d : DefTree) → makes_runs command ≡ true →
+      accepted command words d ≡ run (is_traced command) (word words 2) (schedule_word words) d
+  accepted_said Check d makes = absurd (cc)
+  accepted_said Run d makes = refl
+  accepted_said Trace d makes = refl
 
   -- what the words say, by the plan of their command
   say_by : (command : Command) (text : List ℕ) → command_of words ≡ Some command →
@@ -269,9 +345,14 @@ module _ (bytes_of : List ℕ → Option (List ℕ)) (words : List (List ℕ)) w
 
   says_runs : (text : List ℕ) → PassesAll bytes_of words text → say bytes_of words ≡ Some (0, text)
   says_runs text passes =
-      say_by Run text passes.definition_held.names
-      (plan_said Run passes.definition passes.definition_held
-      ∙ run_said passes.definition passes.inputs passes.inputs_held
+      let command = passes.command in
+      let d = passes.definition in
+      let traced = is_traced command in
+      say_by command text passes.definition_held.names
+      (plan_said command d passes.definition_held
+      ∙ ap (λ p. said_by bytes_of p) (accepted_said command d passes.makes)
+      ∙ run_said traced d passes.inputs passes.inputs_held
+      ∙ schedule_said traced d passes.inputs (schedule_word words) passes.schedule passes.schedule_held
       ∙ ap (λ made. said_by bytes_of (made_runs made)) passes.runs_made)
 
 whole_from : (said : Option (ℕ × List ℕ)) (before after : Option (List ℕ)) (text : List ℕ) (result : ℕ) → said ≡ Some (0, text) →

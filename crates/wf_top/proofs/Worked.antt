@@ -1,24 +1,25 @@
 -- Worked values of the definitions of this crate: its limits, words, lines and statuses.
-use Rattle.std.proofs.Common.{◌≡◌, ℕ, List, [], ◌∷◌, ◌++◌, None, Some, Ok, Err, replicate, refl}
+use Rattle.std.proofs.Common.{◌≡◌, ℕ, List, [], ◌∷◌, ◌++◌, Bool, true, false, Option, None, Some, Ok, Err, replicate, refl}
 use Rattle.std.specs.Prelude.{codes}
 use Rattle.std.specs.Fmt.{digits}
+use Rattle.wf_answers.specs.Inputs.{InputsTree}
 use Rattle.wf_def.specs.ActionTree.{ActionTree, action, KindTree, compose, scope, ActionTrees, no_actions, action_then}
 use Rattle.wf_def.specs.DefTree.{DefTree}
 use Rattle.wf_json.specs.Json.{string}
 use Rattle.wf_reading.specs.declared.definition.RuleFault.{RuleFault}
 use Rattle.wf_template.specs.DataTree as data_
-use Rattle.wf_top.specs.Commands.{accepted, accepted_line, judged_definition, judged_inputs, made_runs, plan, run}
+use Rattle.wf_top.specs.Commands.{accepted, accepted_line, judged_definition, judged_inputs, judged_schedule, made_runs, plan, run, scheduled, text_of_runs}
 use Rattle.wf_top.specs.Fault.{fault_line, form_words}
-use Rattle.wf_top.specs.Form.{built, checked, definition_of, form_of, inputs_of}
+use Rattle.wf_top.specs.Form.{built, checked, definition_form, inputs_form, schedule_form}
 use Rattle.wf_top.specs.Plan.{Plan, Says, Reads, within}
 use Rattle.wf_top.specs.Served as served
 use Rattle.wf_top.specs.Trigger.{trigger_line, trigger_words}
-use Rattle.wf_top.specs.Words.{command_of}
+use Rattle.wf_top.specs.Words.{command_of, is_traced, makes_runs, schedule_word}
 use Rattle.wf_top.specs.declared.fault.FormFault.{FormFault}
 use Rattle.wf_runs.specs.declared.fault.RunsFault.{RunsFault}
 use Rattle.wf_top.specs.declared.said.Verdict.TheVariants.{Done, Definition, Inputs, TooLarge}
 use Rattle.wf_top.specs.declared.words.Command.{Command}
-use Rattle.wf_top.specs.declared.words.Command.TheVariants.{Check, Run}
+use Rattle.wf_top.specs.declared.words.Command.TheVariants.{Check, Run, Trace}
 use Rattle.wf_trigger.specs.declared.fault.TriggerFault.{TriggerFault}
 use Rattle.wf_val.specs.declared.fault.EvalFault.{EvalFault}
 use Rattle.wf_val.specs.declared.function.Fun.{Fun}
@@ -51,9 +52,16 @@ definition-limit-run : first_limit (plan Run (words_of (codes "run") 2)) ≡ 419
 unfolding plan
 definition-limit-run = refl
 
+definition-limit-trace : first_limit (plan Trace (words_of (codes "trace") 3)) ≡ 4194304
+unfolding plan
+definition-limit-trace = refl
+
 -- 64 MiB
-inputs-limit : (d : DefTree) → first_limit (run (letters 2) d) ≡ 67108864
-inputs-limit d = refl
+inputs-limit : (traced : Bool) (d : DefTree) → first_limit (run traced (letters 2) None d) ≡ 67108864
+inputs-limit traced d = refl
+
+schedule-limit : (traced : Bool) (d : DefTree) (inputs : InputsTree) → first_limit (scheduled traced (Some (letters 3)) d inputs) ≡ 67108864
+schedule-limit traced d inputs = refl
 
 within-limit : within 3 (letters 3) ≡ Some (letters 3)
 within-limit = refl
@@ -61,19 +69,62 @@ within-limit = refl
 within-one_more : within 3 (letters 4) ≡ None
 within-one_more = refl
 
-too_long-definition : form_of (definition_of Check) None ≡ Err FormFault.TooLong
+too_long-definition : definition_form Check None ≡ Err FormFault.TooLong
 too_long-definition = refl
 
-too_long-inputs : form_of inputs_of None ≡ Err FormFault.TooLong
+too_long-inputs : inputs_form None ≡ Err FormFault.TooLong
 too_long-inputs = refl
 
--- DEF is the first file, and INPUTS the second
-first-definition : first_name (plan Run (codes "run" ∷ (letters 1 ∷ (letters 2 ∷ [])))) ≡ letters 1
+too_long-schedule : schedule_form None ≡ Err FormFault.TooLong
+too_long-schedule = refl
+
+-- DEF is the first file, INPUTS the second and SCHEDULE the third
+abbrev two_files : List ℕ → List (List ℕ)
+two_files name = name ∷ (letters 1 ∷ (letters 2 ∷ []))
+
+abbrev three_files : List ℕ → List (List ℕ)
+three_files name = name ∷ (letters 1 ∷ (letters 2 ∷ (letters 3 ∷ [])))
+
+first-definition : first_name (plan Run (two_files (codes "run"))) ≡ letters 1
 unfolding plan
 first-definition = refl
 
-second-inputs : (d : DefTree) → first_name (accepted Run (codes "run" ∷ (letters 1 ∷ (letters 2 ∷ []))) d) ≡ letters 2
+first-definition-trace : first_name (plan Trace (three_files (codes "trace"))) ≡ letters 1
+unfolding plan
+first-definition-trace = refl
+
+second-inputs : (d : DefTree) → first_name (accepted Run (two_files (codes "run")) d) ≡ letters 2
 second-inputs d = refl
+
+second-inputs-trace : (d : DefTree) → first_name (accepted Trace (three_files (codes "trace")) d) ≡ letters 2
+second-inputs-trace d = refl
+
+-- what is read behind inputs that are of their form: SCHEDULE, or nothing at `run` with two files
+third-schedule : (traced : Bool) (d : DefTree) (inputs : InputsTree) →
+    first_name (judged_inputs traced (schedule_word (three_files (codes "run"))) d (Ok inputs)) ≡ letters 3
+third-schedule traced d inputs = refl
+
+third-none : (d : DefTree) (inputs : InputsTree) →
+    judged_inputs false (schedule_word (two_files (codes "run"))) d (Ok inputs) ≡ made_runs (text_of_runs false d inputs [])
+third-none d inputs = refl
+
+-- `run` writes no events, also under a schedule, and `trace` does
+untraced-run : (d : DefTree) → accepted Run (three_files (codes "run")) d ≡ run false (letters 2) (Some (letters 3)) d
+untraced-run d = refl
+
+traced-trace : (d : DefTree) → accepted Trace (three_files (codes "trace")) d ≡ run true (letters 2) (Some (letters 3)) d
+traced-trace d = refl
+
+-- ---- schedules
+
+schedule-no_bytes : schedule_form (Some []) ≡ Ok []
+schedule-no_bytes = refl
+
+schedule-two : schedule_form (Some (codes "0\n12\n")) ≡ Ok (0 ∷ 12 ∷ [])
+schedule-two = refl
+
+schedule-letter : schedule_form (Some (codes "0\nx\n")) ≡ Err (FormFault.Line 2)
+schedule-letter = refl
 
 -- ---- words
 
@@ -92,8 +143,20 @@ command-run = refl
 command-run-one_file : command_of (words_of (codes "run") 1) ≡ None
 command-run-one_file = refl
 
-command-run-three_files : command_of (words_of (codes "run") 3) ≡ None
+command-run-three_files : command_of (words_of (codes "run") 3) ≡ Some Run
 command-run-three_files = refl
+
+command-run-four_files : command_of (words_of (codes "run") 4) ≡ None
+command-run-four_files = refl
+
+command-trace : command_of (words_of (codes "trace") 3) ≡ Some Trace
+command-trace = refl
+
+command-trace-two_files : command_of (words_of (codes "trace") 2) ≡ None
+command-trace-two_files = refl
+
+command-trace-four_files : command_of (words_of (codes "trace") 4) ≡ None
+command-trace-four_files = refl
 
 command-capital : command_of (words_of (codes "Run") 2) ≡ None
 command-capital = refl
@@ -101,11 +164,18 @@ command-capital = refl
 command-longer : command_of (words_of (codes "checks") 1) ≡ None
 command-longer = refl
 
-command-trace : command_of (words_of (codes "trace") 3) ≡ None
-command-trace = refl
+command-not_built : command_of (words_of (codes "list") 1) ≡ None
+command-not_built = refl
 
 command-none : command_of [] ≡ None
 command-none = refl
+
+-- `check` makes no runs and tells no events
+check-no_runs : makes_runs Check ≡ false
+check-no_runs = refl
+
+check-no_events : is_traced Check ≡ false
+check-no_events = refl
 
 -- ---- faults of files
 
@@ -142,6 +212,10 @@ words-twice address = refl
 words-moment : form_words FormFault.Moment ≡ codes "Moment"
 words-moment = refl
 
+words-line : form_words (FormFault.Line 4294967296) ≡ codes "Line 4294967296"
+unfolding digits
+words-line = refl
+
 line-definition : fault_line (codes "definition ") FormFault.NotJson ≡ codes "definition NotJson\n"
 unfolding fault_line
 line-definition = refl
@@ -149,6 +223,10 @@ line-definition = refl
 line-inputs : fault_line (codes "inputs ") FormFault.Moment ≡ codes "inputs Moment\n"
 unfolding fault_line
 line-inputs = refl
+
+line-schedule : fault_line (codes "schedule ") FormFault.TooLong ≡ codes "schedule too long\n"
+unfolding fault_line
+line-schedule = refl
 
 -- ---- faults of triggers
 
@@ -200,9 +278,20 @@ rule-broken d pointer = refl
 rule-none : (d : DefTree) → checked d None ≡ Ok d
 rule-none d = refl
 
-inputs-told : (d : DefTree) → judged_inputs d (Err FormFault.Moment) ≡ Says Inputs (codes "inputs Moment\n")
+-- a fault of the inputs is told before anything of the schedule, and one of the schedule before anything of the runs
+inputs-told : (traced : Bool) (schedule : Option (List ℕ)) (d : DefTree) →
+    judged_inputs traced schedule d (Err FormFault.Moment) ≡ Says Inputs (codes "inputs Moment\n")
 unfolding fault_line
-inputs-told d = refl
+inputs-told traced schedule d = refl
+
+schedule-told : (traced : Bool) (d : DefTree) (inputs : InputsTree) →
+    judged_schedule traced d inputs (Err (FormFault.Line 2)) ≡ Says Inputs (codes "schedule Line 2\n")
+unfolding fault_line digits
+schedule-told traced d inputs = refl
+
+schedule-taken : (traced : Bool) (d : DefTree) (inputs : InputsTree) (numbers : List ℕ) →
+    judged_schedule traced d inputs (Ok numbers) ≡ made_runs (text_of_runs traced d inputs numbers)
+schedule-taken traced d inputs numbers = refl
 
 runs-told : made_runs (Ok (codes "# no run\n")) ≡ Says Done (codes "# no run\n")
 runs-told = refl

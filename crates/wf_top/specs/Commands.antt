@@ -1,5 +1,5 @@
 -- What each command says: its plan, in the order of its tests.
-use Rattle.std.specs.Prelude.{ℕ, List, [], ◌∷◌, ◌++◌, length, Option, Result, Ok, Err, codes, decimal}
+use Rattle.std.specs.Prelude.{ℕ, List, [], ◌∷◌, ◌++◌, length, Bool, Option, None, Some, Result, Ok, Err, codes, decimal}
 use Rattle.std.specs.Option.{option_map}
 use Rattle.wf_answers.specs.Inputs.{InputsTree}
 use Rattle.wf_def.specs.DefTree.{DefTree}
@@ -8,23 +8,23 @@ use Rattle.wf_plain.specs.Plain.{plain_of}
 use Rattle.wf_runs.specs.Runs.{runs_text}
 use Rattle.wf_runs.specs.declared.fault.RunsFault.{RunsFault}
 use Rattle.wf_top.specs.Fault.{fault_line}
-use Rattle.wf_top.specs.Form.{definition_of, form_of, inputs_of}
-use Rattle.wf_top.specs.Limits.{definition_bytes, inputs_bytes}
+use Rattle.wf_top.specs.Form.{definition_form, inputs_form, schedule_form}
+use Rattle.wf_top.specs.Limits.{definition_bytes, inputs_bytes, schedule_bytes}
 use Rattle.wf_top.specs.Plan.{Plan, Says, Reads}
 use Rattle.wf_top.specs.Trigger.{trigger_line}
-use Rattle.wf_top.specs.Words.{command_of, word}
+use Rattle.wf_top.specs.Words.{command_of, is_traced, schedule_word, word}
 use Rattle.wf_top.specs.declared.fault.FormFault.{FormFault}
 use Rattle.wf_top.specs.declared.said.Verdict.TheVariants.{Done, Definition, Inputs, TooLarge}
 use Rattle.wf_top.specs.declared.words.Command.{Command}
-use Rattle.wf_top.specs.declared.words.Command.TheVariants.{Check, Run}
+use Rattle.wf_top.specs.declared.words.Command.TheVariants.{Check, Run, Trace}
 
 -- what `check` writes of an accepted definition: how many actions it has, at any depth
 unfoldable pub accepted_line : DefTree → List ℕ
 accepted_line d = codes "accepted " ++ (decimal (length (graph_names d.top)) ++ 10 ∷ [])
 
--- what `run` writes of the runs that the inputs start, or why there are none to write
-unfoldable pub text_of_runs : DefTree → InputsTree → Result (List ℕ) RunsFault
-text_of_runs d inputs = runs_text (plain_of d) inputs
+-- what is written of the runs that the inputs start, each under the schedule, with the events of each or without; or why there are none
+unfoldable pub text_of_runs : Bool → DefTree → InputsTree → List ℕ → Result (List ℕ) RunsFault
+text_of_runs traced d inputs schedule = runs_text (plain_of d) inputs schedule traced
 
 abbrev pub too_large : List ℕ
 too_large = codes "too large\n"
@@ -36,19 +36,30 @@ made_runs (Err (RunsFault.Trigger fault)) = Says Inputs (trigger_line fault)
 made_runs (Err RunsFault.TooLarge) = Says TooLarge too_large
 made_runs (Err RunsFault.Memory) = Says Done []
 
+-- SCHEDULE is read and judged: the runs are made, or refused for the fault of the schedule.
+abbrev pub judged_schedule : Bool → DefTree → InputsTree → Result (List ℕ) FormFault → Plan
+judged_schedule traced d inputs (Err fault) = Says Inputs (fault_line (codes "schedule ") fault)
+judged_schedule traced d inputs (Ok schedule) = made_runs (text_of_runs traced d inputs schedule)
+
+-- The runs are made under the schedule of a file, or under the empty one where no file is named.
+abbrev pub scheduled : Bool → Option (List ℕ) → DefTree → InputsTree → Plan
+scheduled traced None d inputs = made_runs (text_of_runs traced d inputs [])
+scheduled traced (Some schedule) d inputs = Reads schedule schedule_bytes (λ file. judged_schedule traced d inputs (schedule_form file))
+
 -- INPUTS is read and judged: the runs are made, or refused for the fault of the inputs.
-abbrev pub judged_inputs : DefTree → Result InputsTree FormFault → Plan
-judged_inputs d (Err fault) = Says Inputs (fault_line (codes "inputs ") fault)
-judged_inputs d (Ok inputs) = made_runs (text_of_runs d inputs)
+abbrev pub judged_inputs : Bool → Option (List ℕ) → DefTree → Result InputsTree FormFault → Plan
+judged_inputs traced schedule d (Err fault) = Says Inputs (fault_line (codes "inputs ") fault)
+judged_inputs traced schedule d (Ok inputs) = scheduled traced schedule d inputs
 
 -- An accepted definition is run with the inputs of a file.
-abbrev pub run : List ℕ → DefTree → Plan
-run inputs d = Reads inputs inputs_bytes (λ file. judged_inputs d (form_of inputs_of file))
+abbrev pub run : Bool → List ℕ → Option (List ℕ) → DefTree → Plan
+run traced inputs schedule d = Reads inputs inputs_bytes (λ file. judged_inputs traced schedule d (inputs_form file))
 
 -- what a command does with an accepted definition
 abbrev pub accepted : Command → List (List ℕ) → DefTree → Plan
 accepted Check words d = Says Done (accepted_line d)
-accepted Run words d = run (word words 2) d
+accepted Run words d = run (is_traced Run) (word words 2) (schedule_word words) d
+accepted Trace words d = run (is_traced Trace) (word words 2) (schedule_word words) d
 
 -- DEF is read and judged: the command goes on with it, or it is refused for its fault.
 abbrev pub judged_definition : Command → List (List ℕ) → Result DefTree FormFault → Plan
@@ -58,7 +69,7 @@ judged_definition command words (Ok d) = accepted command words d
 -- what a command says whose definition is the file of this name
 abbrev pub defined : List ℕ → Command → List (List ℕ) → Plan
 defined definition command words =
-    Reads definition definition_bytes (λ file. judged_definition command words (form_of (definition_of command) file))
+    Reads definition definition_bytes (λ file. judged_definition command words (definition_form command file))
 
 -- what a command with its words says
 unfoldable pub plan : Command → List (List ℕ) → Plan

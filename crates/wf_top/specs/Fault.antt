@@ -4,6 +4,7 @@ use Rattle.wf_answers.specs.declared.fault.InputsFault.{InputsFault}
 use Rattle.wf_json.specs.Json.{string}
 use Rattle.wf_json.specs.declared.fault.JsonFault.{JsonFault}
 use Rattle.wf_reading.specs.declared.definition.RuleFault.{RuleFault}
+use Rattle.wf_run.specs.declared.fault.ScheduleFault.{ScheduleFault}
 use Rattle.wf_top.specs.declared.fault.FormFault.{FormFault}
 
 -- a fault of the JSON text, as a fault of the file
@@ -25,6 +26,11 @@ inputs_fault (InputsFault.Twice address attempt) = FormFault.Twice address attem
 inputs_fault InputsFault.Moment = FormFault.Moment
 inputs_fault InputsFault.Memory = FormFault.Memory
 
+-- a fault of a schedule
+abbrev pub schedule_fault : ScheduleFault → FormFault
+schedule_fault (ScheduleFault.Line number) = FormFault.Line number
+schedule_fault ScheduleFault.Memory = FormFault.Memory
+
 -- A fault of a file, as it is printed. Want of memory is none, and has a line of its own.
 abbrev pub form_words : FormFault → List ℕ
 form_words FormFault.TooLong = codes "too long"
@@ -36,6 +42,7 @@ form_words (FormFault.NotYet pointer) = codes "NotYet " ++ string pointer
 form_words (FormFault.Form pointer) = codes "Form " ++ string pointer
 form_words (FormFault.Twice address attempt) = codes "Twice " ++ (string address ++ (32 ∷ decimal attempt))
 form_words FormFault.Moment = codes "Moment"
+form_words (FormFault.Line number) = codes "Line " ++ decimal number
 form_words FormFault.Memory = []
 
 -- the line of a fault of a file, which names the file by its part in the command

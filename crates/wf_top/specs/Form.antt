@@ -11,30 +11,33 @@ use Rattle.wf_reading.specs.Meant as read
 use Rattle.wf_reading.specs.ReadSeen.{fault_in}
 use Rattle.wf_reading.specs.declared.definition.RuleFault.{RuleFault}
 use Rattle.wf_rules.specs.Broken.{broken_of}
-use Rattle.wf_top.specs.Fault.{inputs_fault, json_fault, rule_fault}
+use Rattle.wf_run.specs.Schedule as schedules
+use Rattle.wf_run.specs.declared.fault.ScheduleFault.{ScheduleFault}
+use Rattle.wf_top.specs.Fault.{inputs_fault, json_fault, rule_fault, schedule_fault}
 use Rattle.wf_top.specs.declared.fault.FormFault.{FormFault}
 use Rattle.wf_top.specs.declared.words.Command.{Command}
-use Rattle.wf_top.specs.declared.words.Command.TheVariants.{Check, Run}
+use Rattle.wf_top.specs.declared.words.Command.TheVariants.{Check, Run, Trace}
 use Rattle.wf_val.specs.ValueTree.{ValueTree}
 
--- A form says which values are of it, and of the others which fault they have.
+-- A form says what a file holds of it, or which fault the file has: None stands for a file over its limit.
 abbrev pub Form : Type 0 → Type 0
-Form T = ValueTree → Result T FormFault
+Form T = Option (List ℕ) → Result T FormFault
 
 -- what is found in the value that the bytes of a file are
-abbrev pub found : {T : Type 0} → Form T → Result ValueTree JsonFault → Result T FormFault
-found form (Ok value) = form value
-found form (Err fault) = Err (json_fault fault)
+abbrev pub found : {T : Type 0} → (ValueTree → Result T FormFault) → Result ValueTree JsonFault → Result T FormFault
+found of_value (Ok value) = of_value value
+found of_value (Err fault) = Err (json_fault fault)
 
--- What a file holds of a form: None stands for a file over its limit.
-abbrev pub form_of : {T : Type 0} → Form T → Option (List ℕ) → Result T FormFault
-form_of form None = Err FormFault.TooLong
-form_of form (Some bytes) = found form (read_value bytes)
+-- the form of the files that are a JSON text, by what its value means
+abbrev pub json_form : {T : Type 0} → (ValueTree → Result T FormFault) → Form T
+json_form of_value None = Err FormFault.TooLong
+json_form of_value (Some bytes) = found of_value (read_value bytes)
 
 -- what a command takes a definition for
 abbrev pub purpose_of : Command → Purpose
 purpose_of Check = Purpose.Check
 purpose_of Run = Purpose.Run
+purpose_of Trace = Purpose.Run
 
 -- the least pointer of what isn't built for a command
 unfoldable pub unbuilt_for : Command → DefTree → Option (List ℕ)
@@ -59,15 +62,33 @@ abbrev pub formed : Command → ValueTree → Option RuleFault → Result DefTre
 formed command value (Some fault) = Err (rule_fault fault)
 formed command value None = built (read.definition_of value) (unbuilt_for command (read.definition_of value))
 
--- The form of definitions: the value breaks no rule, and all that the command asks for is built.
-abbrev pub definition_of : Command → Form DefTree
+-- the definition that a value means to a command: it breaks no rule, and all that the command asks for is built
+abbrev pub definition_of : Command → ValueTree → Result DefTree FormFault
 definition_of command value = formed command value (fault_in value)
 
--- what inputs a value means, or its fault
+-- the form of definitions
+abbrev pub definition_form : Command → Form DefTree
+definition_form command file = json_form (definition_of command) file
+
+-- what inputs are read, or their fault
 abbrev pub or_inputs_fault : Result answers.InputsTree InputsFault → Result answers.InputsTree FormFault
 or_inputs_fault (Ok inputs) = Ok inputs
 or_inputs_fault (Err fault) = Err (inputs_fault fault)
 
--- the form of inputs
-abbrev pub inputs_of : Form answers.InputsTree
+-- the inputs that a value means
+abbrev pub inputs_of : ValueTree → Result answers.InputsTree FormFault
 inputs_of value = or_inputs_fault (answers.inputs_of value)
+
+-- the form of inputs
+abbrev pub inputs_form : Form answers.InputsTree
+inputs_form file = json_form inputs_of file
+
+-- what schedule is read, or its fault
+abbrev pub or_schedule_fault : Result (List ℕ) ScheduleFault → Result (List ℕ) FormFault
+or_schedule_fault (Ok schedule) = Ok schedule
+or_schedule_fault (Err fault) = Err (schedule_fault fault)
+
+-- the form of schedules
+abbrev pub schedule_form : Form (List ℕ)
+schedule_form None = Err FormFault.TooLong
+schedule_form (Some bytes) = or_schedule_fault (schedules.schedule_of bytes)

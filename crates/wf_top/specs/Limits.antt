@@ -8,3 +8,7 @@ definition_bytes = 4194304
 -- the greatest length of an inputs file, in bytes: 64 MiB
 abbrev pub inputs_bytes : ℕ
 inputs_bytes = 67108864
+
+-- the greatest length of a file of a schedule, in bytes: 64 MiB
+abbrev pub schedule_bytes : ℕ
+schedule_bytes = 67108864

@@ -1,14 +1,15 @@
 // Why a file isn't of its form, and the line that says so.
 ghost use Rattle.std.specs.Prelude.{◌≡◌, ◌++◌, ◌∷◌, IfOk, codes, decimal};
 ghost use Rattle.wf_json.specs.Json.{string};
-ghost use Rattle.wf_top.specs.Fault.{fault_line, form_words, inputs_fault, json_fault, rule_fault};
+ghost use Rattle.wf_top.specs.Fault.{fault_line, form_words, inputs_fault, json_fault, rule_fault, schedule_fault};
 ghost use Rattle.wf_top.specs.declared.fault.FormFault.TheVariants.{Memory};
 
-use crate::quoted::{with_pair, with_text};
+use crate::quoted::{with_number, with_pair, with_text};
 use std::alloc::{AllocError, Global};
 use wf_answers::InputsFault;
 use wf_json::JsonFault;
 use wf_reading::RuleFault;
+use wf_run::ScheduleFault;
 use wf_val::Text;
 
 /// Why a file isn't of its form.
@@ -32,6 +33,8 @@ pub enum FormFault {
     Twice { address: Text, attempt: u32 },
     /// The moment of inputs is no timestamp.
     Moment,
+    /// The line of a schedule, counted from 1, is no number.
+    Line { number: u64 },
     Memory,
 }
 
@@ -80,6 +83,17 @@ impl From<InputsFault> for FormFault {
     }
 }
 
+impl From<ScheduleFault> for FormFault {
+    ghost from_gives = { λ fault e. e ≡ schedule_fault fault };
+
+    fn from(fault: ScheduleFault) -> Self {
+        match fault {
+            ScheduleFault::Line { number } => FormFault::Line { number },
+            ScheduleFault::Memory => FormFault::Memory,
+        }
+    }
+}
+
 // A rule's number, and a pointer behind it.
 fn with_rule(alloc: Global, rule: u8, pointer: Text) -> Result<Vec<u8>, AllocError>
     ensures { IfOk result (λ bytes. bytes.items ≡ codes "V" ++ (decimal rule ++ (32 ∷ string pointer))) }
@@ -102,6 +116,7 @@ fn form_words(alloc: Global, fault: FormFault) -> Result<Vec<u8>, AllocError>
         FormFault::Form { pointer } => with_text(alloc, b"Form ", &pointer),
         FormFault::Twice { address, attempt } => with_pair(alloc, b"Twice ", &address, attempt),
         FormFault::Moment => Ok(b"Moment".to_vec(alloc)?),
+        FormFault::Line { number } => with_number(alloc, "Line ", number),
         FormFault::Memory => Ok(Vec::new(alloc)),
     }
 }

@@ -2,7 +2,7 @@
 ghost use Rattle.std.specs.Prelude.{◌≡◌, ◌≢◌, IfOk, IfErr, OnOk, None, Some, Ok, Err, option_map};
 ghost use Rattle.wf_answers.specs.InputsSeen.{inputs_tree};
 ghost use Rattle.wf_reading.specs.ReadSeen.{def_tree};
-ghost use Rattle.wf_top.specs.Form.{broken_in, definition_of, form_of, inputs_of, purpose_of, unbuilt_for};
+ghost use Rattle.wf_top.specs.Form.{broken_in, definition_form, definition_of, inputs_form, purpose_of, schedule_form, unbuilt_for};
 ghost use Rattle.wf_val.specs.Seen.{tree};
 
 use crate::fault::FormFault;
@@ -12,7 +12,8 @@ use wf_answers::{Inputs, read_inputs};
 use wf_plain::{Purpose, not_yet};
 use wf_reading::{Def, RuleFault, read_def};
 use wf_rules::{Checked, check};
-use wf_val::{Text, Val};
+use wf_run::read_schedule;
+use wf_val::{Schedule, Text, Val};
 
 // What a command takes a definition for.
 fn purpose_of(command: Command) -> Purpose
@@ -20,7 +21,7 @@ fn purpose_of(command: Command) -> Purpose
 {
     match command {
         Command::Check => Purpose::Check,
-        Command::Run => Purpose::Run,
+        Command::Run | Command::Trace => Purpose::Run,
     }
 }
 
@@ -61,9 +62,10 @@ pub fn definition_form(
     command: Command,
     file: Option<Vec<u8>>,
 ) -> Result<Checked, FormFault>
-    ensures form { IfOk result (λ checked. form_of (definition_of command) (option_map (λ bytes. bytes.items) file) ≡ Ok (def_tree checked.def)) }
+    ensures form { IfOk result (λ checked. definition_form command (option_map (λ bytes. bytes.items) file) ≡ Ok (def_tree checked.def)) }
     ensures built { IfOk result (λ checked. unbuilt_for command (def_tree checked.def) ≡ None) }
-    ensures fault { IfErr result (λ fault. fault ≢ FormFault.Memory → form_of (definition_of command) (option_map (λ bytes. bytes.items) file) ≡ Err fault) }
+    ensures fault { IfErr result (λ fault. fault ≢ FormFault.Memory → definition_form command (option_map (λ bytes. bytes.items) file)
+        ≡ Err fault) }
 {
     let bytes = file.ok_or(FormFault::TooLong)?;
     let value = wf_json::read(alloc, &bytes)?;
@@ -73,11 +75,21 @@ pub fn definition_form(
 
 /// The inputs that a file holds; `None` stands for a file over its limit.
 pub fn inputs_form(alloc: Global, file: Option<Vec<u8>>) -> Result<Inputs, FormFault>
-    ensures form { IfOk result (λ inputs. form_of inputs_of (option_map (λ bytes. bytes.items) file) ≡ Ok (inputs_tree inputs)) }
-    ensures fault { IfErr result (λ fault. fault ≢ FormFault.Memory → form_of inputs_of (option_map (λ bytes. bytes.items) file) ≡ Err fault) }
+    ensures form { IfOk result (λ inputs. inputs_form (option_map (λ bytes. bytes.items) file) ≡ Ok (inputs_tree inputs)) }
+    ensures fault { IfErr result (λ fault. fault ≢ FormFault.Memory → inputs_form (option_map (λ bytes. bytes.items) file) ≡ Err fault) }
 {
     let bytes = file.ok_or(FormFault::TooLong)?;
     let value = wf_json::read(alloc, &bytes)?;
     let inputs = read_inputs(alloc, &value)?;
     Ok(inputs)
+}
+
+/// The schedule that a file holds; `None` stands for a file over its limit.
+pub fn schedule_form(alloc: Global, file: Option<Vec<u8>>) -> Result<Schedule, FormFault>
+    ensures form { IfOk result (λ schedule. schedule_form (option_map (λ bytes. bytes.items) file) ≡ Ok schedule) }
+    ensures fault { IfErr result (λ fault. fault ≢ FormFault.Memory → schedule_form (option_map (λ bytes. bytes.items) file) ≡ Err fault) }
+{
+    let bytes = file.ok_or(FormFault::TooLong)?;
+    let schedule = read_schedule(alloc, &bytes)?;
+    Ok(schedule)
 }

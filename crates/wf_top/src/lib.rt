@@ -5,8 +5,8 @@
 //! which limit, and what follows from its bytes. Everything that is claimed of a command is a clause of this one call.
 //!
 //! The crate reads definitions by `wf_reading`, asks `wf_plain` whether all is built that a command asks for, has the rules between a
-//! definition's parts judged by `wf_rules`, reads inputs by `wf_answers` and has the runs made and printed by `wf_runs`. It opens no file
-//! and no stream itself; that is left to the objects which it is lent.
+//! definition's parts judged by `wf_rules`, reads inputs by `wf_answers` and schedules by `wf_run`, and has the runs made and printed by
+//! `wf_runs`. It opens no file and no stream itself; that is left to the objects which it is lent.
 #![tactic(auto)]
 
 mod accepted;
@@ -16,6 +16,7 @@ mod form;
 mod load;
 mod put;
 mod quoted;
+mod runs;
 mod said;
 mod serve;
 mod trigger;
@@ -29,3 +30,6 @@ const DEFINITION_LIMIT: u64 = 4_194_304;
 
 /// The greatest length of an inputs file, in bytes: 64 MiB.
 const INPUTS_LIMIT: u64 = 67_108_864;
+
+/// The greatest length of a schedule's file, in bytes: 64 MiB.
+const SCHEDULE_LIMIT: u64 = 67_108_864;

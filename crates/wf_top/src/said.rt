@@ -1,6 +1,11 @@
 // What a command says: a verdict and a text.
-ghost use Rattle.std.specs.Prelude.{◌≡◌};
+ghost use Rattle.std.specs.Prelude.{◌≡◌, ◌≢◌, IfOk, IfErr};
+ghost use Rattle.wf_top.specs.Fault.{fault_line};
 ghost use Rattle.wf_top.specs.Served.{number};
+
+use crate::fault::{FormFault, fault_line};
+use crate::load::Stop;
+use std::alloc::Global;
 
 /// How a command ends that had its files.
 #[derive(Clone, Copy, Debug, PartialEq, Eq)]
@@ -9,7 +14,7 @@ pub enum Verdict {
     Done = 0,
     /// The definition isn't accepted.
     Definition = 1,
-    /// The inputs aren't of their form, or the definition's trigger starts no run by them.
+    /// The inputs or the schedule aren't of their form, or the definition's trigger starts no run by the inputs.
     Inputs = 6,
     /// The runs cost too much.
     TooLarge = 8,
@@ -29,4 +34,24 @@ impl Verdict {
 pub struct Said {
     pub verdict: Verdict,
     pub text: Vec<u8>,
+}
+
+/// A fault of a file, said with the verdict on such files.
+pub fn say_fault(
+    alloc: Global,
+    verdict: Verdict,
+    part: &[u8],
+    fault: FormFault,
+) -> Result<Said, Stop>
+    ensures said { IfOk result (λ said. (fault ≢ FormFault.Memory) × (said.verdict ≡ verdict)
+        × (said.text.items ≡ fault_line part.now fault)) }
+    ensures stopped { IfErr result (λ stop. stop ≡ Stop.Memory) }
+{
+    match fault {
+        FormFault::Memory => Err(Stop::Memory),
+        fault => Ok(Said {
+            verdict,
+            text: fault_line(alloc, part, fault)?,
+        }),
+    }
 }

@@ -1,12 +1,12 @@
 // The top call.
-ghost use Rattle.std.specs.Prelude.{◌≡◌, ◌⊎◌, ◌<◌, ◌≤◌, ℕ, List, Some, None, Contains, IfOk, IfSome};
+ghost use Rattle.std.specs.Prelude.{◌≡◌, ◌⊎◌, ◌<◌, ◌≤◌, ℕ, List, true, Some, None, Contains, IfOk, IfSome};
 ghost use Rattle.std.specs.Io.KnownBytes.{Appends};
 ghost use Rattle.wf_outside.specs.Outside.{IsCalm, Rose};
 ghost use Rattle.wf_def.specs.DefTree.{DefTree};
 ghost use Rattle.wf_top.specs.Commands.{accepted_line, plan_of};
-ghost use Rattle.wf_top.specs.Ran.{Checked, HoldsDefinition, IsWhole, PassesAll, Ran, RefusedCost, RefusedDefinition, RefusedInputs, RefusedTrigger};
+ghost use Rattle.wf_top.specs.Ran.{Checked, HoldsDefinition, IsWhole, PassesAll, Ran, RefusedCost, RefusedDefinition, RefusedInputs, RefusedSchedule, RefusedTrigger};
 ghost use Rattle.wf_top.specs.Served.{FailedAt, IsSaid, Serves, cannot_read, say};
-ghost use Rattle.wf_top.specs.Words.{command_of};
+ghost use Rattle.wf_top.specs.Words.{command_of, makes_runs};
 
 use crate::commands::follow;
 use crate::load::Stop;
@@ -31,7 +31,8 @@ fn unread_line(alloc: Global, name: Text) -> Result<Vec<u8>, AllocError>
 }
 
 fn serve<F: Files, O: Sink>(alloc: Global, words: &[Text], files: &mut F, out: &mut O) -> u8
-    ensures outcome { Serves (F.held files.old) (plan_of words.now) (F.failed files.old) (F.failed files.new) (O.taken out.old) (O.taken out.new) result }
+    ensures outcome { Serves (F.held files.old) (plan_of words.now) (F.failed files.old) (F.failed files.new) (O.taken out.old)
+        (O.taken out.new) result }
     ensures only { result ≡ 4 → Rose (O.faults out.old) (O.faults out.new) }
     ensures always { O.faults out.old < O.faults out.new → result ≡ 4 }
     ensures same { F.held files.new ≡ F.held files.old }
@@ -71,11 +72,13 @@ pub fn serve_words<F: Files, I: Source, O: Sink>(
 
     // At `check DEF` 0 comes where a definition was read that is accepted, and the sink took exactly the line with the number of its
     // actions.
-    ensures checked { command_of words.now ≡ Some Command.Check → result ≡ 0 → Checked (F.held files.old) words.now (O.taken out.old) (O.taken out.new) }
+    ensures checked { command_of words.now ≡ Some Command.Check → result ≡ 0
+        → Checked (F.held files.old) words.now (O.taken out.old) (O.taken out.new) }
 
-    // At `run DEF INPUTS` 0 comes where a definition and inputs were read, and the sink took exactly the text of the runs that they
-    // start.
-    ensures ran { command_of words.now ≡ Some Command.Run → result ≡ 0 → Ran (F.held files.old) words.now (O.taken out.old) (O.taken out.new) }
+    // At `run DEF INPUTS [SCHEDULE]` and `trace DEF INPUTS SCHEDULE` 0 comes where a definition, inputs and a schedule were read, and the
+    // sink took exactly the text of the runs that they start, at `trace` with their events. A schedule that isn't named is the empty one.
+    ensures ran { (command : Command) → makes_runs command ≡ true → command_of words.now ≡ Some command → result ≡ 0
+        → Ran (F.held files.old) words.now command (O.taken out.old) (O.taken out.new) }
 
     // Where all tests of a command pass and no count rose, that comes and nothing else, but for want of memory.
     ensures complete_check { IfSome (F.held files.old) (λ bytes_of. (definition : DefTree) →
@@ -90,8 +93,10 @@ pub fn serve_words<F: Files, I: Source, O: Sink>(
     // 1 comes where the first file gave no definition that the command takes.
     ensures refused_definition { result ≡ 1 → RefusedDefinition (F.held files.old) words.now (O.taken out.old) (O.taken out.new) }
 
-    // 6 comes where it gave one, and the second gave no inputs, or gave inputs by which the trigger starts no run for its fault.
+    // 6 comes where it gave one, and the second gave no inputs; or gave inputs, and the third no schedule; or gave inputs by which the
+    // trigger starts no run for its fault, and there was no third or it gave a schedule.
     ensures refused_inputs { result ≡ 6 → RefusedInputs (F.held files.old) words.now (O.taken out.old) (O.taken out.new)
+        ⊎ RefusedSchedule (F.held files.old) words.now (O.taken out.old) (O.taken out.new)
         ⊎ RefusedTrigger (F.held files.old) words.now (O.taken out.old) (O.taken out.new) }
 
     // 8 comes where the runs cost too much.

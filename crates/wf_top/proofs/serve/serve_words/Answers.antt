@@ -33,7 +33,7 @@ pub returns-clause-checked : goal.returns-clause-checked
 returns-clause-checked g c = serves_checked _ _ _ _ _ _ _ c.serve.ensures.outcome
 
 pub returns-clause-ran : goal.returns-clause-ran
-returns-clause-ran g c = serves_ran _ _ _ _ _ _ _ c.serve.ensures.outcome
+returns-clause-ran g c = λ command makes. serves_ran _ _ _ _ _ _ _ command makes c.serve.ensures.outcome
 
 pub returns-clause-complete_check : goal.returns-clause-complete_check
 returns-clause-complete_check g c =
