@@ -3,12 +3,13 @@
 
   fuzz/fuzz.py [--count N] [--seed N] [--program PATH]
 
-For each case it makes a definition, for `wflow check` or with an inputs file for `wflow run`, from nothing but bytes or by mutating files
-of the right form, and decides for itself, with a reader of JSON and a judge of its own, what the call owes on them: the count of actions,
-the records and their summary lines, or the one fault and its place. So a program that refuses what is of the form fails, and so does one
-that takes what isn't, and one that is ended by a signal. It fails too where fewer than one case in ten of either command is of the form,
-since it would try little then. Of the functions of the expression language the judge has all but what a URL's parts are where the URL
-isn't plain: a case that asks for these isn't tried, and counted. The last line is 'N passed, M failed'."""
+For each case it makes a definition, for `wflow check` or with an inputs file for `wflow run`, which has a schedule too in one call of two,
+or for `wflow trace`, from nothing but bytes or by mutating files of the right form, and decides for itself, with a reader of JSON, a judge
+and a small machine of its own, what the call owes on them: the count of actions, the events, the records and their summary lines, or the
+one fault and its place. So a program that refuses what is of the form fails, and so does one that takes what isn't, and one that is ended
+by a signal. It fails too where fewer than one case in ten of a command is of the form, since it would try little then. Of the functions of
+the expression language the judge has all but what a URL's parts are where the URL isn't plain: a case that asks for these isn't tried, and
+counted. The last line is 'N passed, M failed'."""
 import argparse
 import collections
 import json
@@ -18,6 +19,7 @@ import subprocess
 import sys
 import tempfile
 
+import events
 import functions
 import graphs
 import rules
@@ -265,8 +267,18 @@ def wanted_of_definition(data, command):
     return rules.definition_in(value), rules.given_in(value)
 
 
+# The lines of a schedule, of which one in twenty is no number.
+def schedule(rng):
+    most = rng.choice([1, 2, 3, 10, 2**32 - 1])
+    lines = [b"%d" % rng.randint(0, most) for _ in range(rng.choice([0, 1, 2, 4, 8, 16, 30]))]
+    if rng.random() < 0.05:
+        faulty = [b"", b"x", b"-1", b"+1", b" 1", b"1 ", b"1\r\r", b"4294967296", b"00000000001", b"\xef\xbb\xbf1", b"1.0", b"\xd9\xa1"]
+        lines.insert(rng.randint(0, len(lines)), rng.choice(faulty))
+    return rng.choice([b"\n", b"\n", b"\r\n"]).join(lines) + rng.choice([b"", b"\n", b"\n", b"\r\n"] if lines else [b""])
+
+
 # The status and the text that a command owes on these files; None where the judge doesn't know what a function gives.
-def wanted(command, definition, inputs=None):
+def wanted(command, definition, inputs=None, schedule=b""):
     try:
         definition, given = wanted_of_definition(definition, command)
     except Refused as fault:
@@ -275,9 +287,13 @@ def wanted(command, definition, inputs=None):
         return 0, b"accepted %d\n" % len(list(rules.actions(definition)))
     try:
         inputs = runs.judge_inputs(read(inputs, INPUTS_BYTES))
-        return 0, runs.text_of(definition, given, inputs).encode()
     except Refused as fault:
         return 6, ("inputs %s\n" % fault).encode()
+    try:
+        numbers = events.read_schedule(schedule)
+        return 0, runs.text_of(definition, given, inputs, numbers, command == "trace").encode()
+    except Refused as fault:
+        return 6, ("schedule %s\n" % fault).encode()
     except runs.TriggerRefused as fault:
         return 6, ("trigger %s\n" % fault).encode()
     except runs.TooLarge:
@@ -298,10 +314,12 @@ def main():
     statuses = collections.Counter()
     failed = 0
     with tempfile.TemporaryDirectory() as folder:
-        paths = [os.path.join(folder, name) for name in ("definition", "inputs")]
+        paths = [os.path.join(folder, name) for name in ("definition", "inputs", "schedule")]
         for case in range(words.count):
-            command = "check" if case % 2 else "run"
+            command = ("run", "check", "trace")[case % 3]
             files = [made(rng, checked)] if command == "check" else [made(rng, definition), made(rng, inputs)]
+            if command == "trace" or command == "run" and rng.random() < 0.5:
+                files.append(schedule(rng))
             for path, data in zip(paths, files):
                 with open(path, "wb") as file:
                     file.write(data)
@@ -312,11 +330,11 @@ def main():
             ended = subprocess.run([program, command] + paths[:len(files)], capture_output=True, timeout=60)
             if (ended.returncode, ended.stdout) != (status, text):
                 failed += 1
-                print("case %d: status %d, %r\n  owed %d, %r\n  %r\n  %r" % (
-                    case, ended.returncode, ended.stdout[:200], status, text[:200], files[0][:300], files[1][:300]))
+                print("case %d: %s, status %d, %r\n  owed %d, %r\n  %r" % (
+                    case, command, ended.returncode, ended.stdout[:200], status, text[:200], [data[:300] for data in files]))
     print("seed %d, statuses owed %s" % (words.seed, dict(sorted(statuses.items(), key=str))))
-    for command in ("check", "run"):
-        if statuses[command + " 0"] * 20 < words.count:
+    for command in ("check", "run", "trace"):
+        if statuses[command + " 0"] * 30 < words.count:
             failed += 1
             print("only %d cases of %s are of the form" % (statuses[command + " 0"], command))
     print("%d passed, %d failed" % (max(words.count - statuses["unknown"] - failed, 0), failed))

@@ -5,6 +5,7 @@
 
 What a line of the rows means stands at the head of crates/run_rows/src/main.rt."""
 import json
+import re
 import sys
 
 from fuzz import wanted
@@ -13,6 +14,10 @@ USAGE = (
     "usage: wflow check DEF | run DEF INPUTS [SCHEDULE] | trace DEF INPUTS SCHEDULE"
     " | resubmit DEF HISTORY RUN ACTION INPUTS [SCHEDULE] | list HISTORY | drill N\n"
 )
+# How many words each command has; and what is read, with bytes that it can't be.
+COUNTS = {"check": (2,), "run": (3, 4), "trace": (4,)}
+ESCAPED = {"n": "\n", "r": "\r", "t": "\t", "\\": "\\"}
+STAGES = [(b"definition", b""), (b"inputs", b""), (b"schedule", b"\n")]
 
 
 class Unread(Exception):
@@ -32,16 +37,24 @@ class Files:
         return self.held[name]
 
 
+# A file is read once those before it are taken, which shows by what is refused where the next one is unfit.
 def said(files, words):
-    if len(words) != {"check": 2, "run": 3}.get(words[0]):
+    if len(words) not in COUNTS.get(words[0], ()):
         return 2, USAGE.encode()
+    command, held = words[0], []
     try:
-        definition = files.read(words[1])
-        refused = wanted("check", definition) if words[0] == "check" else wanted("run", definition, b"")
-        # the inputs are read once the definition is taken
-        return refused if words[0] == "check" or refused[0] == 1 else wanted("run", definition, files.read(words[2]))
+        for name, (next_stage, _) in zip(words[1:-1], STAGES[1:]):
+            held.append(files.read(name))
+            refused = wanted(command, *held, *(unfit for _, unfit in STAGES[len(held):]))
+            if not refused[1].startswith(next_stage):
+                return refused
+        return wanted(command, *held, files.read(words[-1]))
     except Unread as line:
         return 3, str(line).encode()
+
+
+def unescaped(text):
+    return re.sub(r"\\([nrt\\])", lambda found: ESCAPED[found.group(1)], text)
 
 
 # What of a text is taken where a write takes so many bytes, and the one of this number, counted from 1, fails.
@@ -54,9 +67,9 @@ def main():
     held, last, trouble = {}, None, {}
     for line in sys.stdin.read().split("\n"):
         word, _, rest = line.partition(" ")
-        if word == "file":
+        if word in ("file", "bytes"):
             last, _, text = rest.partition(" ")
-            held[last] = text.encode()
+            held[last] = (text if word == "file" else unescaped(text)).encode()
         elif word == "pad":
             held[last] = held[last].ljust(int(rest))
         elif word == "fail":

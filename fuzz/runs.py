@@ -1,8 +1,9 @@
-"""What `wflow run` owes on a definition that it takes and on inputs: which runs start, and what each of them writes. Decided apart from
-the program, after docs/FORMATS.md; the judge of fuzz.py."""
+"""What `wflow run` and `wflow trace` owe on a definition that they take, on inputs and under a schedule: which runs start, and what each of
+them writes. Decided apart from the program, after docs/FORMATS.md; the judge of fuzz.py."""
 import hashlib
 import re
 
+import events
 import functions
 import references
 import rules
@@ -196,8 +197,7 @@ def rows_of(actions, run):
         return {member: rows[name][member] for member in ("code", "error", "inputs", "name", "outputs", "status")}
 
     for name in ordered(actions):
-        needed = actions[name].get("runAfter", {})
-        if not all(any(rules.low(one) == rows[other]["status"].lower() for one in listed) for other, listed in needed.items()):
+        if not events.is_met(actions[name], rows):
             rows[name] = row_of(name, "Skipped", "ActionSkipped", None, None)
             continue
         try:
@@ -227,7 +227,7 @@ def outputs_of(definition, run, view):
         return None, str(fault)
 
 
-# The record of a run, and what it costs.
+# The record of a run, its rows by their names, and what it costs.
 def record(definition, digest, run):
     actions = definition.get("actions", {})
     rows, view = rows_of(actions, run)
@@ -240,18 +240,19 @@ def record(definition, digest, run):
     }
     cost = 64 + sum(functions.weight(made[member]) for member in ("trigger", "parameters", "outputs"))
     cost += sum(64 + sum(functions.weight(row[member]) for member in ("inputs", "outputs", "error", "tracked")) for row in made["rows"])
-    ran = sum(row["status"] != "Skipped" for row in rows.values())
-    return made, cost, "# run %s steps %d peak %d\n" % (run["run"], len(rows) + ran, 1 if ran else 0)
+    return made, rows, cost
 
 
-# The text that the runs of this definition and these inputs write.
-def text_of(definition, given, inputs):
+# The text that the runs of this definition and these inputs write under a schedule, which each of them begins anew.
+def text_of(definition, given, inputs, schedule, traced):
     digest = hashlib.sha256(compact(definition).encode()).hexdigest()
     text, total = [], 0
     for run in starts(definition, given, inputs):
-        made, cost, summary = record(definition, digest, run)
+        made, rows, cost = record(definition, digest, run)
         total += cost
         if total > MOST_COST:
             raise TooLarge
-        text += [compact(made), "\n", summary]
+        lines, steps, peak = events.happened(definition.get("actions", {}), rows, schedule)
+        text += lines if traced else []
+        text += [compact(made), "\n", "# run %s steps %d peak %d\n" % (run["run"], steps, peak)]
     return "".join(text) or "# no run\n"
