@@ -1,10 +1,10 @@
 #!/bin/sh
 # Times `wflow run` beside `jq -c .` on the same definition, and prints the ratio of the two, on definitions that run and on ones that
 # are refused after all rules were looked at, or that were made to be dear for one rule; then `wflow check` beside it, on definitions that
-# name much, with how the time grows from a half of them on; then `wflow run` on large inputs beside it on these. Then times the parsing of
-# texts as templates, which no command does yet, beside reading their bytes alone, with the ratio of these two, and beside
-# `jq -c .` on the same text as JSON. Then times functions on long texts beside Python's own, and what templates come to, in the looks
-# of rows, beside `jq -c .` on the same rows.
+# name much, with how the time grows from a half of them on; then `wflow run` on large inputs beside it on these; then `wflow trace` beside
+# `wflow run`, and how its time grows. Then times the parsing of texts as templates, which no command does yet, beside reading their bytes
+# alone, with the ratio of these two, and beside `jq -c .` on the same text as JSON. Then times functions on long texts beside Python's own,
+# and what templates come to, in the looks of rows, beside `jq -c .` on the same rows.
 #
 #   bench/bench.sh
 #
@@ -193,6 +193,28 @@ for name, definition, given in larges:
     said = subprocess.run(run, stdout=subprocess.PIPE).stdout.decode().splitlines()[-1]
     ours, theirs = least(run, ends=(0, 8)), least(["jq", "-c", ".", path])
     print("%-34s %9d %9.3f %9.3f %7.1f %5d MiB  %.40s" % (name, os.path.getsize(path), ours, theirs, ours / theirs, memory(run), said))
+
+# Runs under a schedule that takes the last event at each turn, with their events, beside those under the empty one; and how the time grows
+# from a half of the actions, or of the items, on.
+with open(os.path.join(folder, "schedule"), "w") as out:
+    out.write("%d\n" % (2**32 - 1) * 1000)
+shapes = [
+    ("500 actions in a chain", graph(lambda k: names[k - 1:k]), 500),
+    ("500 actions side by side", graph(lambda k: []), 500),
+    ("500 actions in layers of ten", graph(lambda k: names[max(k - k % 10 - 10, 0):k - k % 10]), 500),
+    ("500 actions, each after all before", graph(lambda k: names[:k]), 500),
+    ("a split of 100,000 items", split | one, 100000),
+]
+print()
+print("%-34s %9s %9s %7s %9s  %s" % ("traced", "run s", "trace s", "growth", "memory", "said"))
+for name, whole, count in shapes:
+    half, trace = ([program, "trace", file("definition-%d.json" % size, whole | {"actions": dict(list(whole["actions"].items())[:size])}),
+                    file("inputs-%d.json" % size, handed(outputs={"body": list(range(size))})), os.path.join(folder, "schedule")]
+                   for size in (count // 2, count))
+    said = subprocess.run(trace, stdout=subprocess.PIPE).stdout.decode().splitlines()[-1]
+    ours = least(trace)
+    print("%-34s %9.3f %9.3f %7.1f %5d MiB  %.40s" % (
+        name, least([program, "run"] + trace[2:4]), ours, ours / least(half), memory(trace), said))
 
 # What each text is parsed as is told too, so that a parser that gives up early can't be taken for a fast one.
 program = os.path.join(top, "crates", "template_rows", "out", "template_rows")
