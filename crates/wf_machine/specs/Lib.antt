@@ -4,3 +4,5 @@ pub mod Held
 pub mod Cost
 pub mod Kept
 pub mod Listed
+pub mod Shown
+pub mod Happened
