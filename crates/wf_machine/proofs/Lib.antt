@@ -5,4 +5,6 @@ pub mod Reached
 pub mod CostLemmas
 pub mod Steps
 pub mod WholeLemmas
+pub mod Happens
+pub mod TellingLemmas
 mod WorkedRows

@@ -7,9 +7,9 @@ use Rattle.wf_val.specs.Arguments.{Answer, seen}
 use Rattle.wf_val.specs.Cut.{cut_u64}
 use Rattle.wf_val.specs.NameOrder.{IsInNameOrder}
 use Rattle.wf_layers.specs.Address.{address}
-use Rattle.wf_layers.specs.Facts.{Facts}
 use Rattle.wf_layers.specs.Machine.{Event, Running, Start, End, Skip, without}
 use Rattle.wf_record.specs.Cost.{row_cost}
+use Rattle.wf_record.specs.Record as record_of
 use Rattle.wf_record.specs.Seen.{row_tree}
 use Rattle.wf_record.specs.declared.row.Row.{Row}
 use Rattle.wf_meaning.specs.Definition.{ActionTree, action_name}
@@ -19,7 +19,7 @@ use Rattle.wf_meaning.specs.Meaning.{instance, table_of}
 use Rattle.wf_meaning.specs.Names.{names_before}
 use Rattle.wf_meaning.specs.Rounds.{all_end}
 use Rattle.wf_walk.specs.Seen.{known_of, row_at, row_content, rows_there}
-use Rattle.wf_walk.proofs.Kept.{named_kept, none_named}
+use Rattle.wf_walk.proofs.RowLemmas.{named_kept, none_named}
 use Rattle.wf_machine.specs.Cost.{first_cost, leaf_cost, rows_cost}
 use Rattle.wf_machine.specs.Held.{state_of}
 use Rattle.wf_machine.specs.Kept.{ArePriced, IsKept, kept_state, leaf_at, leaves_from, rows_present, running_of, running_tree_of}
@@ -85,6 +85,11 @@ running_within : (leaves : List (Option Leaf)) (n : ℕ) (w : Running Answer) �
 running_within [] n w is = absurd (none-some w is)
 running_within (x ∷ leaves) zero w is = omega arith
 running_within (x ∷ leaves) (suc n) w is = let rest = running_within leaves n w is in omega (arith, rest)
+
+row_within : (rows : List (Option Row)) (n : ℕ) (r : record_of.Row) → row_at rows n ≡ Some r → n < length rows
+row_within [] n r is = absurd (none-some r is)
+row_within (x ∷ rows) zero r is = omega arith
+row_within (x ∷ rows) (suc n) r is = let rest = row_within rows n r is in omega (arith, rest)
 
 module _ (env : Environment) (actions : List ActionTree) (rows : List (Option Row)) (leaves : List (Option Leaf)) (phases : List Phase)
     (listed : List Event) (spent : ℕ) (kept : IsKept env actions rows leaves phases listed spent) where
@@ -240,6 +245,26 @@ module _ (env : Environment) (actions : List ActionTree) (rows : List (Option Ro
       → Goes env actions (kept_state rows leaves) (Skip n []) (given_row (kept_state rows leaves) n (row_content r))
   skip_row n r gives may = skip_goes env actions (kept_state rows leaves) (λ x. refl) n (row_content r) gives (may_happen (Skip n []) may)
 
+  -- ---- what its rows and its running actions are
+
+  pub running_within_actions : (n : ℕ) (w : Running Answer) → (seen_state actions rows leaves).running (address n []) ≡ Some w
+      → n < length leaves
+  running_within_actions n w is = running_within leaves n w (ap (λ (s : State). s.running (address n [])) (sym same_state) ∙ is)
+
+  pub row_within_actions : (n : ℕ) (r : record_of.Row) → (seen_state actions rows leaves).rows (address n []) ≡ Some r → n < length rows
+  row_within_actions n r is = row_within rows n r (ap (λ (s : State). s.rows (address n [])) (sym same_state) ∙ is)
+
+  -- the row that the definition means for a running action is what its inputs came to
+  pub running_row : Instance env actions → (n : ℕ) (l : Leaf) → slice_get leaves n ≡ Some (Some l)
+      → table_of env actions (address n []) ≡ Some (ended (seen l.begun))
+  running_row is n l found =
+      let fact = (facts env actions is (kept_state rows leaves) kept.reached).running (address n []) (as_running l)
+      (ap running_tree_of found) in
+      fact.2 ∙ ap (λ b. Some (ended b)) (sym fact.0)
+
+  pub kept_row : Instance env actions → (n : ℕ) (r : record_of.Row) → row_at rows n ≡ Some r → table_of env actions (address n []) ≡ Some r
+  kept_row is n r found = (facts env actions is (kept_state rows leaves) kept.reached).rows (address n []) r found
+
   -- what the state costs is at most what the rows cost that the definition means
   pub cost_bound : Instance env actions
       → first_cost env.start + sum_by row_cost (map row_tree (rows_present rows)) + sum_by leaf_cost
@@ -247,8 +272,8 @@ module _ (env : Environment) (actions : List ActionTree) (rows : List (Option Ro
   cost_bound is =
       let known = facts env actions is (kept_state rows leaves) kept.reached in
       let all = covered (table_of env actions) 0 actions rows leaves kept.rows_size kept.leaves_size kept.named
-      (λ m j r same found. known.rows (address m []) r (ap (λ k. row_at rows k) (trim m j same) ∙ found))
-      (λ m j l same found. begun_row known m j l same found)
+      (λ m j r same found. at m j same ∙ kept_row is j r found)
+      (λ m j l same found. at m j same ∙ running_row is j l found)
       (λ j l found. known.no_row (address j []) (inl (as_running l, ap running_tree_of found))) in
       let same = ap (sum_by row_cost) (present_there rows) in
       omega (arith, all, same)
@@ -256,14 +281,8 @@ module _ (env : Environment) (actions : List ActionTree) (rows : List (Option Ro
       trim : (m j : ℕ) → m ≡ 0 + j → m ≡ j
       trim m j same = omega (arith, same)
 
-      begun_row : Facts (graph_of actions) (source env actions) (table_of env actions) (kept_state rows leaves) → (m j : ℕ) (l : Leaf)
-          → m ≡ 0 + j
-          → slice_get leaves j ≡ Some (Some l) → table_of env actions (address m []) ≡ Some (ended (seen l.begun))
-      begun_row known m j l same found =
-          let held : running_of leaves (address m []) ≡ Some (as_running l) = ap (λ k. running_tree_of (slice_get leaves k))
-          (trim m j same) ∙ ap running_tree_of found in
-          let fact = known.running (address m []) (as_running l) held in
-          fact.2 ∙ ap (λ b. Some (ended b)) (sym fact.0)
+      at : (m j : ℕ) → m ≡ 0 + j → table_of env actions (address m []) ≡ table_of env actions (address j [])
+      at m j same = ap (λ k. table_of env actions (address k [])) (trim m j same)
 
   -- and is counted so
   pub cost_counted : (running : ℕ) → running ≡ cut_u64 (sum_by leaf_cost (leaves_from 0 leaves))

@@ -1,12 +1,16 @@
--- Worked rows: which events are enabled, which is picked, and what running actions cost.
-use Rattle.std.proofs.Common.{◌≡◌, ◌%◌, List, [], ◌∷◌, length, Some, Ok, Err, codes, slice_get, refl}
+-- Worked rows: which events are enabled, which is picked, what running actions cost, and what is told of events.
+use Rattle.std.proofs.Common.{◌≡◌, ◌%◌, List, [], ◌∷◌, ◌++◌, length, Some, Ok, Err, codes, slice_get, refl}
 use Rattle.wf_val.specs.ValueTree.{null, text}
 use Rattle.wf_val.specs.declared.fault.EvalFault.{EvalFault}
-use Rattle.wf_layers.specs.Machine.{Event, Start, End, Skip}
-use Rattle.wf_meaning.specs.Worked.{apart, chain, joined}
+use Rattle.wf_layers.specs.Address.{Table}
+use Rattle.wf_layers.specs.Machine.{Event, Start, Try, End, Skip}
+use Rattle.wf_record.specs.Record.{Row}
+use Rattle.wf_meaning.specs.Flat.{composed, faulted, skipped}
+use Rattle.wf_meaning.specs.Worked.{action, apart, chain, joined}
 use Rattle.wf_record.specs.declared.status.Status.TheVariants.{Succeeded, Failed, Skipped, TimedOut, Cancelled}
 use Rattle.wf_machine.specs.Cost.{leaf_cost}
 use Rattle.wf_machine.specs.Listed.{listed_from}
+use Rattle.wf_machine.specs.Shown.{shown}
 use Rattle.wf_machine.specs.declared.phase.Phase.TheVariants.{Idle, Running, Ended}
 
 -- A and B wait for nothing.
@@ -84,3 +88,47 @@ fault_runs = refl
 
 tried_runs : leaf_cost (record { action = 0; at = []; begun = Ok null; tries = 2 }) ≡ 193
 tried_runs = refl
+
+-- ---- what is told of events
+
+-- the row of each action by its number
+abbrev rows_by : List Row → Table Row
+rows_by rows x = slice_get rows x.name
+
+abbrev taken : Table Row
+taken = rows_by (composed (text (codes "hi")) ∷ [])
+
+abbrev fault : Table Row
+fault = rows_by (faulted (EvalFault.NoMember (codes "x\"")) ∷ [])
+
+start_with_inputs : shown apart taken (Start 0 []) ≡ codes "Start A \"hi\""
+start_with_inputs = refl
+
+start_with_fault : shown apart fault (Start 0 []) ≡ codes "Start A !NoMember \"x\\\"\""
+start_with_fault = refl
+
+start_with_null : shown apart (rows_by (composed null ∷ [])) (Start 0 []) ≡ codes "Start A null"
+start_with_null = refl
+
+end_with_outputs : shown apart taken (End 0 []) ≡ codes "End A Succeeded \"hi\""
+end_with_outputs = refl
+
+end_with_fault : shown apart fault (End 0 []) ≡ codes "End A Failed null"
+end_with_fault = refl
+
+skip_alone : shown apart (rows_by (composed null ∷ skipped ∷ [])) (Skip 1 []) ≡ codes "Skip B"
+skip_alone = refl
+
+no_action_starts : shown apart taken (Start 2 []) ≡ []
+no_action_starts = refl
+
+no_action_is_skipped : shown apart taken (Skip 2 []) ≡ []
+no_action_is_skipped = refl
+
+-- What isn't built yet says nothing.
+no_attempt : shown apart taken (Try 0 []) ≡ []
+no_attempt = refl
+
+-- Names are printed as they are: this one is e with an acute accent, a blank and a quotation mark.
+plain_name : shown (action (195 ∷ 169 ∷ 32 ∷ 34 ∷ []) [] ∷ []) taken (End 0 []) ≡ codes "End " ++ 195 ∷ 169 ∷ codes " \" Succeeded \"hi\""
+plain_name = refl

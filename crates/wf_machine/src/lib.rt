@@ -12,16 +12,24 @@
 //! So far a definition is a flat graph of Compose actions. Rows and running actions are kept by the numbers of actions (`specs/Kept`), and
 //! the enabled events are made anew at each step, from how far each action is (`specs/Listed`). None of that shows in a contract.
 //!
+//! What is told of an event is read off the row that the definition means for its action (`specs/Shown`), so it is the same at every moment
+//! after the event, and whatever the schedule.
+//!
 //! This crate chooses no event, reads no schedule and prints no record.
 #![tactic(auto)]
 
 mod event;
+mod finished;
+mod laws;
 mod leaf;
 mod listing;
 mod phase;
 mod state;
+mod telling;
 
 pub use event::{Event, EventKind, Events};
+pub use finished::Finished;
+pub use laws::what_inputs_came_to_is_told;
 pub use leaf::Leaf;
 pub use phase::Phase;
 pub use state::State;

@@ -11,22 +11,25 @@ ghost use Rattle.wf_meaning.specs.Environment.{fresh};
 ghost use Rattle.wf_def.specs.DefSeen.{output_tree};
 ghost use Rattle.wf_meaning.specs.Meaning.{ending_of, rows_of, table_of};
 ghost use Rattle.wf_walk.specs.EndingSeen.{ending_tree};
-ghost use Rattle.wf_walk.specs.Walked.{AreAll};
 ghost use Rattle.wf_meaning.specs.Names.{names_before};
 ghost use Rattle.wf_meaning.specs.Rounds.{all_end};
 ghost use Rattle.wf_record.specs.Seen.{row_tree};
 ghost use Rattle.wf_trigger.specs.StartsSeen.{start_tree};
-ghost use Rattle.wf_walk.specs.Seen.{action_tree, environment_of, row_at, row_content};
+ghost use Rattle.wf_walk.specs.Seen.{action_tree, row_at, row_content};
 ghost use Rattle.wf_machine.specs.Cost.{cost, first_cost, leaf_cost, most_events, rows_cost};
 ghost use Rattle.wf_machine.specs.Kept.{ArePriced, leaves_from, price, there};
+ghost use Rattle.wf_machine.specs.Happened.{HasHappened};
 ghost use Rattle.wf_machine.specs.Held.{Ended, Follows, HasEnabled, IsNew, MayHappen, Picked, environment, state};
 ghost use Rattle.wf_machine.specs.Machine.{ArePartOfTheMeaning, IsReached};
 ghost use Rattle.wf_machine.specs.Seen.{event_tree};
+ghost use Rattle.wf_machine.specs.Shown.{shown};
 
 use crate::event::{Event, EventKind, Events};
+use crate::finished::{Finished, gather};
 use crate::leaf::Leaf;
 use crate::listing::{enabled, with_phase};
 use crate::phase::Phase;
+use crate::telling::{end_line, skip_line, start_line};
 use std::alloc::{AllocError, Global};
 use std::marker::Model;
 use wf_answers::Inputs;
@@ -34,9 +37,7 @@ use wf_def::Output;
 use wf_meaning::{a_graph_that_ends_is_an_instance, rows_come_from_before};
 use wf_record::{Row, row_cost};
 use wf_trigger::Start;
-use wf_walk::{
-    Action, Given, Walked, begin, end, graph_status, outputs_of, rows_there, run_ending, skipped,
-};
+use wf_walk::{Action, Given, begin, end, skipped};
 
 /// What has happened so far in a run, and what may happen next.
 #[derive(Drop)]
@@ -153,30 +154,6 @@ fn first_cost(start: &Start) -> u64
         .weight()
         .saturating_add(64)
         .saturating_add(start.parameters.weight())
-}
-
-// What a run leaves all of whose rows are there.
-fn gather(
-    alloc: Global,
-    given: &Given,
-    actions: &[Action],
-    rows: Vec<Option<Row>>,
-    outputs: &[Output],
-) -> Result<Walked, AllocError>
-    requires in_order { IsInNameOrder action_name (map action_tree actions.now) }
-    requires ends { all_end (map action_tree actions.now) ≡ true }
-    requires all { AreAll (environment_of given.now) (map action_tree actions.now) rows.items }
-    ensures rows { IfOk result (λ w. map row_tree w.rows ≡ rows_of (environment_of given.now) (map action_tree actions.now)) }
-    ensures ending { IfOk result (λ w. let trees = map action_tree actions.now in
-        ending_tree w.ending ≡ ending_of (map output_tree outputs.now) (environment_of given.now) trees
-        (table_of (environment_of given.now) trees)) }
-{
-    let status = graph_status(alloc, actions, &rows)?;
-    let outputs = outputs_of(alloc, given, actions, &rows, outputs)?;
-    Ok(Walked {
-        ending: run_ending(alloc, status, outputs)?,
-        rows: rows_there(alloc, rows)?,
-    })
 }
 
 // How many actions are running.
@@ -329,22 +306,32 @@ impl<'a> State<'a> {
     pub fn step(&mut self, alloc: Global, event: Event) -> Result<(), AllocError>
         requires { MayHappen self.old (event_tree event) }
         ensures ok { OnOk result (Follows self.old (event_tree event) self.new) }
+        ensures happened { OnOk result (HasHappened self.new (event_tree event)) }
         ensures more { OnOk result (most_events self.old < most_events self.new) }
         ensures err { OnErr result (self.new ≡ self.old) }
     {
+        self.take(alloc, event)
+    }
+
+    /// What is told of an event that has happened: its line, behind its number and without a line feed.
+    pub fn describe(&self, alloc: Global, event: Event) -> Result<Vec<u8>, AllocError>
+        requires { HasHappened self.now (event_tree event) }
+        ensures { IfOk result (λ line. line.items
+            ≡ shown self.now.actions (table_of (environment self.now) self.now.actions) (event_tree event)) }
+    {
         match event.kind {
-            EventKind::Start => self.start(alloc, event.action),
-            EventKind::End => self.end(alloc, event.action),
-            EventKind::Skip => self.skip(alloc, event.action),
+            EventKind::Start => self.describe_start(alloc, event.action),
+            EventKind::End => self.describe_end(alloc, event.action),
+            EventKind::Skip => self.describe_skip(alloc, event.action),
         }
     }
 
     /// What a run that is over leaves: its rows, which are those that the definition means, and how it ended, with what the section
     /// `outputs` came to. A refusal spends the state.
-    pub fn finish(self, alloc: Global, outputs: &[Output]) -> Result<Walked, AllocError>
+    pub fn finish(self, alloc: Global, outputs: &[Output]) -> Result<Finished, AllocError>
         requires { Ended self }
-        ensures rows { IfOk result (λ w. map row_tree w.rows ≡ rows_of (environment self.entry) self.entry.actions) }
-        ensures ending { IfOk result (λ w. ending_tree w.ending
+        ensures rows { IfOk result (λ f. map row_tree f.rows ≡ rows_of (environment self.entry) self.entry.actions) }
+        ensures ending { IfOk result (λ f. ending_tree f.ending
             ≡ ending_of (map output_tree outputs.now) (environment self.entry) self.entry.actions
             (table_of (environment self.entry) self.entry.actions)) }
     {
@@ -355,6 +342,20 @@ impl<'a> State<'a> {
             inputs: self.inputs,
         };
         gather(alloc, &given, self.actions, self.rows, outputs)
+    }
+
+    // The same, by the kind of the event.
+    fn take(&mut self, alloc: Global, event: Event) -> Result<(), AllocError>
+        requires { MayHappen self.old (event_tree event) }
+        ensures ok { OnOk result (Follows self.old (event_tree event) self.new) }
+        ensures more { OnOk result (most_events self.old < most_events self.new) }
+        ensures err { OnErr result (self.new ≡ self.old) }
+    {
+        match event.kind {
+            EventKind::Start => self.start(alloc, event.action),
+            EventKind::End => self.end(alloc, event.action),
+            EventKind::Skip => self.skip(alloc, event.action),
+        }
     }
 
     // An action starts.
@@ -421,5 +422,43 @@ impl<'a> State<'a> {
         self.phases = phases;
         self.enabled = enabled;
         Ok(())
+    }
+
+    // What is told of an action that has started.
+    fn describe_start(&self, alloc: Global, action: usize) -> Result<Vec<u8>, AllocError>
+        requires { HasHappened self.now (machine.Start action []) }
+        ensures { IfOk result (λ line. line.items
+            ≡ shown self.now.actions (table_of (environment self.now) self.now.actions) (machine.Start action [])) }
+    {
+        a_graph_that_ends_is_an_instance();
+        let entry = action_at(self.actions, action);
+        let Some(leaf) = leaf_of(&self.running, action) else {
+            return Err(AllocError);
+        };
+        start_line(alloc, &entry.name, &leaf.begun)
+    }
+
+    // What is told of an action that has ended.
+    fn describe_end(&self, alloc: Global, action: usize) -> Result<Vec<u8>, AllocError>
+        requires { HasHappened self.now (machine.End action []) }
+        ensures { IfOk result (λ line. line.items
+            ≡ shown self.now.actions (table_of (environment self.now) self.now.actions) (machine.End action [])) }
+    {
+        a_graph_that_ends_is_an_instance();
+        let entry = action_at(self.actions, action);
+        let Some(row) = row_of(&self.rows, action) else {
+            return Err(AllocError);
+        };
+        end_line(alloc, &entry.name, row)
+    }
+
+    // What is told of an action that was passed over.
+    fn describe_skip(&self, alloc: Global, action: usize) -> Result<Vec<u8>, AllocError>
+        requires { HasHappened self.now (machine.Skip action []) }
+        ensures { IfOk result (λ line. line.items
+            ≡ shown self.now.actions (table_of (environment self.now) self.now.actions) (machine.Skip action [])) }
+    {
+        let entry = action_at(self.actions, action);
+        skip_line(alloc, &entry.name)
     }
 }

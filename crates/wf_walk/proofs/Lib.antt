@@ -1,4 +1,4 @@
-pub mod Kept
+pub mod RowLemmas
 pub mod Ends
 pub mod MarkLemmas
 pub mod PlaceLemmas

@@ -1,5 +1,6 @@
 -- Marks, one more at a time.
-use Rattle.std.proofs.Common.{◌≡◌, ℕ, zero, suc, ◌<◌, Bool, true, false, ◌||◌, List, [], ◌∷◌, length, set, replicate, ⊎_elim, refl, sym, ap, ◌∙◌, subst, arith, nat_eq, eq-eqb, eqb-true, true≢false}
+use Rattle.std.proofs.Common.{◌≡◌, ℕ, zero, suc, ◌<◌, Bool, true, false, ◌||◌, List, [], ◌∷◌, length, set, replicate, ⊎_elim, refl, sym, ap}
+use Rattle.std.proofs.Common.{◌∙◌, subst, arith, nat_eq, eq-eqb, eqb-true, true≢false}
 use Rattle.wf_layers.proofs.Basics.{two}
 use Rattle.wf_meaning.specs.Marks.{is_marked}
 
@@ -37,12 +38,14 @@ size_set (b ∷ marks) (suc n) = ap (λ k. suc k) (size_set marks n)
 
 -- one mark more
 pub mark_at : (marks : List Bool) (n m : ℕ) → m < length marks → is_marked (set marks n true) m ≡ (is_marked marks m || nat_eq n m)
-mark_at marks n m lt = ⊎_elim here (λ off. set_apart marks n m true off ∙ (sym (or_false (is_marked marks m)) ∙ ap (λ b. is_marked marks m || b) (sym off))) (two (nat_eq n m))
+mark_at marks n m lt = ⊎_elim here (λ off. set_apart marks n m true off ∙ (sym (or_false (is_marked marks m)) ∙ ap
+    (λ b. is_marked marks m || b) (sym off))) (two (nat_eq n m))
   where
     here : nat_eq n m ≡ true → is_marked (set marks n true) m ≡ (is_marked marks m || nat_eq n m)
     here on =
         let same : n ≡ m = eqb-true n m on in
-        rw on (subst (λ k. is_marked (set marks k true) m ≡ (is_marked marks m || true)) (sym same) (set_here marks m lt ∙ sym (or_true (is_marked marks m))))
+        rw on (subst (λ k. is_marked (set marks k true) m ≡ (is_marked marks m || true)) (sym same) (set_here marks m lt ∙ sym (or_true
+        (is_marked marks m))))
 
 pub size_none : (size : ℕ) → length (replicate size false) ≡ size
 size_none zero = refl

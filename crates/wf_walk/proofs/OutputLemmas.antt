@@ -11,7 +11,8 @@ use Rattle.wf_walk.proofs.PlaceLemmas.{is_within}
 abbrev views : List ActionTree → Table Row → List ℕ → Option ValueTree
 views actions t k = view_at t k (place_of actions k)
 
-module _ (env : Environment) (actions : List ActionTree) (t u : Table Row) (same : (n : ℕ) → n < length actions → t (address n []) ≡ u (address n [])) where
+module _ (env : Environment) (actions : List ActionTree) (t u : Table Row) (same : (n : ℕ) → n < length actions
+    → t (address n []) ≡ u (address n [])) where
   view_same : (k : List ℕ) (found : Option ℕ) → ((p : ℕ) → found ≡ Some p → p < length actions) → view_at t k found ≡ view_at u k found
   view_same k None within = refl
   view_same k (Some p) within = ap (option_map (view_of k)) (same p (within p refl))

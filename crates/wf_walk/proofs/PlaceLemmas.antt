@@ -1,5 +1,6 @@
 -- A search by name ends at the place of the name.
-use Rattle.std.proofs.Common.{◌≡◌, ℕ, zero, suc, ◌+◌, ◌<◌, Bool, true, false, List, [], ◌∷◌, length, Some, None, Ordering, Less, bytes_eq, is_eq, if◌then◌else◌, refl, sym, ap, ◌∙◌, arith}
+use Rattle.std.proofs.Common.{◌≡◌, ℕ, zero, suc, ◌+◌, ◌<◌, Bool, true, false, List, [], ◌∷◌, length, Some, None, Ordering, Less, bytes_eq}
+use Rattle.std.proofs.Common.{is_eq, if◌then◌else◌, refl, sym, ap, ◌∙◌, arith}
 use Rattle.std.specs.List.{AllByRecursion}
 use Rattle.std.proofs.lemmas.Bool.Decides.{same_from_decides, Decides-like}
 use Rattle.std.proofs.lemmas.Map.Text.{is_eq-slice_cmp}
@@ -15,7 +16,8 @@ bytes_eq-sym k l =
 same_as : (k l : List ℕ) (o : Ordering) → bytes_cmp k l ≡ o → bytes_eq l k ≡ is_eq o
 same_as k l o is = bytes_eq-sym l k ∙ (sym (is_eq-slice_cmp k l) ∙ ap is_eq is)
 
-from_place : (k : List ℕ) (n : ℕ) (actions : List ActionTree) (i m : ℕ) → m ≡ n + i → IsPlace action_name k actions i → place_from n actions k ≡ Some m
+from_place : (k : List ℕ) (n : ℕ) (actions : List ActionTree) (i m : ℕ) → m ≡ n + i → IsPlace action_name k actions i
+    → place_from n actions k ≡ Some m
 from_place k n [] i m is place = absurd place
 from_place k n (a ∷ actions) zero m is place = rw (same_as k a.name _ place) (ap (λ j. Some j) (omega (arith, is)))
 from_place k n (a ∷ actions) (suc i) m is place =
@@ -24,7 +26,8 @@ from_place k n (a ∷ actions) (suc i) m is place =
 pub at_place : (k : List ℕ) (actions : List ActionTree) (i : ℕ) → IsPlace action_name k actions i → place_of actions k ≡ Some i
 at_place k actions i place = from_place k 0 actions i i (omega arith) place
 
-below : (k : List ℕ) (n : ℕ) (actions : List ActionTree) → AllByRecursion (λ a. bytes_cmp k (action_name a) ≡ Less) actions → place_from n actions k ≡ None
+below : (k : List ℕ) (n : ℕ) (actions : List ActionTree) → AllByRecursion (λ a. bytes_cmp k (action_name a) ≡ Less) actions
+    → place_from n actions k ≡ None
 below k n [] all = refl
 below k n (a ∷ actions) all = rw (same_as k a.name _ all.0) (below k (suc n) actions all.1)
 

@@ -1,5 +1,7 @@
 -- How a graph ended, mark by mark.
-use Rattle.std.proofs.Common.{◌≡◌, ◌+◌, ℕ, zero, suc, ◌<◌, ◌≤◌, Bool, true, false, ◌||◌, ◌&&◌, not, List, [], ◌∷◌, length, set, replicate, Option, Some, None, is_some, slice_get, inl, inr, ⊎_elim, refl, sym, ap, ◌∙◌, subst, arith, nat_eq, eqb-true, if◌then◌else◌, true≢false}
+use Rattle.std.proofs.Common.{◌≡◌, ◌+◌, ℕ, zero, suc, ◌<◌, ◌≤◌, Bool, true, false, ◌||◌, ◌&&◌, not, List, [], ◌∷◌, length, set, replicate}
+use Rattle.std.proofs.Common.{Option, Some, None, is_some, slice_get, inl, inr, ⊎_elim, refl, sym, ap, ◌∙◌, subst, arith, nat_eq, eqb-true}
+use Rattle.std.proofs.Common.{if◌then◌else◌, true≢false}
 use Rattle.std.specs.List.{list_all, list_any}
 use Rattle.wf_layers.specs.Address.{Table, address}
 use Rattle.wf_layers.specs.Definition.{Need, Names}
@@ -39,7 +41,8 @@ module _ (actions : List ActionTree) (known : Table record_of.Row) where
       go (Some a) e same = same_any rounds a.after same e
 
   fails_here : all_end actions ≡ true → (n : ℕ) (a : ActionTree) → slice_get actions n ≡ Some a →
-      judge_row (known (address n [])) (list_any (λ need. fails actions known (length actions) need.name) a.after) ≡ fails actions known (length actions) n
+      judge_row (known (address n [])) (list_any (λ need. fails actions known (length actions) need.name) a.after)
+      ≡ fails actions known (length actions) n
   fails_here all n a is =
       ap (λ found. judge_row (known (address n [])) (any_named (fails actions known (length actions)) found)) (sym is)
       ∙ fails_stays (length actions) n (ends actions n all (ap is_some is))
@@ -105,7 +108,8 @@ named_at (a ∷ actions) marks p lt =
     ∙ (ap (λ b. b || is_named actions p) (needs_at a.after marks p lt)
     ∙ or_assoc (is_marked marks p) (list_any (λ need. nat_eq need.name p) a.after) (is_named actions p))
 
-is_named_at : (actions : List ActionTree) (size p : ℕ) → p < size → is_marked (all_named actions (replicate size false)) p ≡ is_named actions p
+is_named_at : (actions : List ActionTree) (size p : ℕ) → p < size → is_marked (all_named actions (replicate size false)) p
+    ≡ is_named actions p
 is_named_at actions size p lt =
     named_at actions (replicate size false) p (omega (arith, lt, size_none size)) ∙ ap (λ b. b || is_named actions p) (none_marked size p)
 
@@ -121,8 +125,12 @@ pub any_fails_is : (actions : List ActionTree) (known : Table record_of.Row) (na
     list_any (λ n. not (is_marked named n) && is_marked marks n) (places 0 actions)
     ≡ list_any (λ n. not (is_named actions n) && fails actions known (length actions) n) (places 0 actions)
 any_fails_is actions known named marks made are =
-    any_places (λ n. not (is_marked named n) && is_marked marks n) (λ n. not (is_named actions n) && fails actions known (length actions) n) 0 actions
-    (λ m le lt. rw (ap (λ ms. is_marked ms m) made ∙ is_named_at actions (length actions) m (omega (arith, lt)), are.exact m (omega (arith, lt))))
+    any_places (λ n. not (is_marked named n) && is_marked marks n)
+    (λ n. not (is_named actions n) && fails actions known (length actions) n) 0 actions
+    (λ m le lt. rw (
+      ap (λ ms. is_marked ms m) made ∙ is_named_at actions (length actions) m (omega (arith, lt)),
+      are.exact m (omega (arith, lt)),
+    ))
 
 -- ---- rows that are the same at each action give the same status
 
@@ -137,7 +145,8 @@ module _ (actions : List ActionTree) (all : all_end actions ≡ true) (t u : Tab
   fails_same zero n lt = refl
   fails_same (suc far) n lt = rw (same n lt) (ap (judge_row (u (address n []))) (go (slice_get actions n) refl (fails_same far)))
     where
-      go : (found : Option ActionTree) → slice_get actions n ≡ found → ((q : ℕ) → q < length actions → fails actions t far q ≡ fails actions u far q) →
+      go : (found : Option ActionTree) → slice_get actions n ≡ found → ((q : ℕ) → q < length actions
+          → fails actions t far q ≡ fails actions u far q) →
           any_named (fails actions t far) found ≡ any_named (fails actions u far) found
       go None is each = refl
       go (Some a) is each = any_same far a.after (λ q names. each q (is_within actions q (waited_there actions all n q a is names)))
@@ -145,5 +154,6 @@ module _ (actions : List ActionTree) (all : all_end actions ≡ true) (t u : Tab
   pub status_same : graph_status actions t ≡ graph_status actions u
   status_same =
       ap (λ b. if b then Failed else Succeeded)
-      (any_places (λ n. not (is_named actions n) && fails actions t (length actions) n) (λ n. not (is_named actions n) && fails actions u (length actions) n) 0 actions
+      (any_places (λ n. not (is_named actions n) && fails actions t (length actions) n)
+      (λ n. not (is_named actions n) && fails actions u (length actions) n) 0 actions
       (λ m le lt. ap (λ b. not (is_named actions m) && b) (fails_same (length actions) m (omega (arith, lt)))))

@@ -1,4 +1,4 @@
 pub mod Seen
-pub mod Walked
+pub mod Kept
 pub mod Failing
 pub mod EndingSeen

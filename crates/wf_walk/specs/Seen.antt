@@ -1,5 +1,5 @@
--- What the structs of the walk stand for.
-use Rattle.std.specs.Prelude.{ℕ, Bool, true, false, List, [], ◌∷◌, Option, None, Some, map, slice_get}
+-- What the structs of this crate stand for.
+use Rattle.std.specs.Prelude.{ℕ, List, [], ◌∷◌, Option, None, Some, map, slice_get}
 use Rattle.wf_template.specs.DataSeen.{data_tree}
 use Rattle.wf_layers.specs.Address as layered
 use Rattle.wf_layers.specs.Definition as definition
@@ -30,10 +30,6 @@ abbrev pub rows_there : List (Option Row) → List record_of.RowTree
 rows_there [] = []
 rows_there (None ∷ rows) = rows_there rows
 rows_there (Some r ∷ rows) = row_tree r ∷ rows_there rows
-
-abbrev pub has_row : Option Row → Bool
-has_row None = false
-has_row (Some r) = true
 
 -- the row of the action with this number, where it has ended
 abbrev pub known_row : Option (Option Row) → Option record_of.Row

@@ -1,11 +1,10 @@
-//! Which record a definition leaves each of whose actions is a Compose that stands in no other.
+//! What an action does in a run, and what its run comes to once all have their rows.
 //!
-//! Each action gets its row once all that it waits for have theirs: Skipped where one of them ended in a status that isn't listed,
-//! else what its inputs come to in the rows that are there. Where `runAfter` has no cycle and inputs ask only for rows of actions
-//! before their own, the rows are those of the definition's meaning (`wf_meaning`), in whatever order they are made. The graph's
-//! status is read off them, then the section `outputs` is evaluated, which sees them all: so `record_of` is the meaning's record.
+//! An action that runs is a Compose so far, which stands in no other: `begin` says what its inputs come to in the rows that are there,
+//! `end` which row it has then, and `skipped` which one that doesn't run. What its templates see is `FlatLook`. `graph_status` says how the
+//! graph ended, by its rows, `outputs_of` what the section `outputs` comes to, which sees them all, and `run_ending` how the run ends.
 //!
-//! It reads no definition and prints nothing.
+//! Which action starts or ends next is nothing of this crate's, nor when none does any more. It reads no definition and prints nothing.
 #![tactic(auto)]
 
 mod action;
@@ -13,14 +12,14 @@ mod flat_look;
 mod outputs;
 mod place;
 mod ready;
+mod rows;
 mod status;
 mod step;
 mod topological;
 mod value;
-mod walking;
 
 pub use action::{Action, After, Given};
 pub use outputs::{Ending, outputs_of, run_ending};
+pub use rows::rows_there;
 pub use status::graph_status;
-pub use step::{begin, end, is_listed, needs_met, row_in, skipped};
-pub use walking::{Walked, record_of, rows_there, walk};
+pub use step::{begin, end, is_listed, skipped};

@@ -47,7 +47,8 @@ pub fn outputs_of(
     outputs: &[Output],
 ) -> Result<Result<Fields, EvalFault>, AllocError>
     requires in_order { IsInNameOrder action_name (map action_tree actions.now) }
-    ensures { IfOk result (λ s. s ≡ section (told_to_outputs (environment_of given.now) (map action_tree actions.now) (known_of rows.now)) (map output_tree outputs.now)) }
+    ensures { IfOk result (λ s. s ≡ section (told_to_outputs (environment_of given.now) (map action_tree actions.now) (known_of rows.now))
+        (map output_tree outputs.now)) }
 {
     let place = Text::of(alloc, "@outputs")?;
     let mut look = FlatLook {

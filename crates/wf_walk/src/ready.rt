@@ -41,7 +41,8 @@ fn first_ready(actions: &[Action], marks: &[bool]) -> Option<usize>
     ensures within { IfSome result (λ n. n < length marks.now) }
     ensures ready { IfSome result (λ n. is_ready marks.now (slice_get (map action_tree actions.now) n) ≡ true) }
     ensures unmarked { IfSome result (λ n. is_marked marks.now n ≡ false) }
-    ensures stuck { IfNone result ((n : ℕ) → n < length marks.now → is_marked marks.now n ≡ false → is_ready marks.now (slice_get (map action_tree actions.now) n) ≡ false) }
+    ensures stuck { IfNone result ((n : ℕ) → n < length marks.now → is_marked marks.now n ≡ false
+        → is_ready marks.now (slice_get (map action_tree actions.now) n) ≡ false) }
 {
     for (place, action) in actions.iter().enumerate() {
         if !is_marked(marks, place) && is_ready(marks, action) {
@@ -70,7 +71,8 @@ pub fn next_ready(actions: &[Action], marks: &[bool], likely: Option<usize>) -> 
     ensures within { IfSome result (λ n. n < length marks.now) }
     ensures ready { IfSome result (λ n. is_ready marks.now (slice_get (map action_tree actions.now) n) ≡ true) }
     ensures unmarked { IfSome result (λ n. is_marked marks.now n ≡ false) }
-    ensures stuck { IfNone result ((n : ℕ) → n < length marks.now → is_marked marks.now n ≡ false → is_ready marks.now (slice_get (map action_tree actions.now) n) ≡ false) }
+    ensures stuck { IfNone result ((n : ℕ) → n < length marks.now → is_marked marks.now n ≡ false
+        → is_ready marks.now (slice_get (map action_tree actions.now) n) ≡ false) }
 {
     match likely {
         Some(place) if is_next(actions, marks, place) => Some(place),

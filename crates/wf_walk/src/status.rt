@@ -49,7 +49,8 @@ fn any_marked(marks: &[bool], after: &[After]) -> bool
 
 // Whether an action fails the graph, where it is judged, by its row and the marks of those that it waits for.
 fn is_failing(rows: &[Option<Row>], place: usize, fails: &[bool], action: &Action) -> bool
-    ensures { result ≡ judge_row (known_of rows.now (address place [])) (list_any (λ need. is_marked fails.now need.name) (action_tree action.now).after) }
+    ensures { result ≡ judge_row (known_of rows.now (address place [])) (list_any (λ need. is_marked fails.now need.name)
+        (action_tree action.now).after) }
 {
     judge_row(rows.get(place), any_marked(fails, &action.after))
 }

@@ -1,17 +1,16 @@
-// The row of an action, from the rows of those that have ended.
-ghost use Rattle.std.specs.Prelude.{◌≡◌, [], IfOk, Some, map, option_map};
+// What an action does in a run: what its inputs come to, and its row.
+ghost use Rattle.std.specs.Prelude.{◌≡◌, IfOk, Some, map};
 ghost use Rattle.wf_val.specs.Seen.{tree};
-ghost use Rattle.wf_layers.specs.Address.{address};
 ghost use Rattle.wf_layers.specs.Source.{is_listed};
-ghost use Rattle.wf_meaning.specs.Meaning.{instance, instance_of, is_met, needs_met, row_in};
+ghost use Rattle.wf_meaning.specs.Meaning.{instance_of};
 ghost use Rattle.wf_meaning.specs.Definition.{action_name};
 ghost use Rattle.wf_meaning.specs.Flat.{begun, skipped, composed, faulted, ended};
 ghost use Rattle.wf_val.specs.NameOrder.{IsInNameOrder};
-ghost use Rattle.wf_walk.specs.Seen.{action_tree, environment_of, known_of, known_row, need_tree, row_content};
+ghost use Rattle.wf_walk.specs.Seen.{action_tree, environment_of, known_of, row_content};
 ghost use Rattle.wf_meaning.specs.Statuses.{status_tree};
 ghost use Rattle.wf_val.specs.Arguments.{seen};
 
-use crate::action::{Action, After, Given};
+use crate::action::{Action, Given};
 use crate::flat_look::FlatLook;
 use crate::value::value_in;
 use std::alloc::{AllocError, Global};
@@ -29,34 +28,6 @@ pub fn is_listed(listed: &[Status], status: Status) -> bool
         }
     }
     false
-}
-
-// Whether an action that is waited for has a row with a listed status.
-fn is_met(listed: &[Status], found: Option<&Option<Row>>) -> bool
-    ensures { result ≡ is_met (map status_tree listed.now) (known_row (option_map (λ r. r.now) found.entry)) }
-{
-    match found {
-        Some(Some(row)) => is_listed(listed, row.status),
-        _ => false,
-    }
-}
-
-fn is_met_in(need: &After, rows: &[Option<Row>]) -> bool
-    ensures { result ≡ is_met (need_tree need.now).listed (known_of rows.now (address (need_tree need.now).name [])) }
-{
-    is_met(&need.listed, rows.get(need.place))
-}
-
-/// Whether each action that is waited for has a row with a listed status.
-pub fn needs_met(after: &[After], rows: &[Option<Row>]) -> bool
-    ensures { result ≡ needs_met (map need_tree after.now) (known_of rows.now) }
-{
-    for need in after {
-        if !is_met_in(need, rows) {
-            return false;
-        }
-    }
-    true
 }
 
 // The address of an action that stands in no loop.
@@ -85,7 +56,7 @@ pub fn skipped(alloc: Global, name: &Text) -> Result<Row, AllocError>
     })
 }
 
-/// The row of a Compose action, which takes its inputs in and gives them out.
+// The row of a Compose action, which takes its inputs in and gives them out.
 fn composed(alloc: Global, name: &Text, inputs: Val) -> Result<Row, AllocError>
     ensures { IfOk result (λ row. (row_content row ≡ composed (tree inputs)) × (row.address ≡ instance_of name.now)) }
 {
@@ -126,7 +97,8 @@ pub fn begin(
     action: &Action,
 ) -> Result<Result<Val, EvalFault>, AllocError>
     requires in_order { IsInNameOrder action_name (map action_tree actions.now) }
-    ensures { IfOk result (λ r. seen r ≡ begun (environment_of given.now) (map action_tree actions.now) (known_of rows.now) (Some (action_tree action.now))) }
+    ensures { IfOk result (λ r. seen r ≡ begun (environment_of given.now) (map action_tree actions.now) (known_of rows.now) (Some
+        (action_tree action.now))) }
 {
     let mut look = FlatLook {
         actions,
@@ -149,34 +121,4 @@ pub fn end(alloc: Global, name: &Text, begun: &Result<Val, EvalFault>) -> Result
         Ok(value) => composed(alloc, name, value.copy(alloc)?),
         Err(fault) => faulted(alloc, name, fault),
     }
-}
-
-// The same, of what isn't wanted any more.
-fn into_row(alloc: Global, name: &Text, begun: Result<Val, EvalFault>) -> Result<Row, AllocError>
-    ensures row { IfOk result (λ row. row_content row ≡ ended (seen begun)) }
-    ensures address { IfOk result (λ row. row.address ≡ instance_of name.now) }
-{
-    match begun {
-        Ok(value) => composed(alloc, name, value),
-        Err(fault) => faulted(alloc, name, &fault),
-    }
-}
-
-/// The row of an action, from the rows of those that have ended.
-pub fn row_in(
-    alloc: Global,
-    given: &Given,
-    actions: &[Action],
-    rows: &[Option<Row>],
-    action: &Action,
-) -> Result<Row, AllocError>
-    requires in_order { IsInNameOrder action_name (map action_tree actions.now) }
-    ensures row { IfOk result (λ row. row_content row ≡ row_in (environment_of given.now) (map action_tree actions.now) (known_of rows.now) (action_tree action.now)) }
-    ensures address { IfOk result (λ row. row.address ≡ instance (action_tree action.now)) }
-{
-    if !needs_met(&action.after, rows) {
-        return skipped(alloc, &action.name);
-    }
-    let begun = begin(alloc, given, actions, rows, action)?;
-    into_row(alloc, &action.name, begun)
 }

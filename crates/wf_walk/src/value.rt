@@ -16,7 +16,8 @@ pub fn value_in<L: Look>(
     look: &mut L,
 ) -> Result<Result<Val, EvalFault>, AllocError>
     ensures value { IfOk result (λ r. seen r ≡ (tree_value (L.told look.old) (data_tree tree.now) (L.drawn look.old)).0) }
-    ensures words { IfOk result (λ r. IfOk r (λ v. L.drawn look.new ≡ (tree_value (L.told look.old) (data_tree tree.now) (L.drawn look.old)).1)) }
+    ensures words { IfOk result (λ r. IfOk r (λ v. L.drawn look.new ≡ (tree_value (L.told look.old) (data_tree tree.now)
+        (L.drawn look.old)).1)) }
     ensures same { L.told look.new ≡ L.told look.old }
 {
     match eval_tree(alloc, tree, look) {

@@ -8,7 +8,8 @@ use Rattle.wf_walk.proofs.outputs.values_in.Given as goal
 abbrev pub invariant-loop-output : goal.invariant-loop-output
 invariant-loop-output g l = record {
   so_far :
-      (members_after (output_runs (g.L.Look.told l.fn.look) (map output_tree (drop l.output-index l.outputs))) l.values (g.L.Look.drawn l.look)).0
+      (members_after (output_runs (g.L.Look.told l.fn.look) (map output_tree (drop l.output-index l.outputs))) l.values
+      (g.L.Look.drawn l.look)).0
       ≡ (members_after (output_runs (g.L.Look.told l.fn.look) (map output_tree l.outputs)) [] (g.L.Look.drawn l.fn.look)).0;
   same : g.L.Look.told l.look ≡ g.L.Look.told l.fn.look;
 }

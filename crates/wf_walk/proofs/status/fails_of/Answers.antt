@@ -1,4 +1,5 @@
-use Rattle.std.proofs.Common.{◌≡◌, ◌<◌, true, false, List, Bool, Some, [], length, map, replicate, slice_get, sym, ap, ◌∙◌, arith, rules, length-set}
+use Rattle.std.proofs.Common.{◌≡◌, ◌<◌, true, false, List, Bool, Some, [], length, map, replicate, slice_get, sym, ap, ◌∙◌, arith, rules}
+use Rattle.std.proofs.Common.{length-set}
 use Rattle.std.proofs.lemmas.List.{length-map}
 use Rattle.std.specs.List.{list_any}
 use Rattle.wf_layers.specs.Address.{address}
@@ -10,7 +11,7 @@ use Rattle.wf_walk.specs.Seen.{action_tree, known_of, need_tree}
 use Rattle.wf_walk.specs.declared.action.Action.{Action}
 use Rattle.wf_walk.proofs.StatusLemmas.{failing_kept, none_failing}
 use Rattle.wf_walk.proofs.Ends.{every_marked}
-use Rattle.wf_walk.proofs.Kept.{at_place}
+use Rattle.wf_walk.proofs.RowLemmas.{at_place}
 use Rattle.wf_walk.proofs.status.fails_of.Goals as goal
 
 pub loop-place-init : goal.loop-place-init
@@ -57,7 +58,8 @@ loop-place-preserved c =
     let lt : c.in-Some.place < length xs = omega (arith, within, c.loop-place.invariant.same) in
     let is : slice_get (map action_tree xs) c.in-Some.place ≡ Some (action_tree a) =
     at_place action_tree xs c.in-Some.place a lt ∙ ap (λ b. Some (action_tree b)) (sym c.index-actions-place.is) in
-    let made : failed ≡ judge_row (known_of c.args.rows.now (address c.in-Some.place [])) (list_any (λ (need : Need). is_marked fs need.name) (map need_tree a.after.items)) = search rules in
+    let made : failed ≡ judge_row (known_of c.args.rows.now (address c.in-Some.place []))
+    (list_any (λ (need : Need). is_marked fs need.name) (map need_tree a.after.items)) = search rules in
     record {
       same = length-set bs c.in-Some.place true ∙ c.loop-place.invariant.same;
       counted = omega (arith, more, c.loop-place.invariant.counted);

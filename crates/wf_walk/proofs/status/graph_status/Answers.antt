@@ -15,4 +15,5 @@ returns c =
     c.status_of.ensures
     ∙ ap (λ b. if b then Failed else Succeeded)
     (rw (c.deref.ensures.value, c.deref-2.ensures.value) at c.any_fails.ensures
-    ∙ any_fails_is (map action_tree xs) (known_of c.args.rows.now) c.in_ok-named.named.items c.in_ok-fails.fails.items named c.in_ok-fails.ensures)
+    ∙ any_fails_is (map action_tree xs) (known_of c.args.rows.now) c.in_ok-named.named.items c.in_ok-fails.fails.items named
+    c.in_ok-fails.ensures)

@@ -5,5 +5,6 @@ use Rattle.wf_walk.proofs.status.named_of.Goals as goal
 
 pub loop-action-init : goal.loop-action-init
 loop-action-init c =
-    let none : c.in_ok-named.named.items ≡ replicate (length c.args.actions.now) false = c.in_ok-named.ensures.items_if_clones_equal (λ y h. h) in
+    let none : c.in_ok-named.named.items ≡ replicate (length c.args.actions.now) false = c.in_ok-named.ensures.items_if_clones_equal
+    (λ y h. h) in
     ap (all_named (map action_tree c.args.actions.now)) none

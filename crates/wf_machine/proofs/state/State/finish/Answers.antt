@@ -2,7 +2,7 @@ use Rattle.std.proofs.Common.{◌≡◌, IfOk, map, subst}
 use Rattle.wf_def.specs.DefSeen.{output_tree}
 use Rattle.wf_meaning.specs.Meaning.{ending_of, table_of}
 use Rattle.wf_walk.specs.EndingSeen.{ending_tree}
-use Rattle.wf_walk.specs.declared.walking.Walked.{Walked}
+use Rattle.wf_machine.specs.declared.finished.Finished.{Finished}
 use Rattle.wf_machine.specs.Held.{Held, environment}
 use Rattle.wf_answers.specs.InputsSeen.{inputs_tree}
 use Rattle.wf_meaning.specs.Environment.{fresh}
@@ -27,6 +27,6 @@ gather-requires c =
 
 pub returns-clause-ending : goal.returns-clause-ending
 returns-clause-ending c =
-    subst (λ (h : Held). IfOk c.gather.result (λ (w : Walked). ending_tree w.ending
+    subst (λ (h : Held). IfOk c.gather.result (λ (f : Finished). ending_tree f.ending
     ≡ ending_of (map output_tree c.args.outputs.now) (environment h) h.actions
     (table_of (environment h) h.actions))) c.self.view_is c.gather.ensures.ending

@@ -2,7 +2,7 @@ use Rattle.std.proofs.Common.{◌≡◌, ◌++◌, map}
 use Rattle.std.specs.Vec.Iter.{into_iter_items}
 use Rattle.wf_record.specs.Seen.{row_tree}
 use Rattle.wf_walk.specs.Seen.{rows_there}
-use Rattle.wf_walk.proofs.walking.rows_there.Given as goal
+use Rattle.wf_walk.proofs.rows.rows_there.Given as goal
 
 -- the rows so far, and those that are left
 abbrev pub invariant-loop-row : goal.invariant-loop-row
