@@ -14,8 +14,8 @@ use Rattle.wf_record.specs.declared.row.Row.{Row}
 use Rattle.wf_meaning.specs.Definition.{ActionTree}
 use Rattle.wf_meaning.specs.Flat.{ended}
 use Rattle.wf_meaning.specs.Meaning.{instance, rows_from, row_then}
-use Rattle.wf_walk.specs.Seen.{row_at, row_content, rows_there}
-use Rattle.wf_walk.specs.Kept.{AreNamed}
+use Rattle.wf_acts.specs.Seen.{row_at, row_content, rows_there}
+use Rattle.wf_acts.specs.Kept.{AreNamed}
 use Rattle.wf_machine.specs.Cost.{kept_inputs, leaf_cost}
 use Rattle.wf_machine.specs.Held.{LeafAt}
 use Rattle.wf_machine.specs.Kept.{leaf_at, leaves_from, rows_present, running_at}

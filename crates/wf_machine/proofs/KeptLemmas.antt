@@ -26,8 +26,8 @@ use Rattle.wf_record.specs.declared.row.Row.{Row}
 use Rattle.wf_val.specs.Arguments.{Answer, seen}
 use Rattle.wf_meaning.specs.Definition.{ActionTree, action_name}
 use Rattle.wf_meaning.specs.Meaning.{instance}
-use Rattle.wf_walk.specs.Seen.{known_at, known_of, known_row, row_at, row_content, rows_there}
-use Rattle.wf_walk.specs.Kept.{AreNamed}
+use Rattle.wf_acts.specs.Seen.{known_at, known_of, known_row, row_at, row_content, rows_there}
+use Rattle.wf_acts.specs.Kept.{AreNamed}
 use Rattle.wf_machine.specs.Cost.{leaf_cost}
 use Rattle.wf_machine.specs.Held.{LeafAt, leaf_key, row_named, rows_in, running_in, running_tree, state_of}
 use Rattle.wf_machine.specs.Kept.{ArePriced, kept_state, leaf_at, leaves_from, phase_of, phases_of, rows_present, running_at, running_of}

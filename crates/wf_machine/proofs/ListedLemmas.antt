@@ -15,7 +15,7 @@ use Rattle.wf_record.specs.declared.row.Row.{Row}
 use Rattle.wf_meaning.specs.Definition.{ActionTree}
 use Rattle.wf_meaning.specs.Environment.{Environment}
 use Rattle.wf_meaning.specs.Flat.{graph_from, source}
-use Rattle.wf_walk.specs.Seen.{known_of, known_row}
+use Rattle.wf_acts.specs.Seen.{known_of, known_row}
 use Rattle.wf_machine.specs.Kept.{kept_state, phase_of, phases_of, running_tree_of, there}
 use Rattle.wf_machine.specs.Listed.{all_met, all_through, event_in, event_then, is_met, is_through, listed_from, phase_at}
 use Rattle.wf_machine.specs.Machine.{AreEnabled, event_key, instance_cmp}

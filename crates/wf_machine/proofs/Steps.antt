@@ -18,8 +18,8 @@ use Rattle.wf_meaning.specs.Flat.{begun, ended, graph_of, skipped, source}
 use Rattle.wf_meaning.specs.Meaning.{instance, table_of}
 use Rattle.wf_meaning.specs.Names.{names_before}
 use Rattle.wf_meaning.specs.Rounds.{all_end}
-use Rattle.wf_walk.specs.Seen.{known_of, row_at, row_content, rows_there}
-use Rattle.wf_walk.proofs.RowLemmas.{named_kept, none_named}
+use Rattle.wf_acts.specs.Seen.{known_of, row_at, row_content, rows_there}
+use Rattle.wf_acts.proofs.RowLemmas.{named_kept, none_named}
 use Rattle.wf_machine.specs.Cost.{first_cost, leaf_cost, rows_cost}
 use Rattle.wf_machine.specs.Held.{state_of}
 use Rattle.wf_machine.specs.Kept.{ArePriced, IsKept, kept_state, leaf_at, leaves_from, rows_present, running_of, running_tree_of}

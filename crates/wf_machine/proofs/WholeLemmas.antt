@@ -10,9 +10,9 @@ use Rattle.wf_meaning.specs.Laws.{RowsFromBefore}
 use Rattle.wf_meaning.specs.Meaning.{rows_of, table_of}
 use Rattle.wf_meaning.proofs.Instance.{within}
 use Rattle.wf_meaning.proofs.Marks.{is_there}
-use Rattle.wf_walk.specs.Seen.{row_at, rows_there}
-use Rattle.wf_walk.specs.Kept.{AreAll}
-use Rattle.wf_walk.proofs.RowLemmas.{rows_are}
+use Rattle.wf_acts.specs.Seen.{row_at, rows_there}
+use Rattle.wf_acts.specs.Kept.{AreAll}
+use Rattle.wf_acts.proofs.RowLemmas.{rows_are}
 use Rattle.wf_machine.specs.Kept.{IsKept, kept_state}
 use Rattle.wf_machine.specs.Machine.{IsOver}
 use Rattle.wf_machine.specs.declared.leaf.Leaf.{Leaf}

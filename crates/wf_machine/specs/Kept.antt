@@ -11,8 +11,8 @@ use Rattle.wf_meaning.specs.Definition.{ActionTree, action_name}
 use Rattle.wf_meaning.specs.Environment.{Environment}
 use Rattle.wf_meaning.specs.Names.{names_before}
 use Rattle.wf_meaning.specs.Rounds.{all_end}
-use Rattle.wf_walk.specs.Seen.{known_of, rows_there}
-use Rattle.wf_walk.specs.Kept.{AreNamed}
+use Rattle.wf_acts.specs.Seen.{known_of, rows_there}
+use Rattle.wf_acts.specs.Kept.{AreNamed}
 use Rattle.wf_machine.specs.Cost.{first_cost, leaf_cost}
 use Rattle.wf_machine.specs.Held.{LeafAt}
 use Rattle.wf_machine.specs.Listed.{listed_from}

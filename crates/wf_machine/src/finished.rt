@@ -6,14 +6,14 @@ ghost use Rattle.wf_def.specs.DefSeen.{output_tree};
 ghost use Rattle.wf_meaning.specs.Definition.{action_name};
 ghost use Rattle.wf_meaning.specs.Meaning.{ending_of, rows_of, table_of};
 ghost use Rattle.wf_meaning.specs.Rounds.{all_end};
-ghost use Rattle.wf_walk.specs.EndingSeen.{ending_tree};
-ghost use Rattle.wf_walk.specs.Kept.{AreAll};
-ghost use Rattle.wf_walk.specs.Seen.{action_tree, environment_of};
+ghost use Rattle.wf_acts.specs.EndingSeen.{ending_tree};
+ghost use Rattle.wf_acts.specs.Kept.{AreAll};
+ghost use Rattle.wf_acts.specs.Seen.{action_tree, environment_of};
 
 use std::alloc::{AllocError, Global};
+use wf_acts::{Action, Ending, Given, graph_status, outputs_of, rows_there, run_ending};
 use wf_def::Output;
 use wf_record::{Row, Rows};
-use wf_walk::{Action, Ending, Given, graph_status, outputs_of, rows_there, run_ending};
 
 /// What a run leaves that is over: the rows of its actions in the order of their addresses, how it ended, and what it gave out.
 #[derive(Drop)]

@@ -3,13 +3,13 @@ ghost use Rattle.std.specs.Prelude.{◌≡◌, IfOk, OnOk, OnErr, ◌++◌, [], 
 ghost use Rattle.wf_machine.specs.Listed.{all_met, all_through, event_in, event_then, is_met, is_through, listed_from, phase_at};
 ghost use Rattle.wf_machine.specs.Seen.{event_tree};
 ghost use Rattle.wf_meaning.specs.Statuses.{status_tree};
-ghost use Rattle.wf_walk.specs.Seen.{action_tree, need_tree};
+ghost use Rattle.wf_acts.specs.Seen.{action_tree, need_tree};
 
 use crate::event::{Event, EventKind, Events};
 use crate::phase::Phase;
 use std::alloc::{AllocError, Global};
+use wf_acts::{Action, After, is_listed};
 use wf_record::Status;
-use wf_walk::{Action, After, is_listed};
 
 // How far the action of a number is.
 fn phase_at(phases: &[Phase], action: usize) -> Phase

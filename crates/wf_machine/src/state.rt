@@ -10,12 +10,12 @@ ghost use Rattle.wf_meaning.specs.Definition.{action_name};
 ghost use Rattle.wf_meaning.specs.Environment.{fresh};
 ghost use Rattle.wf_def.specs.DefSeen.{output_tree};
 ghost use Rattle.wf_meaning.specs.Meaning.{ending_of, rows_of, table_of};
-ghost use Rattle.wf_walk.specs.EndingSeen.{ending_tree};
+ghost use Rattle.wf_acts.specs.EndingSeen.{ending_tree};
 ghost use Rattle.wf_meaning.specs.Names.{names_before};
 ghost use Rattle.wf_meaning.specs.Rounds.{all_end};
 ghost use Rattle.wf_record.specs.Seen.{row_tree};
 ghost use Rattle.wf_trigger.specs.StartsSeen.{start_tree};
-ghost use Rattle.wf_walk.specs.Seen.{action_tree, row_at, row_content};
+ghost use Rattle.wf_acts.specs.Seen.{action_tree, row_at, row_content};
 ghost use Rattle.wf_machine.specs.Cost.{cost, first_cost, leaf_cost, most_events, rows_cost};
 ghost use Rattle.wf_machine.specs.Kept.{ArePriced, leaves_from, price, there};
 ghost use Rattle.wf_machine.specs.Happened.{HasHappened};
@@ -32,12 +32,12 @@ use crate::phase::Phase;
 use crate::telling::{end_line, skip_line, start_line};
 use std::alloc::{AllocError, Global};
 use std::marker::Model;
+use wf_acts::{Action, Given, begin, end, skipped};
 use wf_answers::Inputs;
 use wf_def::Output;
 use wf_meaning::{a_graph_that_ends_is_an_instance, rows_come_from_before};
 use wf_record::{Row, row_cost};
 use wf_trigger::Start;
-use wf_walk::{Action, Given, begin, end, skipped};
 
 /// What has happened so far in a run, and what may happen next.
 #[derive(Drop)]
@@ -66,7 +66,7 @@ impl<'a> Model for State<'a> {
     ghost use Rattle.wf_answers.specs.InputsSeen.{inputs_tree};
     ghost use Rattle.wf_meaning.specs.Environment.{fresh};
     ghost use Rattle.wf_trigger.specs.StartsSeen.{start_tree};
-    ghost use Rattle.wf_walk.specs.Seen.{action_tree};
+    ghost use Rattle.wf_acts.specs.Seen.{action_tree};
     ghost use Rattle.wf_machine.specs.Kept.{IsKept, leaves_from, rows_present};
     ghost use Rattle.wf_machine.specs.Seen.{event_tree};
 

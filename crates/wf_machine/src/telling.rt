@@ -3,7 +3,7 @@ ghost use Rattle.std.specs.Prelude.{◌≡◌, ◌∷◌, ◌++◌, [], codes, I
 ghost use Rattle.wf_val.specs.Arguments.{seen};
 ghost use Rattle.wf_meaning.specs.Flat.{ended};
 ghost use Rattle.wf_meaning.specs.Meaning.{instance_of};
-ghost use Rattle.wf_walk.specs.Seen.{row_content};
+ghost use Rattle.wf_acts.specs.Seen.{row_content};
 ghost use Rattle.wf_machine.specs.Shown.{end_text, line_at, start_text};
 
 use std::alloc::{AllocError, Global};

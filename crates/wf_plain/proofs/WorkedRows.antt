@@ -45,7 +45,7 @@ abbrev kinds : Policy → List KindTree
 kinds policy =
     compose null ∷ (connector null policy ∷ (wait null ∷ (select null null ∷ (query null (plain []) ∷ (join null null ∷ (parse_json null
     ∷ (scope no_actions ∷ (branch some_test no_actions no_actions ∷ (switch (plain []) no_cases
-        ∷ (switch_else (plain []) no_cases no_actions
+    ∷ (switch_else (plain []) no_cases no_actions
     ∷ (foreach null 20 no_actions ∷ (until some_test 60 false no_actions ∷ []))))))))))))
 
 abbrev unjudged_kinds : List KindTree
@@ -123,29 +123,29 @@ check-nested = refl
 -- in any branch
 check-else : not_yet Purpose.Check (only (of_kind (branch some_test no_actions
     (action_then (at (codes "R") (codes "/actions/A/else/actions/R") [] (response null)) no_actions))))
-        ≡ Some (codes "/actions/A/else/actions/R")
+    ≡ Some (codes "/actions/A/else/actions/R")
 check-else = refl
 
 check-case : not_yet Purpose.Check (only (of_kind (switch (plain []) (case_then (codes "c") (value.text [])
     (action_then (at (codes "R") (codes "/actions/A/cases/c/actions/R") [] (response null)) no_actions) no_cases))))
-        ≡ Some (codes "/actions/A/cases/c/actions/R")
+    ≡ Some (codes "/actions/A/cases/c/actions/R")
 check-case = refl
 
 check-default : not_yet Purpose.Check (only (of_kind (switch_else (plain []) no_cases
     (action_then (at (codes "R") (codes "/actions/A/default/actions/R") [] (response null)) no_actions))))
-        ≡ Some (codes "/actions/A/default/actions/R")
+    ≡ Some (codes "/actions/A/default/actions/R")
 check-default = refl
 
 check-loops : not_yet Purpose.Check (only (of_kind (foreach null 1 (action_then
     (at (codes "U") (codes "/actions/A/actions/U") [] (until some_test 1 false (action_then
     (at (codes "V") (codes "/actions/A/actions/U/actions/V") [] (set_to [] null)) no_actions))) no_actions))))
-        ≡ Some (codes "/actions/A/actions/U/actions/V")
+    ≡ Some (codes "/actions/A/actions/U/actions/V")
 check-loops = refl
 
 -- the least by bytes, and not the first: a name with a slash comes behind those with letters
 least-escaped : not_yet Purpose.Run (definition (
     action_then (at (codes "a/") (codes "/actions/a~1") [] (wait null)) (action_then (at (codes "aa") (codes "/actions/aa") []
-        (wait null)) no_actions)))
+    (wait null)) no_actions)))
     ≡ Some (codes "/actions/aa")
 least-escaped = refl
 

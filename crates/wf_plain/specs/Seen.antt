@@ -2,7 +2,7 @@
 use Rattle.std.specs.Prelude.{ℕ, List, Option, map, option_map}
 use Rattle.wf_val.specs.NameOrder.{find_named}
 use Rattle.wf_def.specs.DefSeen.{output_tree, param_tree, trigger_tree}
-use Rattle.wf_walk.specs.Seen.{action_tree}
+use Rattle.wf_acts.specs.Seen.{action_tree}
 use Rattle.wf_plain.specs.Plain.{PlainTree}
 use Rattle.wf_plain.specs.declared.definition.Definition.{Definition}
 use Rattle.wf_plain.specs.declared.places.Place.{Place}

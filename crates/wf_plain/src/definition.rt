@@ -5,11 +5,11 @@ ghost use Rattle.wf_meaning.specs.Definition.{action_name};
 ghost use Rattle.wf_meaning.specs.Names.{names_before};
 ghost use Rattle.wf_meaning.specs.Rounds.{all_end};
 ghost use Rattle.wf_meaning.specs.ActionOrder.{in_name_order-prop};
-ghost use Rattle.wf_walk.specs.Seen.{action_tree};
+ghost use Rattle.wf_acts.specs.Seen.{action_tree};
 
+use wf_acts::Action;
 use wf_def::{Outputs, Params, Triggers};
 use wf_val::{Digest, Fields};
-use wf_walk::Action;
 
 /// A definition as runs take it. Its actions stand in byte order of their names. All of them end, since no `runAfter` has a cycle, and
 /// they ask only for rows of actions before them.

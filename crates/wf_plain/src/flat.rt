@@ -6,14 +6,14 @@ ghost use Rattle.wf_meaning.specs.Statuses.{status_tree};
 ghost use Rattle.wf_plain.specs.Flat.{flat, flat_action, inputs_of, need_at};
 ghost use Rattle.wf_plain.specs.Seen.{place_found};
 ghost use Rattle.wf_template.specs.DataSeen.{data_tree};
-ghost use Rattle.wf_walk.specs.Seen as walk;
+ghost use Rattle.wf_acts.specs.Seen as walk;
 
 use crate::places::{Places, place_found, places_of};
 use std::alloc::{AllocError, Global};
+use wf_acts::After;
 use wf_def::{Action, Kind, Statuses};
 use wf_record::Status;
 use wf_template::Tree;
-use wf_walk::After;
 
 // Lists a status, where it is on.
 fn list_where(listed: &mut Vec<Status>, on: bool, status: Status) -> Result<(), AllocError>
@@ -84,10 +84,10 @@ fn flat_action(
     places: &Places,
     count: usize,
     action: &Action,
-) -> Result<wf_walk::Action, AllocError>
+) -> Result<wf_acts::Action, AllocError>
     ensures { IfOk result (λ flat. walk.action_tree flat ≡ flat_action (place_found places.now) count (action_tree action.now)) }
 {
-    Ok(wf_walk::Action {
+    Ok(wf_acts::Action {
         name: action.name.copy(alloc)?,
         after: needs_at(alloc, places, count, action.after.as_slice())?,
         inputs: inputs_of(alloc, &action.kind)?,
@@ -98,7 +98,7 @@ fn flat_with(
     alloc: Global,
     places: &Places,
     tops: &[Action],
-) -> Result<Vec<wf_walk::Action>, AllocError>
+) -> Result<Vec<wf_acts::Action>, AllocError>
     ensures { IfOk result (λ flat. map walk.action_tree flat.items
         ≡ map (flat_action (place_found places.now) (length tops.now)) (map action_tree tops.now)) }
 {
@@ -110,7 +110,7 @@ fn flat_with(
 }
 
 /// The actions of the top graph, numbered by their places.
-pub(crate) fn flat_of(alloc: Global, tops: &[Action]) -> Result<Vec<wf_walk::Action>, AllocError>
+pub(crate) fn flat_of(alloc: Global, tops: &[Action]) -> Result<Vec<wf_acts::Action>, AllocError>
     ensures { IfOk result (λ actions. map walk.action_tree actions.items ≡ flat (map action_tree tops.now)) }
 {
     let places = places_of(alloc, tops)?;

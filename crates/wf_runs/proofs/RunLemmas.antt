@@ -43,7 +43,7 @@ run-has t = has-here t.events (record_line t.left) (summary_line t.left.run t.st
 text-some : (t : Told) (ts : List Told) → text_of (t ∷ ts) ≡ codes "# no run\n" → ⊥
 text-some t ts same =
     let has : has_bracket (text_of (t ∷ ts)) ≡ true =
-        list_any-append (λ x. nat_eq x 123) (run_text t) (runs_in_a_row ts) ∙ ap (λ e. e || has_bracket (runs_in_a_row ts)) (run-has t) in
+    list_any-append (λ x. nat_eq x 123) (run_text t) (runs_in_a_row ts) ∙ ap (λ e. e || has_bracket (runs_in_a_row ts)) (run-has t) in
     let hasnt : has_bracket (text_of (t ∷ ts)) ≡ false = ap has_bracket same in
     cc
 
@@ -90,9 +90,9 @@ module _ (d : DefinitionTree) (i : InputsTree) (schedule : List ℕ) (traced : B
     ss,
     refl,
     subst (λ rs. 67108864 < total_cost rs) (left-of ss)
-    (within-cases (told_of d i schedule traced ss)
-    (λ r. text_told r ≡ Err RunsFault.TooLarge → 67108864 < total_cost (records_left (told_of d i schedule traced ss)))
-    (λ fine e. absurd (cc)) (λ over e. over) said),
+        (within-cases (told_of d i schedule traced ss)
+        (λ r. text_told r ≡ Err RunsFault.TooLarge → 67108864 < total_cost (records_left (told_of d i schedule traced ss)))
+        (λ fine e. absurd (cc)) (λ over e. over) said),
   )
 
   fault-so : (starts : Result (List StartTree) TriggerFault) (f : TriggerFault) → text_from starts ≡ Err (RunsFault.Trigger f)
@@ -127,7 +127,7 @@ module _ (p : PlainTree) (i : InputsTree) (schedule : List ℕ) (traced : Bool) 
   too_large = (
     too_large-so p.definition i schedule traced starts,
     λ found. ap (text_from p.definition i schedule traced) found.1
-    ∙ written-past (told_from p.definition i schedule traced) found.0 found.2,
+        ∙ written-past (told_from p.definition i schedule traced) found.0 found.2,
   )
 
   pub fault_told : (f : TriggerFault)

@@ -87,7 +87,15 @@ fn all_written(
     let mut written = Written::new(alloc);
     for k in 0..starts.len() {
         let start = starts.start(alloc, k)?;
-        let ended = ended(alloc, definition, inputs, schedule, traced, start, written.cost)?;
+        let ended = ended(
+            alloc,
+            definition,
+            inputs,
+            schedule,
+            traced,
+            start,
+            written.cost,
+        )?;
         written = written.with(alloc, &ended)?;
     }
     Ok(written)

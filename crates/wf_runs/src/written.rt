@@ -50,6 +50,11 @@ fn with_run(alloc: Global, text: Vec<u8>, ended: &Ended) -> Result<Vec<u8>, Allo
     let mut more = text;
     more.extend_from_slice(&ended.trace)?;
     more.extend_from_slice(&record_line(alloc, &ended.record)?)?;
-    more.extend_from_slice(&summary_line(alloc, ended.record.run.as_str(), ended.steps, ended.peak)?)?;
+    more.extend_from_slice(&summary_line(
+        alloc,
+        ended.record.run.as_str(),
+        ended.steps,
+        ended.peak,
+    )?)?;
     Ok(more)
 }

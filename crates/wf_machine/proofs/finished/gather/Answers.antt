@@ -12,10 +12,10 @@ use Rattle.wf_meaning.specs.Meaning.{table_of}
 use Rattle.wf_meaning.specs.Status.{graph_status}
 use Rattle.wf_meaning.proofs.Ordered.{rows_ordered}
 use Rattle.wf_record.specs.declared.row.Row.{Row}
-use Rattle.wf_walk.specs.Seen.{action_tree, environment_of, known_of}
-use Rattle.wf_walk.proofs.RowLemmas.{rows_are, known_is}
-use Rattle.wf_walk.proofs.OutputLemmas.{told_same}
-use Rattle.wf_walk.proofs.StatusLemmas.{status_same}
+use Rattle.wf_acts.specs.Seen.{action_tree, environment_of, known_of}
+use Rattle.wf_acts.proofs.RowLemmas.{rows_are, known_is}
+use Rattle.wf_acts.proofs.OutputLemmas.{told_same}
+use Rattle.wf_acts.proofs.StatusLemmas.{status_same}
 use Rattle.wf_machine.proofs.finished.gather.Goals as goal
 
 -- the rows are the meaning's, which are in order

@@ -1,6 +1,6 @@
 use Rattle.std.proofs.Common.{◌≡◌, drop, map}
 use Rattle.wf_machine.specs.Listed.{all_through}
-use Rattle.wf_walk.specs.Seen.{need_tree}
+use Rattle.wf_acts.specs.Seen.{need_tree}
 use Rattle.wf_machine.proofs.listing.all_through.Given as goal
 
 -- what is left is as the whole, so far

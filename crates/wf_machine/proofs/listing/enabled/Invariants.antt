@@ -1,7 +1,7 @@
 use Rattle.std.proofs.Common.{◌≡◌, ◌++◌, drop, map}
 use Rattle.wf_machine.specs.Listed.{listed_from}
 use Rattle.wf_machine.specs.Seen.{event_tree}
-use Rattle.wf_walk.specs.Seen.{action_tree}
+use Rattle.wf_acts.specs.Seen.{action_tree}
 use Rattle.wf_machine.proofs.listing.enabled.Given as goal
 
 -- the events so far, and those of the actions that are left, are all

@@ -1,7 +1,7 @@
 use Rattle.std.proofs.Common.{◌≡◌, map, take}
 use Rattle.wf_plain.specs.Flat.{need_at}
 use Rattle.wf_plain.specs.Seen.{place_found}
-use Rattle.wf_walk.specs.Seen.{need_tree}
+use Rattle.wf_acts.specs.Seen.{need_tree}
 use Rattle.wf_plain.proofs.flat.needs_at.Given as goal
 
 abbrev pub invariant-loop-entry : goal.invariant-loop-entry

@@ -8,7 +8,7 @@ use Rattle.wf_meaning.specs.Rounds.{all_end}
 use Rattle.wf_def.specs.ActionTree.{actions_in}
 use Rattle.wf_def.specs.DefSeen.{output_tree, param_tree, trigger_tree}
 use Rattle.wf_reading.specs.ReadSeen.{def_tree}
-use Rattle.wf_walk.specs.Seen.{action_tree}
+use Rattle.wf_acts.specs.Seen.{action_tree}
 use Rattle.wf_meaning.specs.ActionOrder.{in_name_order-prop}
 use Rattle.wf_plain.specs.Flat.{flat}
 use Rattle.wf_plain.specs.Plain.{PlainTree}
@@ -28,7 +28,7 @@ invariant_of-result c =
       ends = ap all_end made ∙ ∥∥₁_elim c.always_read.ensures (Bool-set _ _) (λ read. c.all_actions_end.ensures d read);
       before = ap names_before made
           ∙ ∥∥₁_elim c.always_read.ensures (Bool-set _ _) (λ read. c.names_are_before.ensures d read c.always_checked.ensures.holds
-              c.requires);
+          c.requires);
     }
 
 pub returns : goal.returns
@@ -40,6 +40,10 @@ returns c =
       parameters = map param_tree c.args.checked.def.parameters;
       given = c.args.checked.def.given;
       triggers = map trigger_tree c.args.checked.def.triggers;
-      definition = record { digest = c.args.checked.def.digest.bytes; outputs = map output_tree c.args.checked.def.outputs; actions =
-          actions };
+      definition = record {
+        digest = c.args.checked.def.digest.bytes;
+        outputs = map output_tree c.args.checked.def.outputs;
+        actions =
+            actions;
+      };
     } in ap with_actions made

@@ -7,7 +7,7 @@ use Rattle.wf_answers.specs.InputsSeen.{inputs_tree}
 use Rattle.wf_meaning.specs.Environment.{fresh}
 use Rattle.wf_meaning.specs.Meaning.{table_of}
 use Rattle.wf_trigger.specs.StartsSeen.{start_tree}
-use Rattle.wf_walk.specs.Seen.{action_tree}
+use Rattle.wf_acts.specs.Seen.{action_tree}
 use Rattle.wf_machine.proofs.Steps.{get_seen, running_row, running_within_actions, there_some}
 use Rattle.wf_machine.proofs.TellingLemmas.{start_told}
 use Rattle.wf_machine.proofs.state.State.describe_start.Goals as goal

@@ -1,13 +1,13 @@
 use Rattle.std.proofs.Common.{◌≡◌, IfOk, map, subst}
 use Rattle.wf_def.specs.DefSeen.{output_tree}
 use Rattle.wf_meaning.specs.Meaning.{ending_of, table_of}
-use Rattle.wf_walk.specs.EndingSeen.{ending_tree}
+use Rattle.wf_acts.specs.EndingSeen.{ending_tree}
 use Rattle.wf_machine.specs.declared.finished.Finished.{Finished}
 use Rattle.wf_machine.specs.Held.{Held, environment}
 use Rattle.wf_answers.specs.InputsSeen.{inputs_tree}
 use Rattle.wf_meaning.specs.Environment.{fresh}
 use Rattle.wf_trigger.specs.StartsSeen.{start_tree}
-use Rattle.wf_walk.specs.Seen.{action_tree}
+use Rattle.wf_acts.specs.Seen.{action_tree}
 use Rattle.wf_machine.proofs.WholeLemmas.{all_there}
 use Rattle.wf_machine.proofs.state.State.finish.Goals as goal
 

@@ -1,6 +1,6 @@
 use Rattle.std.proofs.Common.{ap, length, ◌∙◌}
 use Rattle.std.proofs.lemmas.List.{length-map}
-use Rattle.wf_walk.specs.Seen.{action_tree}
+use Rattle.wf_acts.specs.Seen.{action_tree}
 use Rattle.wf_machine.specs.Kept.{leaves_from, rows_present}
 use Rattle.wf_machine.proofs.KeptLemmas.{no_leaves, none_present}
 use Rattle.wf_machine.proofs.Steps.{fresh_kept}

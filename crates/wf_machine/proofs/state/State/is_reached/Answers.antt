@@ -2,7 +2,7 @@ use Rattle.std.proofs.Common.{map}
 use Rattle.wf_answers.specs.InputsSeen.{inputs_tree}
 use Rattle.wf_meaning.specs.Environment.{fresh}
 use Rattle.wf_trigger.specs.StartsSeen.{start_tree}
-use Rattle.wf_walk.specs.Seen.{action_tree}
+use Rattle.wf_acts.specs.Seen.{action_tree}
 use Rattle.wf_machine.proofs.Reached.{part}
 use Rattle.wf_machine.proofs.Steps.{is_reached, seen_state}
 use Rattle.wf_machine.proofs.state.State.is_reached.Goals as goal

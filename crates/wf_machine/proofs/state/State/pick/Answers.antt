@@ -3,7 +3,7 @@ use Rattle.std.proofs.lemmas.List.{length-map}
 use Rattle.wf_answers.specs.InputsSeen.{inputs_tree}
 use Rattle.wf_meaning.specs.Environment.{fresh}
 use Rattle.wf_trigger.specs.StartsSeen.{start_tree}
-use Rattle.wf_walk.specs.Seen.{action_tree}
+use Rattle.wf_acts.specs.Seen.{action_tree}
 use Rattle.wf_machine.specs.Seen.{event_tree}
 use Rattle.wf_machine.proofs.Reached.{listed_enabled, some_listed}
 use Rattle.wf_machine.proofs.Steps.{all_enabled, get_seen, is_reached, seen_state}

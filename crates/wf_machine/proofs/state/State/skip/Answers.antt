@@ -5,7 +5,7 @@ use Rattle.wf_layers.specs.Machine.{Skip}
 use Rattle.wf_answers.specs.InputsSeen.{inputs_tree}
 use Rattle.wf_meaning.specs.Environment.{fresh}
 use Rattle.wf_trigger.specs.StartsSeen.{start_tree}
-use Rattle.wf_walk.specs.Seen.{action_tree}
+use Rattle.wf_acts.specs.Seen.{action_tree}
 use Rattle.wf_record.specs.Cost.{row_cost}
 use Rattle.wf_record.specs.Seen.{row_tree}
 use Rattle.wf_machine.specs.Kept.{IsKept, leaves_from, rows_present}

@@ -5,9 +5,9 @@ use Rattle.wf_layers.specs.Machine.{Start}
 use Rattle.wf_answers.specs.InputsSeen.{inputs_tree}
 use Rattle.wf_meaning.specs.Environment.{fresh}
 use Rattle.wf_trigger.specs.StartsSeen.{start_tree}
-use Rattle.wf_walk.specs.Seen.{action_tree}
+use Rattle.wf_acts.specs.Seen.{action_tree}
 use Rattle.wf_meaning.specs.Flat.{begun}
-use Rattle.wf_walk.specs.Seen.{known_of}
+use Rattle.wf_acts.specs.Seen.{known_of}
 use Rattle.wf_machine.specs.Kept.{IsKept, rows_present, leaves_from}
 use Rattle.wf_machine.specs.Machine.{Goes}
 use Rattle.wf_machine.specs.Seen.{event_tree}
