@@ -373,4 +373,3 @@ early_test : broken_of (of (
     at "U" 0 "/actions/U" [] (turns (truth (asked "variables" "v")) []) ∷ at "V" 1 "/actions/V" [] (init Sort.List) ∷ []))
     ≡ fault 12 "/actions/U"
 early_test = refl
-
