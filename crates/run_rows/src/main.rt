@@ -96,12 +96,7 @@ fn unescaped(alloc: Global, text: &str) -> Result<Vec<u8>, AllocError> {
 }
 
 // Holds a file, in the place of one that has its name.
-fn hold(
-    alloc: Global,
-    held: &mut Vec<Held>,
-    name: &str,
-    bytes: Vec<u8>,
-) -> Result<(), AllocError> {
+fn hold(alloc: Global, held: &mut Vec<Held>, name: &str, bytes: Vec<u8>) -> Result<(), AllocError> {
     held.retain(|file| file.name.as_str() != name);
     held.push(Held {
         name: Text::of(alloc, name)?,

@@ -1,6 +1,6 @@
 -- What the text of runs says of the runs that start.
 use Rattle.std.proofs.Common.{◌≡◌, ◌↔◌, ℕ, ◌<◌, ◌≤◌, Bool, true, false, ◌||◌, List, [], ◌∷◌, ◌++◌, Result, Ok, Err, cond, nat_eq, nat_le}
-use Rattle.std.proofs.Common.{codes, refl, sym, ap, subst, ◌∙◌, arith}
+use Rattle.std.proofs.Common.{codes, refl, ap, subst, ◌∙◌, arith}
 use Rattle.std.proofs.lemmas.Bool.Decides.{nat_tests}
 use Rattle.std.proofs.lemmas.List.Folds.{list_any-append}
 use Rattle.std.specs.List.{list_any}
@@ -17,7 +17,7 @@ use Rattle.wf_runs.specs.Runs.{runs_text, runs_told, started_told, text_told, to
 use Rattle.wf_runs.specs.Summary.{summary_line}
 use Rattle.wf_runs.specs.Text.{Told, records_left, run_text, runs_in_a_row, text_of, total_cost, within_cost}
 use Rattle.wf_runs.specs.declared.fault.RunsFault.{RunsFault}
-use Rattle.wf_runs.proofs.TextLemmas.{past, records-left, written-past}
+use Rattle.wf_runs.proofs.TextLemmas.{records-left, written-past}
 
 -- A record's line begins with a bracket, so each text of runs has one, and the line that says that there are none hasn't.
 abbrev has_bracket : List ℕ → Bool

@@ -1,6 +1,6 @@
 -- Runs that are written one after the other, and what they cost together.
-use Rattle.std.proofs.Common.{◌≡◌, ℕ, ◌+◌, ◌<◌, ◌≤◌, List, [], ◌∷◌, ◌++◌, length, map, drop, Option, Some, Result, Ok, Err, slice_get, nat_le}
-use Rattle.std.proofs.Common.{codes, sum_by, refl, sym, ap, subst, ◌∙◌, append_assoc, arith}
+use Rattle.std.proofs.Common.{◌≡◌, ℕ, ◌+◌, ◌<◌, ◌≤◌, List, ◌∷◌, ◌++◌, map, drop, Some, Ok, Err, slice_get, nat_le}
+use Rattle.std.proofs.Common.{sym, ap, subst, ◌∙◌, append_assoc, arith}
 use Rattle.std.proofs.lemmas.Bool.{cond-true, cond-false}
 use Rattle.std.proofs.lemmas.Bool.Decides.{nat_tests}
 use Rattle.std.proofs.lemmas.List.{at_drop_more}
@@ -11,7 +11,7 @@ use Rattle.std.proofs.lemmas.Simd.{map-map}
 use Rattle.wf_record.specs.Cost.{cost}
 use Rattle.wf_record.specs.Record.{RecordTree}
 use Rattle.wf_runs.specs.Runs.{text_told}
-use Rattle.wf_runs.specs.Text.{Told, records_left, run_text, runs_in_a_row, text_of, total_cost, within_cost}
+use Rattle.wf_runs.specs.Text.{Told, records_left, run_text, runs_in_a_row, total_cost, within_cost}
 use Rattle.wf_runs.specs.declared.fault.RunsFault.{RunsFault}
 
 pub text-append : (rs ss : List Told) → runs_in_a_row (rs ++ ss) ≡ runs_in_a_row rs ++ runs_in_a_row ss
@@ -37,20 +37,6 @@ module _ {S : Type 0} (told_at : S → Told) where
   -- the records of runs by their starts
   pub records-left : (starts : List S) → records_left (map told_at starts) ≡ map record_at starts
   records-left starts = map-map (λ t. t.left) told_at starts
-
-  pub written-none : (starts : List S) → length starts ≡ 0 → text_told (within_cost (map told_at starts)) ≡ Ok (codes "# no run\n")
-  written-none [] none = refl
-  written-none (s ∷ starts) none = absurd (omega (arith, none))
-
-  of-some : (starts : List S) → (length starts ≡ 0 → ⊥) → text_of (map told_at starts) ≡ runs_in_a_row (map told_at starts)
-  of-some [] some = absurd (some refl)
-  of-some (s ∷ starts) some = refl
-
-  pub written-some : (starts : List S) → (length starts ≡ 0 → ⊥) → total_cost (map record_at starts) ≤ 67108864
-      → text_told (within_cost (map told_at starts)) ≡ Ok (runs_in_a_row (map told_at starts))
-  written-some starts some le =
-      ap text_told (within (map told_at starts) (subst (λ rs. total_cost rs ≤ 67108864) (sym (records-left starts)) le))
-      ∙ ap Ok (of-some starts some)
 
   pub written-past : (starts : List S) → 67108864 < total_cost (map record_at starts)
       → text_told (within_cost (map told_at starts)) ≡ Err RunsFault.TooLarge

@@ -1,5 +1,5 @@
 -- Worked values: what is written of runs, when they cost too much together, and which runs of a definition are made.
-use Rattle.std.proofs.Common.{◌≡◌, ℕ, Bool, true, false, List, [], ◌∷◌, ◌++◌, Some, None, Option, Ok, Err, pos, replicate, refl}
+use Rattle.std.proofs.Common.{◌≡◌, ℕ, true, false, List, [], ◌∷◌, ◌++◌, Some, None, Option, Ok, Err, replicate, refl}
 use Rattle.std.specs.Fmt.{digits}
 use Rattle.std.specs.Prelude.{codes}
 use Rattle.wf_answers.specs.Inputs.{InputsTree}
@@ -10,7 +10,7 @@ use Rattle.wf_meaning.specs.Worked.{apart}
 use Rattle.wf_plain.specs.Plain.{PlainTree}
 use Rattle.wf_record.specs.Cost.{cost}
 use Rattle.wf_record.specs.Record.{RecordTree, RowTree, record_line}
-use Rattle.wf_record.specs.Worked.{at_rounds, empty, finished, object_of, number_of, list_of, row_of}
+use Rattle.wf_record.specs.Worked.{at_rounds, empty, finished, object_of, number_of, list_of}
 use Rattle.wf_record.specs.declared.status.RunStatus.{RunStatus}
 use Rattle.wf_record.specs.declared.status.Status.{Status}
 use Rattle.wf_run.specs.Scheduled.{lines_under, peak_under, steps_under}
@@ -23,7 +23,7 @@ use Rattle.wf_val.specs.declared.fault.EvalFault.{EvalFault}
 use Rattle.wf_val.specs.declared.function.Fun.{Fun}
 use Rattle.wf_runs.specs.Runs.{runs_text, text_told}
 use Rattle.wf_runs.specs.Summary.{summary_line}
-use Rattle.wf_runs.specs.Text.{Told, run_text, text_of, total_cost, within_cost}
+use Rattle.wf_runs.specs.Text.{Told, text_of, within_cost}
 use Rattle.wf_runs.specs.declared.fault.RunsFault.{RunsFault}
 
 -- ---- the summary line

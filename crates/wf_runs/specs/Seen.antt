@@ -1,7 +1,6 @@
 -- What is seen of a run that has ended, and a fault of the trigger or of a run as a fault of runs.
 use Rattle.wf_record.specs.Seen.{record_tree}
 use Rattle.wf_run.specs.declared.driving.DriveFault.{DriveFault}
-use Rattle.wf_run.specs.declared.driving.DriveFault as drive
 use Rattle.wf_run.specs.declared.run.Ended.{Ended}
 use Rattle.wf_trigger.specs.declared.fault.TriggerFault.{TriggerFault}
 use Rattle.wf_trigger.specs.declared.fault.TriggerFault.TheVariants.{Memory}
@@ -18,4 +17,4 @@ drive_fault DriveFault.Memory = RunsFault.Memory
 
 -- a run that has ended, as it is told
 abbrev pub told : Ended → Told
-told e = record { events = e.trace.items; left = record_tree e.«record»; steps = e.steps; peak = e.peak }
+told e = record { events = e.trace.items; left = record_tree e.finished; steps = e.steps; peak = e.peak }

@@ -12,7 +12,8 @@ ghost use Rattle.wf_trigger.specs.declared.fault.TriggerFault.{TriggerFault};
 
 /// Whatever the schedule, and traced or not, the same records are told of, or none for the same fault.
 pub fn each_schedule_leaves_the_same_records()
-    ensures { (p : PlainTree) (i : InputsTree) (schedule : List ℕ) (traced : Bool) → records_told (runs_told p i schedule traced) ≡ runs_records p i }
+    ensures { (p : PlainTree) (i : InputsTree) (schedule : List ℕ) (traced : Bool) →
+        records_told (runs_told p i schedule traced) ≡ runs_records p i }
 {}
 
 /// That no run starts is said exactly where none does.
@@ -23,8 +24,9 @@ pub fn no_run_is_said_where_none_starts()
 
 /// Runs are too large exactly where they can start and cost more than 2^26 together, whatever the schedule.
 pub fn runs_are_too_large_where_they_cost_more()
-    ensures { (p : PlainTree) (i : InputsTree) (schedule : List ℕ) (traced : Bool) → (runs_text p i schedule traced ≡ Err RunsFault.TooLarge)
-        ↔ ((starts : List StartTree) × (runs_of p.parameters p.given p.triggers i ≡ Ok starts) × (67108864 < total_cost (records_of p.definition i starts))) }
+    ensures { (p : PlainTree) (i : InputsTree) (schedule : List ℕ) (traced : Bool) →
+        (runs_text p i schedule traced ≡ Err RunsFault.TooLarge) ↔ ((starts : List StartTree)
+        × (runs_of p.parameters p.given p.triggers i ≡ Ok starts) × (67108864 < total_cost (records_of p.definition i starts))) }
 {}
 
 /// A fault of the trigger is told exactly where no run can start.

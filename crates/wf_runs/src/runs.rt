@@ -32,7 +32,8 @@ pub fn runs_text(
     schedule: &Schedule,
     traced: bool,
 ) -> Result<Vec<u8>, RunsFault>
-    ensures text { IfOk result (λ text. runs_text (definition_tree definition.now) (inputs_tree inputs.now) schedule.now traced ≡ Ok text.items) }
+    ensures text { IfOk result (λ text. runs_text (definition_tree definition.now) (inputs_tree inputs.now) schedule.now traced
+        ≡ Ok text.items) }
     ensures fault { IfErr result (λ f. f ≢ RunsFault.Memory
         → runs_text (definition_tree definition.now) (inputs_tree inputs.now) schedule.now traced ≡ Err f) }
 {
@@ -56,10 +57,10 @@ fn text_of(
     traced: bool,
     starts: &Starts,
 ) -> Result<Vec<u8>, RunsFault>
-    ensures text { IfOk result (λ text. text_told (within_cost
-        (told_of (definition_tree definition.now).definition (inputs_tree inputs.now) schedule.now traced (starts_seen starts.now))) ≡ Ok text.items) }
-    ensures fault { IfErr result (λ f. f ≢ RunsFault.Memory → text_told (within_cost
-        (told_of (definition_tree definition.now).definition (inputs_tree inputs.now) schedule.now traced (starts_seen starts.now))) ≡ Err f) }
+    ensures text { IfOk result (λ text. let d = (definition_tree definition.now).definition in
+        text_told (within_cost (told_of d (inputs_tree inputs.now) schedule.now traced (starts_seen starts.now))) ≡ Ok text.items) }
+    ensures fault { IfErr result (λ f. let d = (definition_tree definition.now).definition in f ≢ RunsFault.Memory
+        → text_told (within_cost (told_of d (inputs_tree inputs.now) schedule.now traced (starts_seen starts.now))) ≡ Err f) }
 {
     if starts.len() == 0 {
         return Ok(b"# no run\n".to_vec(alloc)?);
@@ -77,12 +78,13 @@ fn all_written(
     traced: bool,
     starts: &Starts,
 ) -> Result<Written, RunsFault>
-    ensures text { IfOk result (λ w. w.text.items
-        ≡ runs_in_a_row (told_of (definition_tree definition.now).definition (inputs_tree inputs.now) schedule.now traced (starts_seen starts.now))) }
-    ensures cost { IfOk result (λ w. w.cost ≡ total_cost (records_of (definition_tree definition.now).definition (inputs_tree inputs.now) (starts_seen starts.now))) }
+    ensures text { IfOk result (λ w. let d = (definition_tree definition.now).definition in
+        w.text.items ≡ runs_in_a_row (told_of d (inputs_tree inputs.now) schedule.now traced (starts_seen starts.now))) }
+    ensures cost { IfOk result (λ w. let d = (definition_tree definition.now).definition in
+        w.cost ≡ total_cost (records_of d (inputs_tree inputs.now) (starts_seen starts.now))) }
     ensures fault { IfErr result (λ f. f ≢ RunsFault.Memory → f ≡ RunsFault.TooLarge) }
-    ensures too_large { IfErr result (λ f. f ≢ RunsFault.Memory
-        → 67108864 < total_cost (records_of (definition_tree definition.now).definition (inputs_tree inputs.now) (starts_seen starts.now))) }
+    ensures too_large { IfErr result (λ f. let d = (definition_tree definition.now).definition in f ≢ RunsFault.Memory
+        → 67108864 < total_cost (records_of d (inputs_tree inputs.now) (starts_seen starts.now))) }
 {
     let mut written = Written::new(alloc);
     for k in 0..starts.len() {
@@ -112,12 +114,12 @@ fn ended(
     spent: u64,
 ) -> Result<Ended, RunsFault>
     requires { spent ≤ 67108864 }
-    ensures told { IfOk result (λ e. told e
-        ≡ told_under (definition_tree definition.now).definition schedule.now traced (fresh (start_tree start) (inputs_tree inputs.now))) }
-    ensures small { IfOk result (λ e. spent + cost (record_tree e.record) ≤ 67108864) }
+    ensures told { IfOk result (λ e. let d = (definition_tree definition.now).definition in
+        told e ≡ told_under d schedule.now traced (fresh (start_tree start) (inputs_tree inputs.now))) }
+    ensures small { IfOk result (λ e. spent + cost (record_tree e.finished) ≤ 67108864) }
     ensures fault { IfErr result (λ f. f ≢ RunsFault.Memory → f ≡ RunsFault.TooLarge) }
-    ensures too_large { IfErr result (λ f. f ≢ RunsFault.Memory
-        → 67108864 < spent + cost (meaning (definition_tree definition.now).definition (fresh (start_tree start) (inputs_tree inputs.now)))) }
+    ensures too_large { IfErr result (λ f. let d = (definition_tree definition.now).definition in f ≢ RunsFault.Memory
+        → 67108864 < spent + cost (meaning d (fresh (start_tree start) (inputs_tree inputs.now)))) }
 {
     let ended = run_under(
         alloc,

@@ -32,11 +32,11 @@ impl Written {
 
     /// And of one more, with which they don't cost too much.
     pub(crate) fn with(self, alloc: Global, ended: &Ended) -> Result<Self, AllocError>
-        requires { self.cost + cost (record_tree ended.now.record) ≤ 67108864 }
+        requires { self.cost + cost (record_tree ended.now.finished) ≤ 67108864 }
         ensures text { IfOk result (λ more. more.text.items ≡ self.text.items ++ run_text (told ended.now)) }
-        ensures cost { IfOk result (λ more. more.cost ≡ self.cost + cost (record_tree ended.now.record)) }
+        ensures cost { IfOk result (λ more. more.cost ≡ self.cost + cost (record_tree ended.now.finished)) }
     {
-        let cost = self.cost + ended.record.cost();
+        let cost = self.cost + ended.finished.cost();
         let text = with_run(alloc, self.text, ended)?;
         Ok(Written { text, cost })
     }
@@ -49,10 +49,10 @@ fn with_run(alloc: Global, text: Vec<u8>, ended: &Ended) -> Result<Vec<u8>, Allo
 {
     let mut more = text;
     more.extend_from_slice(&ended.trace)?;
-    more.extend_from_slice(&record_line(alloc, &ended.record)?)?;
+    more.extend_from_slice(&record_line(alloc, &ended.finished)?)?;
     more.extend_from_slice(&summary_line(
         alloc,
-        ended.record.run.as_str(),
+        ended.finished.run.as_str(),
         ended.steps,
         ended.peak,
     )?)?;

@@ -23,7 +23,7 @@ loop-k-preserved c =
     let start = start_tree c.in_ok-start.start in
     let left = cost-left told_at starts k start c.in_ok-start.ensures in
     let told = c.in_ok-ended.ensures.told in
-    let costs : cost (record_tree c.in_ok-ended.ended.«record») ≡ cost (told_at start).left = ap (λ (t : Told). cost t.left) told in
+    let costs : cost (record_tree c.in_ok-ended.ended.finished) ≡ cost (told_at start).left = ap (λ (t : Told). cost t.left) told in
     record {
       text =
           ap (λ done. done ++ runs_in_a_row (told_of d inputs schedule c.args.traced (drop (k + 1) starts)))
