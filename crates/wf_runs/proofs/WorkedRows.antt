@@ -1,10 +1,11 @@
 -- Worked values: what is written of runs, when they cost too much together, and which runs of a definition are made.
-use Rattle.std.proofs.Common.{◌≡◌, ℕ, true, false, List, [], ◌∷◌, ◌++◌, Some, None, Option, Ok, Err, replicate, refl}
+use Rattle.std.proofs.Common.{◌≡◌, ℕ, Bool, true, false, List, [], ◌∷◌, ◌++◌, Some, None, Option, Ok, Err, replicate, refl}
 use Rattle.std.specs.Fmt.{digits}
 use Rattle.std.specs.Prelude.{codes}
 use Rattle.wf_answers.specs.Inputs.{InputsTree}
 use Rattle.wf_def.specs.DefTree.{OutputTree, TriggerTree}
-use Rattle.wf_meaning.specs.Definition.{ActionTree}
+use Rattle.wf_meaning.specs.Definition.{ActionTree, DefinitionTree}
+use Rattle.wf_meaning.specs.Environment.{Environment, fresh}
 use Rattle.wf_meaning.specs.Meaning.{meaning}
 use Rattle.wf_meaning.specs.Worked.{apart}
 use Rattle.wf_plain.specs.Plain.{PlainTree}
@@ -17,11 +18,12 @@ use Rattle.wf_run.specs.Scheduled.{lines_under, peak_under, steps_under}
 use Rattle.wf_template.specs.DataTree as inputs
 use Rattle.wf_template.specs.ExprTree.{ExprTree, literal, call, expr_trees}
 use Rattle.wf_template.specs.TemplateTree.{TemplateTree, whole}
+use Rattle.wf_trigger.specs.Starts.{StartTree}
 use Rattle.wf_trigger.specs.declared.fault.TriggerFault.{TriggerFault}
 use Rattle.wf_val.specs.ValueTree.{ValueTree, null, text}
 use Rattle.wf_val.specs.declared.fault.EvalFault.{EvalFault}
 use Rattle.wf_val.specs.declared.function.Fun.{Fun}
-use Rattle.wf_runs.specs.Runs.{runs_text, text_told}
+use Rattle.wf_runs.specs.Runs.{runs_text, text_told, told_of, told_under}
 use Rattle.wf_runs.specs.Summary.{summary_line}
 use Rattle.wf_runs.specs.Text.{Told, text_of, within_cost}
 use Rattle.wf_runs.specs.declared.fault.RunsFault.{RunsFault}
@@ -147,6 +149,23 @@ within-none = refl
 within-told : within_cost (told (codes "# 1 Skip A\n") (costly 1048573 57) 1000 500 ∷ [])
     ≡ Ok (told (codes "# 1 Skip A\n") (costly 1048573 57) 1000 500 ∷ [])
 within-told = refl
+
+-- ---- runs under a schedule
+
+module _ (d : DefinitionTree) (schedule : List ℕ) where
+  -- Each run of a split begins the schedule anew, whichever came before.
+  anew-each : (i : InputsTree) (traced : Bool) (s t u : StartTree) → told_of d i schedule traced (s ∷ t ∷ u ∷ [])
+      ≡ told_under d schedule traced (fresh s i) ∷ told_under d schedule traced (fresh t i) ∷ told_under d schedule traced (fresh u i) ∷ []
+  anew-each i traced s t u = refl
+
+  -- Events are told where they are asked for, and steps and peak in any case.
+  told-traced : (e : Environment) → told_under d schedule true e
+      ≡ record { events = lines_under d e schedule; left = meaning d e; steps = steps_under d e schedule; peak = peak_under d e schedule }
+  told-traced e = refl
+
+  told-untraced : (e : Environment) → told_under d schedule false e
+      ≡ record { events = []; left = meaning d e; steps = steps_under d e schedule; peak = peak_under d e schedule }
+  told-untraced e = refl
 
 -- ---- the runs of a definition
 
