@@ -11,7 +11,9 @@
 mod driving;
 mod fault;
 mod reading;
+mod run;
 
 pub use driving::{DriveFault, Driven, drive};
 pub use fault::ScheduleFault;
 pub use reading::read_schedule;
+pub use run::{Ended, run_under};
