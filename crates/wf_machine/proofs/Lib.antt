@@ -1,4 +1,5 @@
 pub mod Keys
+pub mod PhaseLemmas
 pub mod ListedLemmas
 pub mod KeptLemmas
 pub mod Reached

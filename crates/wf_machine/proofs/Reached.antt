@@ -141,10 +141,9 @@ module _ (env : Environment) (actions : List ActionTree) (s : State) (shut : (x 
   pub skip_empty : (n : ℕ) → IsEnabled env actions s (Skip n []) → s.rows (address n []) ≡ None
   skip_empty n (s', (after, kind, decided, gate, next)) = decided.no_row
 
-  pub skip_goes : (n : ℕ) (r : record_of.Row) → r ≡ skipped → IsEnabled env actions s (Skip n [])
-      → Goes env actions s (Skip n []) (given_row s n r)
-  skip_goes n r is (s', (after, kind, decided, gate, next)) =
-      (after, kind, decided, gate, rw (is, block, without_none n s.running decided.not_running) refl)
+  -- an action that is passed over gets its row, and ran before as little as after
+  pub skip_gives : (n : ℕ) (s' : State) → Goes env actions s (Skip n []) s' → s' ≡ given_row s n skipped
+  skip_gives n s' (after, kind, decided, gate, next) = rw (next, block, without_none n s.running decided.not_running) refl
     where
       leaf : kind ≡ Leaf
       leaf = leaf_in 0 actions n after kind (is_in n [] after kind decided.is_there)
@@ -156,3 +155,7 @@ module _ (env : Environment) (actions : List ActionTree) (s : State) (shut : (x 
       block : skip (source env actions) n kind [] ≡ one n [] skipped
       block = subst (λ k. skip (source env actions) n k [] ≡ one n [] skipped) (sym leaf)
           (λ k x. same (nat_eq n x.name) (same_at [] x.at) k)
+
+  pub skip_goes : (n : ℕ) (r : record_of.Row) → r ≡ skipped → IsEnabled env actions s (Skip n [])
+      → Goes env actions s (Skip n []) (given_row s n r)
+  skip_goes n r is (s', goes) = subst (Goes env actions s (Skip n [])) (rw is (skip_gives n s' goes)) goes

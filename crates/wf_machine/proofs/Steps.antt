@@ -23,7 +23,7 @@ use Rattle.wf_acts.proofs.RowLemmas.{named_kept, none_named}
 use Rattle.wf_machine.specs.Cost.{first_cost, leaf_cost, rows_cost}
 use Rattle.wf_machine.specs.Held.{state_of}
 use Rattle.wf_machine.specs.Kept.{ArePriced, IsKept, kept_state, leaf_at, leaves_from, rows_present, running_of, running_tree_of}
-use Rattle.wf_machine.specs.Kept.{there}
+use Rattle.wf_machine.specs.Kept.{phases_of, there}
 use Rattle.wf_machine.specs.Listed.{listed_from}
 use Rattle.wf_machine.specs.Machine.{AreEnabled, Goes, IsEnabled, IsReached, State}
 use Rattle.wf_machine.specs.declared.leaf.Leaf.{Leaf}
@@ -33,6 +33,7 @@ use Rattle.wf_machine.proofs.CostLemmas.{covered, leaves_less, leaves_more, rows
 use Rattle.wf_machine.proofs.KeptLemmas.{all_idle, fresh_is, no_rows, none_priced, present_there, as_running, cost_placed, leaf_gone}
 use Rattle.wf_machine.proofs.KeptLemmas.{leaf_placed, phases_ended, phases_started, priced_ended, priced_started, row_placed, state_is}
 use Rattle.wf_machine.proofs.ListedLemmas.{are_enabled}
+use Rattle.wf_machine.proofs.PhaseLemmas.{kept_phases}
 use Rattle.wf_machine.proofs.Reached.{Instance, end_goes, end_running, facts, given_row, reaches, skip_empty, skip_goes, skip_within}
 use Rattle.wf_machine.proofs.Reached.{start_empty, start_goes, start_idle, start_within, started}
 
@@ -101,7 +102,8 @@ module _ (env : Environment) (actions : List ActionTree) (rows : List (Option Ro
   all_enabled =
       subst (λ s. AreEnabled env actions s listed) (sym same_state)
       (subst (AreEnabled env actions (kept_state rows leaves)) (sym (kept.listed_is ∙ ap (λ ps. listed_from ps 0 actions) kept.phased))
-      (are_enabled env actions rows leaves (kept.rows_size ∙ sym kept.leaves_size)))
+      (are_enabled env actions (kept_state rows leaves) (phases_of rows leaves) (λ x. refl)
+      (kept_phases rows leaves (kept.rows_size ∙ sym kept.leaves_size))))
 
   pub is_reached : IsReached env actions (seen_state actions rows leaves)
   is_reached = subst (IsReached env actions) (sym same_state) kept.reached

@@ -1,6 +1,7 @@
 //! The state of a run.
 ghost use Rattle.std.specs.Prelude.{◌≡◌, ◌<◌, ◌≤◌, ◌+◌, ◌%◌, [], None, Some, OnOk, OnErr, IfOk, true, false};
 ghost use Rattle.std.specs.Prelude.{length, map, option_map, replicate, set, slice_get, sum_by};
+ghost use Rattle.wf_lists.specs.KeyOrder.{IsInKeyOrder};
 ghost use Rattle.wf_val.specs.Cut.{cut_u64};
 ghost use Rattle.wf_val.specs.NameOrder.{IsInNameOrder};
 ghost use Rattle.wf_layers.specs.Address.{address};
@@ -19,8 +20,8 @@ ghost use Rattle.wf_acts.specs.Seen.{action_tree, row_at, row_content};
 ghost use Rattle.wf_machine.specs.Cost.{cost, first_cost, leaf_cost, most_events, rows_cost};
 ghost use Rattle.wf_machine.specs.Kept.{ArePriced, leaves_from, price, there};
 ghost use Rattle.wf_machine.specs.Happened.{HasHappened};
-ghost use Rattle.wf_machine.specs.Held.{Ended, Follows, HasEnabled, IsNew, MayHappen, Picked, environment, state};
-ghost use Rattle.wf_machine.specs.Machine.{ArePartOfTheMeaning, IsReached};
+ghost use Rattle.wf_machine.specs.Held.{Ended, Follows, HasEnabled, IsNew, MayHappen, Picked, environment, leaf_key, state};
+ghost use Rattle.wf_machine.specs.Machine.{ArePartOfTheMeaning, IsReached, instance_cmp};
 ghost use Rattle.wf_machine.specs.Seen.{event_tree};
 ghost use Rattle.wf_machine.specs.Shown.{shown};
 
@@ -289,6 +290,13 @@ impl<'a> State<'a> {
     {
         a_graph_that_ends_is_an_instance();
         rows_come_from_before();
+        let _ = &self.actions;
+    }
+
+    /// Each running action is listed once, in the order of instances.
+    pub fn is_listed(&self)
+        ensures { IsInKeyOrder instance_cmp leaf_key self.now.running }
+    {
         let _ = &self.actions;
     }
 

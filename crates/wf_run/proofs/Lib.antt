@@ -1,3 +1,6 @@
 pub mod LineLemmas
+pub mod RunningLemmas
+pub mod Progress
 pub mod TurnLemmas
+pub mod ScheduledLemmas
 mod WorkedRows

@@ -1,5 +1,6 @@
 -- What holds after each turn.
 use Rattle.std.proofs.Common.{◌≡◌, ℕ, suc, ◌+◌, ◌*◌, ◌≤◌, List, length, map, max, sum_by, refl, sym, ap, ◌∙◌, subst, arith}
+use Rattle.wf_layers.specs.Machine.{Event}
 use Rattle.wf_record.specs.Cost.{row_cost}
 use Rattle.wf_record.specs.Seen.{row_tree}
 use Rattle.wf_meaning.specs.Meaning.{rows_of}
@@ -9,10 +10,10 @@ use Rattle.wf_machine.proofs.CostLemmas.{leaves_cost_much, rows_cost_much}
 use Rattle.wf_run.specs.Turns.{After, Turn, start, turn}
 
 -- one turn more
-pub one_turn : (schedule : List ℕ) (first : Held) (k peak : ℕ) (h h' : Held) (n p : ℕ) → After schedule first k peak h
-    → Turn schedule k h h'
+pub one_turn : (schedule : List ℕ) (first : Held) (k peak : ℕ) (h h' : Held) (e : Event) (n p : ℕ) → After schedule first k peak h
+    → Turn schedule k h e h'
     → n ≡ k + 1 → p ≡ max peak (length h'.running) → After schedule first n p h'
-one_turn schedule first k peak h h' n p before t next most =
+one_turn schedule first k peak h h' e n p before t next most =
     subst (λ q. After schedule first n q h') (sym most) (subst (λ q. After schedule first q (max peak (length h'.running)) h') count
     (turn before t))
   where

@@ -79,11 +79,11 @@ lines_from actions rows k (e ∷ es) = event_line k (shown actions rows e) ++ li
 
 -- ---- of a definition
 
-abbrev pub steps_under : DefinitionTree → Environment → List ℕ → ℕ
+unfoldable pub steps_under : DefinitionTree → Environment → List ℕ → ℕ
 steps_under d env schedule = length (events_under env d.actions schedule)
 
-abbrev pub peak_under : DefinitionTree → Environment → List ℕ → ℕ
+unfoldable pub peak_under : DefinitionTree → Environment → List ℕ → ℕ
 peak_under d env schedule = most_running (table_of env d.actions) (all_idle d.actions) (events_under env d.actions schedule)
 
-abbrev pub lines_under : DefinitionTree → Environment → List ℕ → List ℕ
+unfoldable pub lines_under : DefinitionTree → Environment → List ℕ → List ℕ
 lines_under d env schedule = lines_from d.actions (table_of env d.actions) 1 (events_under env d.actions schedule)

@@ -15,7 +15,7 @@ ghost use Rattle.wf_walk.specs.Seen.{action_tree};
 ghost use Rattle.wf_run.specs.Limit.{most_cost};
 ghost use Rattle.wf_run.specs.Scheduled.{lines_under, peak_under, steps_under};
 
-use crate::driving::{DriveFault, drive};
+use crate::driving::{DriveFault, Driven, drive};
 use std::alloc::Global;
 use wf_answers::Inputs;
 use wf_def::Output;
@@ -51,7 +51,7 @@ pub fn run_under(
     requires ends { all_end (map action_tree actions.now) ≡ true }
     requires before { names_before (map action_tree actions.now) ≡ true }
     requires spent { spent ≤ most_cost }
-    ensures meant { IfOk result (λ e. record_tree e.record
+    ensures meant { IfOk result (λ e. record_tree e.finished
         ≡ meaning (record { digest = digest.bytes; outputs = map output_tree outputs.now; actions = map action_tree actions.now })
         (fresh (start_tree start) (inputs_tree inputs.now))) }
     ensures steps { IfOk result (λ e. e.steps
@@ -71,8 +71,13 @@ pub fn run_under(
         (fresh (start_tree start) (inputs_tree inputs.now)))) }
 {
     let state = State::fresh(alloc, &start, inputs, actions)?;
-    let driven = drive(alloc, state, schedule, spent, traced)?;
-    let left = driven.state.finish(alloc, outputs)?;
+    let Driven {
+        state,
+        steps,
+        peak,
+        trace,
+    } = drive(alloc, state, schedule, spent, traced)?;
+    let left = state.finish(alloc, outputs)?;
     let finished = Record {
         run: start.run,
         digest,
@@ -89,8 +94,8 @@ pub fn run_under(
     }
     Ok(Ended {
         finished,
-        steps: driven.steps,
-        peak: driven.peak,
-        trace: driven.trace,
+        steps,
+        peak,
+        trace,
     })
 }
