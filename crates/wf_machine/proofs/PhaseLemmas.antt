@@ -7,7 +7,7 @@ use Rattle.wf_layers.specs.Address.{address}
 use Rattle.wf_layers.specs.Machine.{Running}
 use Rattle.wf_record.specs.Record as record_of
 use Rattle.wf_record.specs.declared.row.Row.{Row}
-use Rattle.wf_walk.specs.Seen.{known_row}
+use Rattle.wf_acts.specs.Seen.{known_row}
 use Rattle.wf_machine.specs.Kept.{kept_state, phase_of, phases_of, running_tree_of, there}
 use Rattle.wf_machine.specs.Listed.{phase_at}
 use Rattle.wf_machine.specs.Machine.{State}

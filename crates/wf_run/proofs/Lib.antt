@@ -3,4 +3,6 @@ pub mod RunningLemmas
 pub mod Progress
 pub mod TurnLemmas
 pub mod ScheduledLemmas
+pub mod TraceLemmas
+pub mod RunLemmas
 mod WorkedRows

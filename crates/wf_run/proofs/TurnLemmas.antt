@@ -1,11 +1,13 @@
 -- What holds after each turn.
-use Rattle.std.proofs.Common.{◌≡◌, ℕ, suc, ◌+◌, ◌*◌, ◌≤◌, List, length, map, max, sum_by, refl, sym, ap, ◌∙◌, subst, arith}
+use Rattle.std.proofs.Common.{◌≡◌, ℕ, suc, ◌+◌, ◌*◌, ◌≤◌, List, length, map, max, sum_by, refl, sym, ap, ap₂, ◌∙◌, subst, arith}
 use Rattle.wf_layers.specs.Machine.{Event}
 use Rattle.wf_record.specs.Cost.{row_cost}
 use Rattle.wf_record.specs.Seen.{row_tree}
-use Rattle.wf_meaning.specs.Meaning.{rows_of}
+use Rattle.wf_meaning.specs.Environment.{fresh}
+use Rattle.wf_meaning.specs.Meaning.{rows_of, table_of}
 use Rattle.wf_machine.specs.Cost.{cost, first_cost, leaf_cost, most_events, rows_cost}
 use Rattle.wf_machine.specs.Held.{Held, environment}
+use Rattle.wf_machine.specs.Shown.{shown}
 use Rattle.wf_machine.proofs.CostLemmas.{leaves_cost_much, rows_cost_much}
 use Rattle.wf_run.specs.Turns.{After, Turn, start, turn}
 
@@ -43,3 +45,15 @@ cost_covers h = let rows = rows_cost_much h.rows in let running = leaves_cost_mu
 -- where all rows are there, they cost no more than the state
 pub whole_cost : (h : Held) → map row_tree h.rows ≡ rows_of (environment h) h.actions → rows_cost (environment h) h.actions ≤ cost h
 whole_cost h whole = let same = ap (sum_by row_cost) whole in omega (arith, same)
+
+-- and what it goes by
+pub same_going : (schedule : List ℕ) (first : Held) (k peak : ℕ) (h : Held) → After schedule first k peak h
+    → environment h ≡ environment first
+same_going schedule first k peak h turns = let r = same_run schedule first k peak h turns in ap₂ fresh r.1 r.2
+
+-- and what is told of an event
+pub same_told : (schedule : List ℕ) (first : Held) (k peak : ℕ) (h : Held) (e : Event) → After schedule first k peak h
+    → shown h.actions (table_of (environment h) h.actions) e ≡ shown first.actions (table_of (environment first) first.actions) e
+same_told schedule first k peak h e turns =
+    ap₂ (λ env actions. shown actions (table_of env actions) e) (same_going schedule first k peak h turns)
+    (same_run schedule first k peak h turns).0

@@ -69,7 +69,7 @@ most_running rows phases (e ∷ es) =
     max (running_among (phases_after rows phases e)) (most_running rows (phases_after rows phases e) es)
 
 -- an event's line: its number, what is told of it, and a line feed
-abbrev pub event_line : ℕ → List ℕ → List ℕ
+unfoldable pub event_line : ℕ → List ℕ → List ℕ
 event_line k told = codes "# " ++ decimal k ++ 32 ∷ told ++ 10 ∷ []
 
 -- the lines of events that are counted from k on

@@ -1,8 +1,10 @@
 -- A run under a schedule.
-use Rattle.std.specs.Prelude.{◌≡◌, ℕ, zero, suc, List, length, max, slice_index_or}
+use Rattle.std.specs.Prelude.{◌≡◌, ℕ, zero, suc, List, length, max, slice_index_or, true}
 use Rattle.wf_lists.specs.KeyOrder.{IsInKeyOrder}
 use Rattle.wf_layers.specs.Machine.{Event}
-use Rattle.wf_machine.specs.Held.{Held, Follows, Picked, leaf_key}
+use Rattle.wf_meaning.specs.Names.{names_before}
+use Rattle.wf_meaning.specs.Rounds.{all_end}
+use Rattle.wf_machine.specs.Held.{Held, Follows, IsNew, Picked, leaf_key}
 use Rattle.wf_machine.specs.Machine.{instance_cmp}
 
 -- Turn k takes the enabled event at the place that the schedule has for it, counted around, in the order of instances; after the
@@ -17,3 +19,9 @@ pub data After (schedule : List ℕ) (first : Held) : ℕ → ℕ → Held → T
   start : After schedule first 0 0 first
   turn : {k peak : ℕ} {h h' : Held} {event : Event} → After schedule first k peak h → Turn schedule k h event h'
       → After schedule first (suc k) (max peak (length h'.running)) h'
+
+-- The first state of a run of actions that can be run.
+pub record Begins (first : Held) : Type 0 where
+  pub new : IsNew first
+  pub ends : all_end first.actions ≡ true
+  pub before : names_before first.actions ≡ true

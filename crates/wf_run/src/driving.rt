@@ -11,6 +11,7 @@ ghost use Rattle.wf_run.specs.Limit.{most_cost};
 ghost use Rattle.wf_run.specs.Scheduled.{all_idle, event_line, events_under, lines_from, most_running};
 ghost use Rattle.wf_run.specs.Turns.{After, Turn};
 
+use crate::laws::a_schedule_leads_one_run;
 use std::alloc::{AllocError, Global};
 use wf_machine::{Event, State};
 use wf_val::Schedule;
@@ -60,6 +61,7 @@ fn is_too_large(state: &State, spent: u64) -> bool
     requires { spent ≤ most_cost }
     ensures large { result ≡ true → most_cost < spent + rows_cost (environment state.now) state.now.actions }
     ensures small { result ≡ false → spent + cost state.now ≤ most_cost }
+    ensures bound { cost state.now ≤ rows_cost (environment state.now) state.now.actions }
 {
     state.cost() > 67108864 - spent
 }
@@ -111,12 +113,8 @@ fn note(
 }
 
 // Adds a line: a number, what is told, and a line feed.
-fn add_line(
-    alloc: Global,
-    trace: &mut Vec<u8>,
-    number: u64,
-    told: &[u8],
-) -> Result<(), AllocError>
+#[tactic(auto, unfolding(crate::specs::Scheduled::event_line), using(std::proofs::Common::append_assoc))]
+fn add_line(alloc: Global, trace: &mut Vec<u8>, number: u64, told: &[u8]) -> Result<(), AllocError>
     ensures { OnOk result (trace.new.items ≡ trace.old.items ++ event_line number told.now) }
 {
     let front = format!(in alloc; "# {} ", number)?;
@@ -148,10 +146,13 @@ pub fn drive<'a>(
         (lines_from state.entry.actions (table_of (environment state.entry) state.entry.actions) 1
         (events_under (environment state.entry) state.entry.actions schedule.now)) []) }
     ensures few { IfOk result (λ d. 64 + 32 * d.steps ≤ cost d.state) }
+    ensures paid { IfOk result (λ d. 64 + 32 * d.steps ≤ rows_cost (environment state.entry) state.entry.actions) }
     ensures small { IfOk result (λ d. spent + rows_cost (environment state.entry) state.entry.actions ≤ most_cost) }
     ensures large { IfErr result (λ f. f ≢ DriveFault.Memory
         → most_cost < spent + rows_cost (environment state.entry) state.entry.actions) }
 {
+    a_schedule_leads_one_run();
+    state.is_reached();
     let mut state = state;
     let mut steps: u64 = 0;
     let mut peak: u64 = 0;

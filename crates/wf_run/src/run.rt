@@ -1,5 +1,5 @@
 //! A run as a whole: what it leaves, and how it went under a schedule.
-ghost use Rattle.std.specs.Prelude.{◌≡◌, ◌≢◌, ◌+◌, ◌*◌, ◌<◌, ◌≤◌, [], IfErr, IfOk, OnOk, cond, map, true};
+ghost use Rattle.std.specs.Prelude.{◌≡◌, ◌≢◌, ◌+◌, ◌*◌, ◌<◌, ◌≤◌, [], IfErr, IfOk, OnOk, cond, false, map, true};
 ghost use Rattle.wf_val.specs.NameOrder.{IsInNameOrder};
 ghost use Rattle.wf_answers.specs.InputsSeen.{inputs_tree};
 ghost use Rattle.wf_def.specs.DefSeen.{output_tree};
@@ -11,19 +11,19 @@ ghost use Rattle.wf_meaning.specs.Rounds.{all_end};
 ghost use Rattle.wf_record.specs.Cost.{cost};
 ghost use Rattle.wf_record.specs.Seen.{record_tree};
 ghost use Rattle.wf_trigger.specs.StartsSeen.{start_tree};
-ghost use Rattle.wf_walk.specs.Seen.{action_tree};
+ghost use Rattle.wf_acts.specs.Seen.{action_tree};
 ghost use Rattle.wf_run.specs.Limit.{most_cost};
 ghost use Rattle.wf_run.specs.Scheduled.{lines_under, peak_under, steps_under};
 
 use crate::driving::{DriveFault, Driven, drive};
 use std::alloc::Global;
+use wf_acts::Action;
 use wf_answers::Inputs;
 use wf_def::Output;
 use wf_machine::State;
 use wf_record::Record;
 use wf_trigger::Start;
 use wf_val::{Digest, Schedule, Val};
-use wf_walk::Action;
 
 /// A run that has ended: its record, how many events it had, how many actions were running at a time at most, and its event lines.
 #[derive(Drop)]
@@ -32,6 +32,15 @@ pub struct Ended {
     pub steps: u64,
     pub peak: u64,
     pub trace: Vec<u8>,
+}
+
+// Whether a run's record costs too much, where others cost `spent`.
+fn is_too_large(finished: &Record, spent: u64) -> bool
+    requires { spent ≤ most_cost }
+    ensures large { result ≡ true → most_cost < spent + cost (record_tree finished.now) }
+    ensures small { result ≡ false → spent + cost (record_tree finished.now) ≤ most_cost }
+{
+    finished.cost() > 67108864 - spent
 }
 
 /// Makes a run under a schedule, where other runs have cost `spent`: its record is the definition's meaning, whatever the schedule. Where
@@ -89,7 +98,7 @@ pub fn run_under(
         outputs: left.ending.outputs,
         rows: left.rows,
     };
-    if finished.cost() > 67108864 - spent {
+    if is_too_large(&finished, spent) {
         return Err(DriveFault::TooLarge);
     }
     Ok(Ended {
