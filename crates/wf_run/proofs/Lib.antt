@@ -6,3 +6,4 @@ pub mod ScheduledLemmas
 pub mod TraceLemmas
 pub mod RunLemmas
 mod WorkedRows
+mod WorkedRuns
