@@ -80,7 +80,7 @@ module _ (t : Table Row) where
   each_from n [] r among = absurd among
   each_from n (a ∷ more) r among =
       ⊎_elim first (λ among'. later (each_from (suc n) more r among')) (first_or_later n a (t (address n [])) (rows_from t
-          (suc n) more) r among)
+      (suc n) more) r among)
     where
       first : (row : Row) × (t (address n []) ≡ Some row) × (r ≡ record { address = instance a; row = row }) → IsRowOf n (a ∷ more) r
       first own = rw own.2 (0, a, refl, refl, ap (λ m. t (address m [])) (omega arith) ∙ own.1)
@@ -115,15 +115,15 @@ stand_for env actions = record {
     there : (m : ℕ) (row : Row) (found : Option ActionTree) → slice_get actions m ≡ found → is_some found ≡ true
         → table_of env actions (address m []) ≡ Some row →
         (n : ℕ) × (a : ActionTree) × (slice_get actions n ≡ Some a) × (address m [] ≡ address n [])
-            × Among (rows_of env actions) (record { address = instance a; row = row })
+        × Among (rows_of env actions) (record { address = instance a; row = row })
     there m row None is some at = absurd (true≢false (sym some))
     there m row (Some a) is some at = (m, a, is, refl, all_from (table_of env actions) 0 actions m m a row (omega arith) is at)
 
     every : (x : layered.Address) (row : Row) → table_of env actions x ≡ Some row →
         (n : ℕ) × (a : ActionTree) × (slice_get actions n ≡ Some a) × (x ≡ address n [])
-            × Among (rows_of env actions) (record { address = instance a; row = row })
+        × Among (rows_of env actions) (record { address = instance a; row = row })
     every x row is =
         let own = only_actions env actions x.name x.at row is in
         let outside : x ≡ address x.name [] = ap (address x.name) own.1 in
         rw outside (there x.name row (slice_get actions x.name) refl own.0 (subst (λ at. table_of env actions (address x.name at)
-            ≡ Some row) own.1 is))
+        ≡ Some row) own.1 is))

@@ -70,7 +70,7 @@ module _ (values : ValuesAreLocal) (env : Environment) (actions : List ActionTre
       → begun env actions t (slice_get actions n) ≡ begun env actions u (slice_get actions n)
   begun_same n a is t u same =
       rw is (ap (λ r. (r 0).0) (values (told_at env actions a.name t) (told_at env actions a.name u) a.inputs (agree_all n a.name t u same
-          (tree_uses a.inputs) (named_at n a is))))
+      (tree_uses a.inputs) (named_at n a is))))
 
   start_local : (n : ℕ) (a : ActionTree) → slice_get actions n ≡ Some a → (i : List ℕ) → length i ≡ 0 → (t u : Table Row)
       → Agrees (SeenIn (graph_of actions)) (address n i) t u →

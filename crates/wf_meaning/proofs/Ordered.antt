@@ -36,14 +36,14 @@ module _ (known : Table Row) where
   below_rows a n [] all = tt
   below_rows a n (b ∷ more) all =
       then_below (instance a) (instance b) (known (address n [])) (rows_from known (suc n) more) (below_instance a b all.0) (below_rows a
-          (suc n) more all.1)
+      (suc n) more all.1)
 
   ordered_from : (n : ℕ) (actions : List ActionTree) → IsInNameOrder action_name actions
       → IsInKeyOrder address_cmp address_of (rows_from known n actions)
   ordered_from n [] order = tt
   ordered_from n (a ∷ more) order =
       then_ordered (instance a) (known (address n [])) (rows_from known (suc n) more) (below_rows a (suc n) more order.0) (ordered_from
-          (suc n) more order.1)
+      (suc n) more order.1)
 
 pub rows_ordered : (env : Environment) (actions : List ActionTree) → IsInNameOrder action_name actions →
     IsInKeyOrder address_cmp address_of (rows_of env actions)

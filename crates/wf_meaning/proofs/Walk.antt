@@ -38,7 +38,7 @@ module _ (env : Environment) (actions : List ActionTree) where
   look_at known n [] m a is at = absurd (true≢false (sym (ap is_some is)))
   look_at known n (b ∷ later_ones) m a is at =
       ⊎_elim here (λ other. later other (look_at known (suc n) later_ones m a (subst (λ t. cond t (Some b) (numbered (suc n) later_ones m)
-          ≡ Some a) other is) at)) (two (nat_eq n m))
+      ≡ Some a) other is) at)) (two (nat_eq n m))
     where
       here : nat_eq n m ≡ true → look (source env actions) (graph_from n (b ∷ later_ones)) [] known (address m [])
           ≡ Some (row_in env actions known a)
@@ -71,9 +71,9 @@ module _ (values : ValuesAreLocal) (env : Environment) (actions : List ActionTre
       → row_in env actions t a ≡ row_in env actions u a
   row_same n a is t u same =
       let gates : needs_met a.after t ≡ needs_met a.after u = met_same t u a.after (λ p names. same p (next
-          (needed actions all n p a is names))) in
+      (needed actions all n p a is names))) in
       let starts : begun env actions t (Some a) ≡ begun env actions u (Some a) = subst (λ found. begun env actions t found
-          ≡ begun env actions u found) is (begun_same values env actions all named n a is t u same) in
+      ≡ begun env actions u found) is (begun_same values env actions all named n a is t u same) in
       ap (λ b. cond b (ended (begun env actions t (Some a))) skipped) gates ∙ ap (λ r. cond (needs_met a.after u) (ended r) skipped) starts
 
   -- the row that an action has in rows which are the meaning's where it looks
@@ -81,7 +81,7 @@ module _ (values : ValuesAreLocal) (env : Environment) (actions : List ActionTre
       → AlikeBefore actions n known (table_of env actions) → table_of env actions (address n []) ≡ Some (row_in env actions known a)
   row_is n a is known same =
       meaning_obeys_the_rule (graph_of actions) (source env actions) (depth_of actions) (falls actions all)
-          (local values env actions all named) (address n []) (within actions all n (ap is_some is))
+      (local values env actions all named) (address n []) (within actions all n (ap is_some is))
       ∙ (look_at env actions (table_of env actions) 0 actions n a (numbered_is actions n ∙ is) is
       ∙ ap (λ r. Some r) (sym (row_same n a is known (table_of env actions) same)))
 
@@ -101,4 +101,4 @@ module _ (values : ValuesAreLocal) (env : Environment) (actions : List ActionTre
         → is_some (known (address p [])) ≡ true) → table_of env actions (address n []) ≡ Some (row_in env actions known a)
     step n a is ready =
         row_is n a is known (λ p before. same_there p (known (address p [])) refl (before_there p n before (λ q names. ready q (subst
-            (λ needs. Names needs q) (needs_at actions all n ∙ ap after_in is) names))))
+        (λ needs. Names needs q) (needs_at actions all n ∙ ap after_in is) names))))

@@ -321,8 +321,12 @@ ending-both : (ending Failed (Err (EvalFault.NoValue (codes "Z")))).error ≡ ou
 ending-both = refl
 
 -- a whole record: what it was started with, its rows, and what it gives out
-record-started : meaning (record { digest = 1 ∷ []; outputs = output (codes "o") (whole_of (call_of (codes "outputs") (text (codes "A"))))
-    ∷ []; actions = told_of_start }) triggered ≡ record {
+record-started : meaning (record {
+  digest = 1 ∷ [];
+  outputs = output (codes "o") (whole_of (call_of (codes "outputs") (text (codes "A"))))
+      ∷ [];
+  actions = told_of_start;
+}) triggered ≡ record {
   run = codes "r";
   digest = 1 ∷ [];
   trigger = object (members ((codes "name", text (codes "t")) ∷ (codes "outputs", number (pos 3)) ∷ []));

@@ -12,5 +12,5 @@ in_name_order-prop [] = Unit-prop
 in_name_order-prop (a ∷ actions) =
     ×_prop
     (AllByRecursion-prop (λ b. bytes_cmp (action_name a) (action_name b) ≡ Less) (λ b. Ordering-set (bytes_cmp (action_name a)
-        (action_name b)) Less) actions)
+    (action_name b)) Less) actions)
     (in_name_order-prop actions)

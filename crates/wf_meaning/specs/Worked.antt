@@ -106,7 +106,7 @@ untriggered run = fresh (start_for run) (inputs_for run)
 abbrev pub met_at : List Status → List Bool
 met_at listed =
     map (λ status. all_met (source (untriggered []) single) (need 0 listed ∷ []) [] (statuses (status ∷ []))) (Succeeded ∷ (Failed
-        ∷ (Skipped ∷ (TimedOut ∷ (Cancelled ∷ [])))))
+    ∷ (Skipped ∷ (TimedOut ∷ (Cancelled ∷ [])))))
 
 -- an expression as the inputs of an action
 abbrev pub whole_of : ExprTree → inputs.DataTree
@@ -187,8 +187,13 @@ second = fresh (record (start_for (codes "r-1")) { seed = codes "s-1" }) (record
 
 -- A was done anew with another seed.
 abbrev pub reseeded : Environment
-reseeded = record seeded { layers = record { redone = bytes_eq (codes "A"); inputs = record (inputs_for
-    (codes "r2")) { seed = codes "t" } } ∷ [] }
+reseeded = record seeded {
+  layers = record {
+    redone = bytes_eq (codes "A");
+    inputs = record (inputs_for
+        (codes "r2")) { seed = codes "t" };
+  } ∷ [];
+}
 
 -- ---- the section `outputs`
 

@@ -84,7 +84,7 @@ pub fn the_last_layer_counts()
         → facts_of e name ≡ first_facts e }
     ensures one { (e : Environment) (name : List ℕ) (earlier later : List Layer) (layer : Layer) → e.layers ≡ earlier ++ layer ∷ later
         → layer.redone name ≡ true → list_any (λ (other : Layer). other.redone name) later ≡ false
-            → facts_of e name ≡ layer_facts layer.inputs }
+        → facts_of e name ≡ layer_facts layer.inputs }
     ensures last { (e : Environment) (earlier : List Layer) (layer : Layer) → e.layers ≡ earlier ++ layer ∷ []
         → last_facts e ≡ layer_facts layer.inputs }
 {}
