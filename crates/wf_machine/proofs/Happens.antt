@@ -2,9 +2,9 @@
 use Rattle.std.proofs.Common.{◌≡◌, ◌≢◌, ◌∙◌, ◌||◌, ◌&&◌, ℕ, cond, List, Ok, Err, Some, None, refl, ap, [], slice_get}
 use Rattle.wf_val.specs.Arguments.{Answer}
 use Rattle.wf_layers.specs.Address.{Table, address, same_at}
-use Rattle.wf_layers.specs.Definition.{Kind}
+use Rattle.wf_layers.specs.Definition.{Kind, shows}
 use Rattle.wf_layers.specs.Machine.{Running, Start, End, Skip, one, or_else, place}
-use Rattle.wf_layers.specs.Meaning.{only, shows, skip}
+use Rattle.wf_layers.specs.Meaning.{only, skip}
 use Rattle.wf_layers.proofs.Tables.{own_self}
 use Rattle.wf_layers.proofs.Basics.{same_self, same_self_at}
 use Rattle.wf_record.specs.Record.{Row}

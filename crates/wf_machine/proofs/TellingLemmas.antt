@@ -38,12 +38,13 @@ module _ (actions : List ActionTree) (t : Table Row) (n : ℕ) (a : ActionTree) 
 
   -- ---- the same, with the name spelled out
 
-  pub start_spelled : (r : Row) → t (address n []) ≡ Some r → shown actions t (Start n [])
-      ≡ codes "Start " ++ a.name ++ codes " " ++ start_text r
-  start_spelled r row = sym (start_told r row) ∙ ap (λ k. codes "Start " ++ k ++ codes " " ++ start_text r) (append-nil a.name)
+  pub start_spelled : (r : Row) → t (address n []) ≡ Some r
+      → shown actions t (Start n []) ≡ (codes "Start " ++ a.name) ++ (codes " " ++ start_text r)
+  start_spelled r row = sym (start_told r row) ∙ line_is (codes "Start") a.name (32 ∷ start_text r)
 
-  pub end_spelled : (r : Row) → t (address n []) ≡ Some r → shown actions t (End n []) ≡ codes "End " ++ a.name ++ codes " " ++ end_text r
-  end_spelled r row = sym (end_told r row) ∙ ap (λ k. codes "End " ++ k ++ codes " " ++ end_text r) (append-nil a.name)
+  pub end_spelled : (r : Row) → t (address n []) ≡ Some r
+      → shown actions t (End n []) ≡ (codes "End " ++ a.name) ++ (codes " " ++ end_text r)
+  end_spelled r row = sym (end_told r row) ∙ line_is (codes "End") a.name (32 ∷ end_text r)
 
   pub skip_spelled : shown actions t (Skip n []) ≡ codes "Skip " ++ a.name
   skip_spelled = sym skip_told ∙ bare_line (codes "Skip") a.name

@@ -16,7 +16,7 @@ action_at-entry-requires c =
     let env = fresh (start_tree s.start.now) (inputs_tree s.inputs.now) in
     let trees = map action_tree s.actions.now in
     let has = rw (← c.self.view_is) at c.requires in
-    let lt = row_within_actions _ _ _ _ _ _ _ c.self.invariant c.args.action has.0 has.1.0 in
+    let lt = row_within_actions _ _ _ _ _ _ _ c.self.invariant c.args.action has.0 has.1 in
     let size = c.self.invariant.rows_size in
     let same = length-map s.actions.now action_tree in omega (arith, lt, same, size)
 
