@@ -4,12 +4,12 @@ use Rattle.std.proofs.Common.{Option, Some, None, slice_get, nat_eq, eqb-true, i
 use Rattle.std.proofs.lemmas.List.{length-replicate}
 use Rattle.std.proofs.lemmas.Option.{none-some}
 use Rattle.wf_val.specs.Arguments.{Answer}
-use Rattle.wf_layers.specs.Address.{Address, Table, address}
+use Rattle.wf_layers.specs.Address.{Address, address}
 use Rattle.wf_layers.specs.Machine as machine
-use Rattle.wf_layers.specs.Machine.{or_else, one, place}
+use Rattle.wf_layers.specs.Machine.{or_else, one}
 use Rattle.wf_layers.specs.Meaning.{only}
 use Rattle.wf_layers.proofs.Tables.{own_self}
-use Rattle.wf_record.specs.Record.{Row, find_row}
+use Rattle.wf_record.specs.Record.{Row}
 use Rattle.wf_meaning.specs.Definition.{ActionTree}
 use Rattle.wf_meaning.specs.Environment.{Environment}
 use Rattle.wf_meaning.specs.Flat.{begun, ended, skipped}

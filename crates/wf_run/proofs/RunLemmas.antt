@@ -1,13 +1,10 @@
 -- What a run leaves and how it went, by the definition that it runs.
-use Rattle.std.proofs.Common.{◌≡◌, ◌<◌, ◌≤◌, ℕ, ◌+◌, List, length, map, sum_by, ap₂, arith}
-use Rattle.wf_val.specs.Seen.{tree}
-use Rattle.wf_val.specs.ValueTree.{ValueTree, null, Member, members, object, weight}
+use Rattle.std.proofs.Common.{◌≡◌, ◌<◌, ◌≤◌, ℕ, ◌+◌, List, length, sum_by, ap₂, arith}
+use Rattle.wf_val.specs.ValueTree.{members, object, weight}
 use Rattle.wf_answers.specs.Inputs.{InputsTree}
 use Rattle.wf_trigger.specs.Starts.{StartTree}
 use Rattle.wf_record.specs.Cost.{cost, row_cost}
-use Rattle.wf_record.specs.Record.{RecordTree, RowTree}
-use Rattle.wf_meaning.specs.Definition.{ActionTree, DefinitionTree}
-use Rattle.wf_meaning.specs.Ending.{Ending}
+use Rattle.wf_meaning.specs.Definition.{DefinitionTree}
 use Rattle.wf_meaning.specs.Environment.{Environment, fresh}
 use Rattle.wf_meaning.specs.Meaning.{ending_of, meaning, rows_of, table_of}
 use Rattle.wf_machine.specs.Cost.{rows_cost}
@@ -23,6 +20,16 @@ unfolding meaning
 meaning_covers d env =
     covered (weight env.start.trigger) (weight (object (members env.start.parameters)))
     (weight (ending_of d.outputs env d.actions (table_of env d.actions)).outputs) (sum_by row_cost (rows_of env d.actions))
+
+-- so what its rows pay, it pays
+pub meaning_pays : (d : DefinitionTree) (env : Environment) (n paid : ℕ) → n ≤ paid → paid ≡ rows_cost env d.actions
+    → n ≤ cost (meaning d env)
+meaning_pays d env n paid le is = let covers = meaning_covers d env in omega (arith, covers, le, is)
+
+-- and where they cost too much, it does
+pub meaning_exceeds : (d : DefinitionTree) (env : Environment) (most spent rows : ℕ) → most < spent + rows → rows ≡ rows_cost env d.actions
+    → most < spent + cost (meaning d env)
+meaning_exceeds d env most spent rows lt is = let covers = meaning_covers d env in omega (arith, covers, lt, is)
 
 -- a run's first state has the definition's actions, and what it was started with
 module _ (h : Held) (d : DefinitionTree) (start : StartTree) (inputs : InputsTree) (actions_are : h.actions ≡ d.actions)

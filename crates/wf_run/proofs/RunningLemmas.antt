@@ -10,9 +10,8 @@ use Rattle.std.specs.List.{AllByRecursion}
 use Rattle.wf_lists.specs.KeyOrder.{IsInKeyOrder, find_key}
 use Rattle.wf_lists.proofs.KeyOrderLemmas.{find_key-map, same_entries}
 use Rattle.wf_val.specs.Arguments.{Answer}
-use Rattle.wf_layers.specs.Address.{Address, Table, address, is_own, same_at}
+use Rattle.wf_layers.specs.Address.{Table, address}
 use Rattle.wf_layers.specs.Machine as machine
-use Rattle.wf_layers.specs.Record.{key}
 use Rattle.wf_record.specs.Record.{Row}
 use Rattle.wf_machine.specs.Held.{LeafAt, leaf_key, running_in, running_tree}
 use Rattle.wf_machine.specs.Listed.{phase_at}
@@ -129,7 +128,8 @@ all_mapped : (k : List ℕ) (leaves : List LeafAt) → AllByRecursion (λ l. ins
 all_mapped k [] all = tt
 all_mapped k (l ∷ leaves) all = (all.0, all_mapped k leaves all.1)
 
-mapped_in_order : (leaves : List LeafAt) → IsInKeyOrder instance_cmp leaf_key leaves → IsInKeyOrder instance_cmp itself (map leaf_key leaves)
+mapped_in_order : (leaves : List LeafAt) → IsInKeyOrder instance_cmp leaf_key leaves
+    → IsInKeyOrder instance_cmp itself (map leaf_key leaves)
 mapped_in_order [] order = tt
 mapped_in_order (l ∷ leaves) order = (all_mapped (leaf_key l) leaves order.0, mapped_in_order leaves order.1)
 

@@ -1,9 +1,8 @@
 -- Whatever run the schedule leads, its events are those of the function, one after the other.
-use Rattle.std.proofs.Common.{◌≡◌, ℕ, zero, suc, ◌+◌, ◌-◌, ◌*◌, ◌<◌, ◌≤◌, ◌%◌, ◌++◌, true, false, nat_eq, List, [], ◌∷◌, length, max}
-use Rattle.std.proofs.Common.{Option, Some, None, slice_get, slice_index_or, inl, refl, sym, ap, ◌∙◌, subst, arith, append_assoc, append-nil}
+use Rattle.std.proofs.Common.{◌≡◌, ℕ, zero, suc, ◌+◌, ◌-◌, ◌*◌, ◌≤◌, ◌%◌, ◌++◌, List, [], ◌∷◌, length, max}
+use Rattle.std.proofs.Common.{Some, slice_get, slice_index_or, inl, refl, sym, ap, ◌∙◌, subst, arith, append_assoc, append-nil}
 use Rattle.std.proofs.lemmas.Bool.{ne_eqb}
 use Rattle.std.proofs.lemmas.List.{length-append}
-use Rattle.wf_val.specs.Arguments.{Answer}
 use Rattle.wf_layers.specs.Address.{Table, address}
 use Rattle.wf_layers.specs.Machine as machine
 use Rattle.wf_record.specs.Record.{Row}
@@ -13,11 +12,12 @@ use Rattle.wf_meaning.specs.Meaning.{table_of}
 use Rattle.wf_machine.specs.Held as held
 use Rattle.wf_machine.specs.Held.{Held, IsNew, environment, state, state_of}
 use Rattle.wf_machine.specs.Listed.{listed_from}
-use Rattle.wf_machine.specs.Machine.{AreEnabled, Goes, IsOver, State}
+use Rattle.wf_machine.specs.Machine.{AreEnabled, Goes, IsOver}
 use Rattle.wf_machine.specs.declared.phase.Phase.{Phase}
 use Rattle.wf_machine.proofs.ListedLemmas.{are_enabled, same_listed}
 use Rattle.wf_machine.proofs.Reached.{Instance, facts, not_over}
-use Rattle.wf_run.specs.Scheduled.{all_idle, and_following, event_among, events_from, events_under, most_running, phases_after, running_among}
+use Rattle.wf_run.specs.Scheduled.{all_idle, and_following, event_among, events_from, events_under, most_running, phases_after}
+use Rattle.wf_run.specs.Scheduled.{running_among}
 use Rattle.wf_run.specs.Turns.{After, Turn, start, turn}
 use Rattle.wf_run.proofs.Progress.{Onward, Stands, begins, goes_on, points_of, twice_at_most}
 use Rattle.wf_run.proofs.RunningLemmas.{running_counted}

@@ -1,6 +1,6 @@
 -- Event lines, one more at a time.
 use Rattle.std.proofs.Common.{◌≡◌, ℕ, zero, suc, ◌+◌, ◌++◌, Bool, true, false, cond, List, [], ◌∷◌, length, take}
-use Rattle.std.proofs.Common.{Some, slice_get, refl, sym, ap, ◌∙◌, subst, arith, append_assoc, append-nil}
+use Rattle.std.proofs.Common.{Some, slice_get, refl, sym, ap, ◌∙◌, arith, append_assoc, append-nil}
 use Rattle.std.proofs.lemmas.List.{take_all}
 use Rattle.std.proofs.lemmas.Option.{none-some}
 use Rattle.wf_layers.specs.Address.{Table}
@@ -49,4 +49,5 @@ module _ (actions : List ActionTree) (rows : Table Row) where
   -- behind the last
   pub lines_all : (traced : Bool) (es : List Event) (k : ℕ) (text : List ℕ) → k ≡ length es → text ≡ lines traced k es
       → text ≡ cond traced (lines_from actions rows 1 es) []
-  lines_all traced es k text last so_far = so_far ∙ ap (λ q. cond traced (lines_from actions rows 1 q) []) (take_all k es (omega (arith, last)))
+  lines_all traced es k text last so_far = so_far ∙ ap (λ q. cond traced (lines_from actions rows 1 q) []) (take_all k es (omega
+      (arith, last)))

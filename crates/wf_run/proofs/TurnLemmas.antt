@@ -5,7 +5,7 @@ use Rattle.wf_record.specs.Cost.{row_cost}
 use Rattle.wf_record.specs.Seen.{row_tree}
 use Rattle.wf_meaning.specs.Environment.{fresh}
 use Rattle.wf_meaning.specs.Meaning.{rows_of, table_of}
-use Rattle.wf_machine.specs.Cost.{cost, first_cost, leaf_cost, most_events, rows_cost}
+use Rattle.wf_machine.specs.Cost.{cost, most_events, rows_cost}
 use Rattle.wf_machine.specs.Held.{Held, environment}
 use Rattle.wf_machine.specs.Shown.{shown}
 use Rattle.wf_machine.proofs.CostLemmas.{leaves_cost_much, rows_cost_much}

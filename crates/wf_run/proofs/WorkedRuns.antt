@@ -1,12 +1,12 @@
 -- Worked rows of runs under schedules: which events come, and how many actions are running at a time at most.
-use Rattle.std.proofs.Common.{◌≡◌, ℕ, ◌*◌, List, [], ◌∷◌, codes, length, refl}
+use Rattle.std.proofs.Common.{◌≡◌, ℕ, ◌*◌, List, [], ◌∷◌, length, refl}
 use Rattle.wf_layers.specs.Address.{Table}
 use Rattle.wf_layers.specs.Machine.{Event, Start, End, Skip}
 use Rattle.wf_meaning.specs.Definition.{ActionTree}
-use Rattle.wf_meaning.specs.Worked.{apart, chain, failing, joined, single, statuses, untriggered}
+use Rattle.wf_meaning.specs.Worked.{apart, chain, failing, joined, single, statuses}
 use Rattle.wf_record.specs.Record.{Row}
 use Rattle.wf_record.specs.declared.status.Status.TheVariants.{Succeeded, Failed, Skipped}
-use Rattle.wf_run.specs.Scheduled.{all_idle, events_from, events_under, most_running}
+use Rattle.wf_run.specs.Scheduled.{all_idle, events_from, most_running}
 
 -- the events and the peak of actions whose rows these are
 abbrev events : List ActionTree → Table Row → List ℕ → List Event
@@ -53,7 +53,8 @@ both_first : events joined (statuses (Succeeded ∷ Succeeded ∷ Succeeded ∷ 
 both_first = refl
 
 -- what waits for the success of one that failed is passed over, and runs at no time
-passed_over : events chain (statuses (Failed ∷ Skipped ∷ Skipped ∷ [])) (5 ∷ 5 ∷ 5 ∷ []) ≡ Start 0 [] ∷ End 0 [] ∷ Skip 1 [] ∷ Skip 2 [] ∷ []
+passed_over : events chain (statuses (Failed ∷ Skipped ∷ Skipped ∷ [])) (5 ∷ 5 ∷ 5 ∷ [])
+    ≡ Start 0 [] ∷ End 0 [] ∷ Skip 1 [] ∷ Skip 2 [] ∷ []
 passed_over = refl
 
 passed_over_apart : peak chain (statuses (Failed ∷ Skipped ∷ Skipped ∷ [])) [] ≡ 1
@@ -66,10 +67,13 @@ no_event = refl
 none_running : peak [] both (1 ∷ []) ≡ 0
 none_running = refl
 
--- ---- the rows that the definition means: the inputs of A have no value, B waits for that, and C for the contrary
+-- ---- the inputs of A have no value: B waits for that, and C for the contrary
 
-failing_events : events_under (untriggered (codes "r")) failing [] ≡ Start 0 [] ∷ End 0 [] ∷ Start 1 [] ∷ End 1 [] ∷ Skip 2 [] ∷ []
-failing_events = refl
+abbrev faulted : Table Row
+faulted = statuses (Failed ∷ Succeeded ∷ Skipped ∷ [])
 
-failing_around : events_under (untriggered (codes "r")) failing (0 ∷ 0 ∷ 1 ∷ []) ≡ Start 0 [] ∷ End 0 [] ∷ Skip 2 [] ∷ Start 1 [] ∷ End 1 [] ∷ []
-failing_around = refl
+caught : events failing faulted [] ≡ Start 0 [] ∷ End 0 [] ∷ Start 1 [] ∷ End 1 [] ∷ Skip 2 [] ∷ []
+caught = refl
+
+passed_over_first : events failing faulted (0 ∷ 0 ∷ 1 ∷ []) ≡ Start 0 [] ∷ End 0 [] ∷ Skip 2 [] ∷ Start 1 [] ∷ End 1 [] ∷ []
+passed_over_first = refl

@@ -1,5 +1,6 @@
 //! Driving a run to its end.
-ghost use Rattle.std.specs.Prelude.{◌≡◌, ◌≢◌, ◌+◌, ◌*◌, ◌<◌, ◌≤◌, ◌++◌, [], IfErr, IfOk, OnOk, cond, false, length, map, slice_index_or, true};
+ghost use Rattle.std.specs.Prelude.{◌≡◌, ◌≢◌, ◌+◌, ◌*◌, ◌<◌, ◌≤◌, ◌++◌, [], IfErr, IfOk, OnOk};
+ghost use Rattle.std.specs.Prelude.{cond, false, length, map, slice_index_or, true};
 ghost use Rattle.wf_meaning.specs.Meaning.{rows_of, table_of};
 ghost use Rattle.wf_record.specs.Seen.{row_tree};
 ghost use Rattle.wf_machine.specs.Cost.{cost, most_events, rows_cost};

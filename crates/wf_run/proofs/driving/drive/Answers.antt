@@ -1,13 +1,11 @@
-use Rattle.std.proofs.Common.{rules, ◌≡◌, ◌+◌, ◌*◌, ◌≤◌, ◌<◌, ◌++◌, [], cond, arith, refl, ap, subst, ◌∙◌, max}
+use Rattle.std.proofs.Common.{rules, ◌+◌, ◌≤◌, ◌<◌, ◌++◌, [], cond, arith, refl, ap, subst, ◌∙◌, max}
 use Rattle.std.proofs.lemmas.Result.{err_from_is_err_and}
 use Rattle.wf_meaning.specs.Meaning.{table_of}
-use Rattle.wf_machine.specs.Cost.{cost, most_events}
 use Rattle.wf_machine.specs.Held.{Ended, environment}
 use Rattle.wf_machine.specs.Seen.{event_tree}
-use Rattle.wf_machine.specs.Shown.{shown}
 use Rattle.wf_run.specs.Limit.{most_cost}
 use Rattle.wf_run.specs.Scheduled.{event_line, events_under}
-use Rattle.wf_run.specs.Turns.{After, Begins, start}
+use Rattle.wf_run.specs.Turns.{Begins, start}
 use Rattle.wf_run.proofs.TraceLemmas.{lines_all, lines_more, no_lines}
 use Rattle.wf_run.proofs.TurnLemmas.{cost_covers, one_turn, same_cost, same_rows, same_told, whole_cost}
 use Rattle.wf_run.proofs.driving.drive.Goals as goal
@@ -113,7 +111,8 @@ returns-clause-trace c =
     let last = c.a_schedule_leads_one_run.ensures.steps c.args.schedule.now first c.loop-alloc.state c.loop-alloc.steps c.loop-alloc.peak
     (record { new = c.requires.new; ends = c.is_reached.ensures.ends; before = c.is_reached.ensures.before })
     c.loop-alloc.invariant.turns over in
-    lines_all first.actions (table_of (environment first) first.actions) c.args.traced events c.loop-alloc.steps c.loop-alloc.trace.items last
+    lines_all first.actions (table_of (environment first) first.actions) c.args.traced events c.loop-alloc.steps c.loop-alloc.trace.items
+    last
     c.loop-alloc.invariant.lines
 
 pub returns-clause-paid : goal.returns-clause-paid

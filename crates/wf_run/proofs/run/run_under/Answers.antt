@@ -1,4 +1,4 @@
-use Rattle.std.proofs.Common.{◌≡◌, ◌+◌, ◌*◌, ◌<◌, ◌≤◌, [], List, cond, map, ap, ap₂, ◌∙◌, subst, sym, arith}
+use Rattle.std.proofs.Common.{◌≡◌, ◌+◌, ◌*◌, ◌<◌, ◌≤◌, [], List, cond, map, ap, ap₂, ◌∙◌, subst, sym}
 use Rattle.std.proofs.lemmas.Result.{err_from_is_err_and}
 use Rattle.wf_val.specs.Seen.{tree}
 use Rattle.wf_val.specs.ValueTree.{null}
@@ -7,16 +7,15 @@ use Rattle.wf_def.specs.DefSeen.{output_tree}
 use Rattle.wf_trigger.specs.StartsSeen.{start_tree}
 use Rattle.wf_record.specs.Cost.{cost}
 use Rattle.wf_record.specs.Record.{RecordTree, RowTree}
-use Rattle.wf_record.specs.Seen.{record_tree, row_tree}
+use Rattle.wf_record.specs.Seen.{row_tree}
 use Rattle.wf_meaning.specs.Definition.{DefinitionTree}
 use Rattle.wf_meaning.specs.Ending.{Ending}
 use Rattle.wf_meaning.specs.Environment.{Environment, fresh}
 use Rattle.wf_meaning.specs.Meaning.{ending_of, meaning, rows_of, table_of}
-use Rattle.wf_machine.specs.Cost.{rows_cost}
 use Rattle.wf_acts.specs.EndingSeen.{ending_tree}
 use Rattle.wf_acts.specs.Seen.{action_tree}
 use Rattle.wf_run.specs.Limit.{most_cost}
-use Rattle.wf_run.proofs.RunLemmas.{cost_is, ending_is, lines_are, meaning_covers, peak_is, rows_are, steps_are}
+use Rattle.wf_run.proofs.RunLemmas.{cost_is, ending_is, lines_are, meaning_exceeds, meaning_pays, peak_is, rows_are, steps_are}
 use Rattle.wf_run.proofs.TurnLemmas.{same_run}
 use Rattle.wf_run.proofs.run.run_under.Goals as goal
 
@@ -29,11 +28,11 @@ returns-in_err-state-2-clause-large c =
     } in
     let env : Environment = fresh (start_tree c.args.start) (inputs_tree c.args.inputs.now) in
     let first = c.in_ok-state.ensures in
-    let same = cost_is c.in_ok-state.state d (start_tree c.args.start) (inputs_tree c.args.inputs.now) first.actions first.start first.inputs
+    let same = cost_is c.in_ok-state.state d (start_tree c.args.start) (inputs_tree c.args.inputs.now) first.actions first.start
+    first.inputs
     in
-    let covers = meaning_covers d env in
     let p = err_from_is_err_and c.from_residual-in_err-state-2.result c.from_residual-in_err-state-2.ensures.1 in
-    rw (p.1, p.2) (λ other. let large = c.in_err-state-2.ensures.large other in omega (arith, large, same, covers))
+    rw (p.1, p.2) (λ other. meaning_exceeds d env most_cost c.args.spent _ (c.in_err-state-2.ensures.large other) same)
 
 pub returns-then-is_too_large-clause-large : goal.returns-then-is_too_large-clause-large
 unfolding meaning
@@ -138,11 +137,9 @@ returns-clause-few c =
       rows = listed;
     } in
     let meant : whole (ending_tree c.in_ok-left.left.ending) (map row_tree c.in_ok-left.left.rows) ≡ meaning d env = ap₂ whole ends rows in
-    let covers = meaning_covers d env in
     let same_cost = cost_is h d start inputs first.actions first.start first.inputs in
-    let cost_meant = ap cost meant in
-    let paid = turned.paid in
-    omega (arith, covers, same_cost, cost_meant, paid)
+    subst (λ r. 64 + 32 * c.in_ok-state-2.field-0.steps ≤ cost r) (sym meant)
+    (meaning_pays d env (64 + 32 * c.in_ok-state-2.field-0.steps) _ turned.paid same_cost)
 
 pub returns-clause-steps : goal.returns-clause-steps
 returns-clause-steps c =
