@@ -5,7 +5,7 @@ use Rattle.wf_def.specs.ActionTree.{ActionTree, action, action_number, KindTree,
 use Rattle.wf_def.specs.ActionTree.{ActionTrees, no_actions, action_then, CaseTrees, no_cases, case_then}
 use Rattle.wf_reading.specs.Facts.{graph_numbers}
 use Rattle.wf_refs.proofs.NumberLemmas.{numbers_are}
-use Rattle.wf_refs.specs.Actions.{all_actions, cases_actions, kind_actions}
+use Rattle.wf_def.specs.AllActions.{all_actions, cases_actions, kind_actions}
 use Rattle.wf_rules.specs.Standing.{StandingTree, case_standings, graph_standings, kind_standings, number_at, standings_of}
 
 abbrev action_of : StandingTree → ActionTree

@@ -22,7 +22,7 @@ ghost use Rattle.wf_layers.specs.Definition.{Graph, Kind, Until, holds, kind_of}
 ghost use Rattle.wf_layers.specs.Seen.{Once};
 ghost use Rattle.wf_order.specs.Order.{Contains, around};
 ghost use Rattle.wf_reading.specs.Read.{IsRead};
-ghost use Rattle.wf_refs.specs.Actions.{all_actions};
+ghost use Rattle.wf_def.specs.AllActions.{all_actions};
 ghost use Rattle.wf_rules.specs.Broken.{broken_of};
 ghost use Rattle.wf_rules.specs.Standing.{number_at, standings_of};
 

@@ -1,5 +1,6 @@
 pub mod ActionTree
 pub mod ActionSeen
+pub mod AllActions
 pub mod DefTree
 pub mod DefSeen
 pub mod Layered

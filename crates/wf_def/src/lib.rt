@@ -14,6 +14,7 @@
 //! answers an error where none is left, with everything that it was lent as before; what the call was given by value is then dropped.
 #![tactic(auto)]
 
+mod actions;
 mod after;
 mod find;
 mod graph;
@@ -21,6 +22,7 @@ mod names;
 mod section;
 mod sort;
 
+pub use actions::all_actions;
 pub use after::{After, Afters, Statuses};
 pub use graph::{Action, Actions, Case, Cases, Graph, Kind};
 pub use section::{Output, Outputs, Param, Params, Templates, Trigger, Triggers};

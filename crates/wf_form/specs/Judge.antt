@@ -14,7 +14,7 @@ use Rattle.wf_form.specs.Whole.{Whole}
 use Rattle.wf_form.specs.declared.role.Role.{Role}
 use Rattle.wf_form.specs.declared.rule.Rule.{Rule}
 
--- rule 6: what lacks a member that its type asks for, or has one of another form or range
+-- V6: what lacks a member that its type asks for, or has one of another form or range
 abbrev pub lacks_members : Role → ValueTree → Bool
 lacks_members (Role.Action level) t = not (action_has_members t)
 lacks_members Role.Trigger t = not (trigger_has_members t)
@@ -24,7 +24,7 @@ lacks_members role t = false
 unfoldable pub lacking : Role → ValueTree → List (List ℕ)
 lacking role t = here (lacks_members role t)
 
--- rule 7: the texts that are templates, and spell none or call what they may not
+-- V7: the texts that are templates, and spell none or call what they may not
 abbrev pub bad_texts_at : Role → ValueTree → List (List ℕ)
 bad_texts_at (Role.Action level) t = bad_texts_of_action t
 bad_texts_at Role.Trigger t = bad_texts_of_trigger t
@@ -34,7 +34,7 @@ bad_texts_at role t = []
 unfoldable pub expressions : Role → ValueTree → List (List ℕ)
 expressions role t = bad_texts_at role t
 
--- rule 8 is judged at a graph, over all its actions
+-- V8 is judged at a graph, over all its actions
 abbrev pub run_after_in : ValueTree → List (List ℕ)
 run_after_in (object ms) = bad_run_after (pairs ms)
 run_after_in t = []

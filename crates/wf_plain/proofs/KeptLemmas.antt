@@ -5,7 +5,7 @@ use Rattle.std.specs.List.{AllByRecursion, filter}
 use Rattle.wf_json.specs.Pointer.{least}
 use Rattle.wf_def.specs.ActionTree.{ActionTree, action, action_pointer, KindTree, compose, ActionTrees, no_actions, action_then, actions_in}
 use Rattle.wf_def.specs.DefTree.{DefTree}
-use Rattle.wf_refs.specs.Actions.{all_actions, kind_actions}
+use Rattle.wf_def.specs.AllActions.{all_actions, kind_actions}
 use Rattle.wf_rules.specs.Broken.{broken_of, first_broken, offences, or_later, rules_in_order}
 use Rattle.wf_rules.specs.declared.rule.Rule.{Rule}
 use Rattle.wf_plain.specs.Unbuilt.{is_built, is_compose, is_run, not_yet, pointers}

@@ -16,7 +16,7 @@ use Rattle.wf_reading.proofs.RunAfterLemmas.{append-first, append-second}
 use Rattle.wf_reading.specs.Facts.{graph_numbers}
 use Rattle.wf_order.specs.Order.{Among, around, Before, up}
 use Rattle.wf_order.specs.Table.{before, order_of}
-use Rattle.wf_refs.specs.Actions.{all_actions, kind_actions, numbered}
+use Rattle.wf_def.specs.AllActions.{all_actions, kind_actions, numbered}
 use Rattle.wf_refs.specs.Sites.{uses_at_inputs}
 use Rattle.wf_refs.specs.UsesTree.{uses_tree}
 use Rattle.wf_refs.specs.declared.site.Site.{Site}

@@ -4,7 +4,7 @@ use Rattle.std.specs.List.{filter}
 use Rattle.wf_json.specs.Pointer.{least}
 use Rattle.wf_def.specs.ActionTree.{ActionTree, action, action_kind, action_pointer, KindTree, compose, response, terminate, initialize, set_to, increment, decrement, append_array, append_string}
 use Rattle.wf_def.specs.DefTree.{DefTree}
-use Rattle.wf_refs.specs.Actions.{all_actions}
+use Rattle.wf_def.specs.AllActions.{all_actions}
 use Rattle.wf_plain.specs.declared.unbuilt.Purpose.{Purpose}
 
 abbrev pub is_compose : KindTree → Bool

@@ -7,10 +7,9 @@ ghost use Rattle.wf_plain.specs.Unbuilt.{is_built, is_judged, is_run, not_yet, p
 ghost use Rattle.wf_reading.specs.ReadSeen.{def_tree};
 
 use std::alloc::{AllocError, Global};
-use wf_def::{Action, Kind};
+use wf_def::{Action, Kind, all_actions};
 use wf_json::pointer::lesser_of;
 use wf_reading::Def;
-use wf_refs::all_actions;
 use wf_val::Text;
 
 /// What a definition is read for.

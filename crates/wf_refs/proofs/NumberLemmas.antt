@@ -16,7 +16,7 @@ use Rattle.wf_def.specs.ActionTree.{until, ActionTrees, no_actions, action_then,
 use Rattle.wf_def.specs.Names.{graph_names, kind_names, cases_names}
 use Rattle.wf_reading.specs.Facts.{AreNumbered, AreOnce, graph_numbers, kind_numbers, cases_numbers}
 use Rattle.wf_reading.specs.Numbers.{is_below}
-use Rattle.wf_refs.specs.Actions.{all_actions, cases_actions, has_number, kind_actions, numbered}
+use Rattle.wf_def.specs.AllActions.{all_actions, cases_actions, has_number, kind_actions, numbered}
 
 -- ---- names and numbers of all actions, in the order of the tree
 

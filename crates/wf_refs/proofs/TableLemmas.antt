@@ -12,7 +12,7 @@ use Rattle.wf_def.specs.DefTree.{DefTree}
 use Rattle.wf_def.specs.declared.graph.Action.{Action, out-Action}
 use Rattle.wf_def.specs.declared.graph.Kind.TheFolds.{fold_out-Action}
 use Rattle.wf_def.proofs.SizeLemmas.{drop_at_place}
-use Rattle.wf_refs.specs.Actions.{has_number, numbered}
+use Rattle.wf_def.specs.AllActions.{has_number, numbered}
 use Rattle.wf_refs.specs.Seen.{action_at, action_uses_seen, is_free, uses_at, uses_seen}
 use Rattle.wf_refs.specs.Sites.{action_uses, uses_at_inputs, uses_at_items, uses_at_output, uses_at_test, uses_at_tracked, uses_at_trigger}
 use Rattle.wf_refs.specs.Sites.{uses_of}

@@ -16,7 +16,7 @@ use Rattle.wf_def.specs.ActionTree.{CaseTrees, no_cases, case_then}
 use Rattle.wf_def.specs.DefTree.{DefTree}
 use Rattle.wf_def.specs.declared.sort.Sort.{Sort}
 use Rattle.wf_eval.specs.Uses.{cond_uses, template_uses, tree_uses, uses}
-use Rattle.wf_refs.specs.Actions.{all_actions, numbered}
+use Rattle.wf_def.specs.AllActions.{all_actions, numbered}
 use Rattle.wf_refs.specs.Sites.{uses_at_inputs, uses_at_items, uses_at_test, uses_at_tracked, uses_at_trigger, uses_of}
 use Rattle.wf_refs.specs.UsesTree.{UsesTree, ordered, uses_tree}
 use Rattle.wf_refs.specs.declared.site.Site.{Site}

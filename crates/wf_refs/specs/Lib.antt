@@ -1,4 +1,3 @@
-pub mod Actions
 pub mod Named
 pub mod Seen
 pub mod Sites

@@ -10,7 +10,7 @@ use Rattle.wf_def.specs.ActionTree.{join, parse_json, initialize, set_to, increm
 use Rattle.wf_def.specs.ActionTree.{switch, switch_else, foreach, until}
 use Rattle.wf_def.specs.DefTree.{DefTree, OutputTree, TriggerTree}
 use Rattle.wf_eval.specs.Uses.{Use, cond_uses, members_uses, template_uses, tree_uses}
-use Rattle.wf_refs.specs.Actions.{numbered}
+use Rattle.wf_def.specs.AllActions.{numbered}
 use Rattle.wf_refs.specs.UsesTree.{ActionUsesTree, UsesTree, uses_tree}
 use Rattle.wf_refs.specs.declared.site.Site.{Site}
 

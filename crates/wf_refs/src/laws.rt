@@ -5,7 +5,7 @@ ghost use Rattle.wf_val.specs.NameOrder.{IsInNameOrder};
 ghost use Rattle.wf_def.specs.ActionTree.{action_number};
 ghost use Rattle.wf_def.specs.DefTree.{DefTree};
 ghost use Rattle.wf_reading.specs.Read.{IsRead};
-ghost use Rattle.wf_refs.specs.Actions.{all_actions, numbered};
+ghost use Rattle.wf_def.specs.AllActions.{all_actions, numbered};
 ghost use Rattle.wf_refs.specs.Sites.{uses_of};
 ghost use Rattle.wf_refs.specs.UsesTree.{ordered};
 ghost use Rattle.wf_refs.specs.declared.site.Site.{Site};

@@ -13,7 +13,6 @@
 //! name may be that of no action, and a function may stand where no rule allows it.
 #![tactic(auto)]
 
-mod actions;
 mod expressions;
 mod found;
 mod laws;
@@ -25,7 +24,6 @@ mod table;
 mod templates;
 mod uses;
 
-pub use actions::all_actions;
 pub use laws::{names_are_those_named, read_actions_have_their_numbers, sites_are_there};
 pub use names::Names;
 pub use site::Site;

@@ -1,6 +1,6 @@
 use Rattle.std.specs.Prelude.{slice_get}
 use Rattle.wf_refs.proofs.SiteLemmas.{map-there}
-use Rattle.wf_refs.specs.Actions.{numbered}
+use Rattle.wf_def.specs.AllActions.{numbered}
 use Rattle.wf_refs.specs.Sites.{uses_at_inputs, uses_at_output, uses_at_tracked, uses_at_trigger}
 use Rattle.wf_refs.proofs.laws.sites_are_there.Goals as goal
 

@@ -2,7 +2,7 @@ use Rattle.std.proofs.Common.{◌≡◌, ℕ, map, drop, option_map}
 use Rattle.std.specs.List.{find}
 use Rattle.std.specs.Option.{option_or}
 use Rattle.wf_def.specs.ActionSeen.{action_tree}
-use Rattle.wf_refs.specs.Actions.{has_number}
+use Rattle.wf_def.specs.AllActions.{has_number}
 use Rattle.wf_refs.specs.Seen.{action_at}
 use Rattle.wf_refs.specs.Sites.{action_uses}
 use Rattle.wf_refs.proofs.table.of_actions.Given as goal

@@ -4,7 +4,7 @@ use Rattle.wf_def.specs.ActionSeen.{action_tree}
 use Rattle.wf_def.specs.ActionTree.{ActionTree}
 use Rattle.wf_def.specs.DefSeen.{output_tree, trigger_tree}
 use Rattle.wf_reading.specs.ReadSeen.{def_tree}
-use Rattle.wf_refs.specs.Actions.{has_number}
+use Rattle.wf_def.specs.AllActions.{has_number}
 use Rattle.wf_refs.specs.Sites.{action_uses, uses_at_output, uses_at_trigger}
 use Rattle.wf_refs.proofs.TableLemmas.{table_of}
 use Rattle.wf_refs.proofs.table.refs.Goals as goal

@@ -2,8 +2,8 @@ use Rattle.std.proofs.Common.{◌≡◌, ◌++◌, drop, map}
 use Rattle.wf_def.specs.ActionTree.{action_trees, case_trees}
 use Rattle.wf_def.specs.ActionSeen.{action_tree, case_tree, cases_seen, graph_tree, kind_tree}
 use Rattle.wf_def.specs.Names.{action_size, cases_size, graph_size, kind_size}
-use Rattle.wf_refs.specs.Actions.{all_actions, cases_actions}
-use Rattle.wf_refs.proofs.actions.+all.Given as goal
+use Rattle.wf_def.specs.AllActions.{all_actions, cases_actions}
+use Rattle.wf_def.proofs.actions.+all.Given as goal
 
 abbrev pub decreases-in_graph : goal.decreases-in_graph
 decreases-in_graph l = graph_size (graph_tree l.graph.now)

@@ -2,10 +2,10 @@
 ghost use Rattle.std.specs.Prelude.{◌≡◌, ◌++◌, IfOk, map};
 ghost use Rattle.wf_def.specs.ActionSeen.{action_tree, cases_seen, graph_tree, kind_tree};
 ghost use Rattle.wf_def.specs.ActionTree.{case_trees};
-ghost use Rattle.wf_refs.specs.Actions.{all_actions, cases_actions, kind_actions, with_inner};
+ghost use Rattle.wf_def.specs.AllActions.{all_actions, cases_actions, kind_actions, with_inner};
 
+use crate::graph::{Action, Cases, Graph, Kind};
 use std::alloc::{AllocError, Global};
-use wf_def::{Action, Cases, Graph, Kind};
 
 #[cycle(all)]
 fn in_graph<'a>(found: Vec<&'a Action>, graph: &'a Graph) -> Result<Vec<&'a Action>, AllocError>

@@ -4,9 +4,9 @@ use Rattle.wf_def.specs.ActionSeen.{action_tree, case_tree, cases_seen, graph_tr
 use Rattle.wf_def.specs.Names.{action_size, cases_size, graph_size}
 use Rattle.wf_def.specs.declared.graph.Action.{Action}
 use Rattle.wf_def.specs.declared.graph.Case.{Case, out-Case}
-use Rattle.wf_refs.specs.Actions.{all_actions, cases_actions}
+use Rattle.wf_def.specs.AllActions.{all_actions, cases_actions}
 use Rattle.wf_def.proofs.SizeLemmas.{action-falls, case-falls, case_tree-is, drop_at_place, graph_tree-is}
-use Rattle.wf_refs.proofs.actions.+all.Goals as goal
+use Rattle.wf_def.proofs.actions.+all.Goals as goal
 
 pub in_graph-in_action-requires : goal.in_graph-in_action-requires
 in_graph-in_action-requires t c =
