@@ -302,14 +302,21 @@ def wanted(command, definition, inputs=None, schedule=b""):
         return None, b""
 
 
-def main():
+def called_with(description):
+    """What the command line asks for: how many cases, of which seed, and of which program."""
     top = os.path.dirname(os.path.dirname(os.path.abspath(__file__)))
-    parser = argparse.ArgumentParser(description=__doc__, formatter_class=argparse.RawDescriptionHelpFormatter)
+    parser = argparse.ArgumentParser(description=description, formatter_class=argparse.RawDescriptionHelpFormatter)
     parser.add_argument("--count", type=int, default=10000)
     parser.add_argument("--seed", type=int, default=1)
     parser.add_argument("--program", help="what to run; the program of bin/program where it is left out")
     words = parser.parse_args()
-    program = words.program or subprocess.check_output([os.path.join(top, "bin", "program")], text=True).strip()
+    if not words.program:
+        words.program = subprocess.check_output([os.path.join(top, "bin", "program")], text=True).strip()
+    return words
+
+
+def main():
+    words = called_with(__doc__)
     rng = random.Random(words.seed)
     statuses = collections.Counter()
     failed = 0
@@ -327,7 +334,7 @@ def main():
             statuses["unknown" if status is None else "%s %d" % (command, status)] += 1
             if status is None:
                 continue
-            ended = subprocess.run([program, command] + paths[:len(files)], capture_output=True, timeout=60)
+            ended = subprocess.run([words.program, command] + paths[:len(files)], capture_output=True, timeout=60)
             if (ended.returncode, ended.stdout) != (status, text):
                 failed += 1
                 print("case %d: %s, status %d, %r\n  owed %d, %r\n  %r" % (

@@ -10,7 +10,6 @@ comes at each turn: of those that are enabled, in byte order of the names, the o
 each line of an event has its number, its event, and the value of the record's row; and each summary line the steps and the peak of those
 events, with the schedule and without. Of a schedule that is none both calls name the first such line. It fails where fewer than half of the
 cases have a run, or fewer than a tenth several. The last line is 'N passed, M failed'."""
-import argparse
 import collections
 import json
 import os
@@ -120,13 +119,7 @@ def judge(call, definition, schedule):
 
 
 def main():
-    top = os.path.dirname(os.path.dirname(os.path.abspath(__file__)))
-    parser = argparse.ArgumentParser(description=__doc__, formatter_class=argparse.RawDescriptionHelpFormatter)
-    parser.add_argument("--count", type=int, default=10000)
-    parser.add_argument("--seed", type=int, default=1)
-    parser.add_argument("--program", help="what to run; the program of bin/program where it is left out")
-    words = parser.parse_args()
-    program = words.program or subprocess.check_output([os.path.join(top, "bin", "program")], text=True).strip()
+    words = fuzz.called_with(__doc__)
     rng = random.Random(words.seed)
     counts = collections.Counter()
     with tempfile.TemporaryDirectory() as folder:
@@ -134,7 +127,7 @@ def main():
 
         # Calls a command on the definition and the inputs, and on the schedule where it stands under one.
         def call(command, under=None):
-            ended = subprocess.run([program, command] + paths[:2 if under is None else 3], capture_output=True, timeout=60)
+            ended = subprocess.run([words.program, command] + paths[:2 if under is None else 3], capture_output=True, timeout=60)
             return ended.returncode, ended.stdout.decode()
 
         for number in range(words.count):
