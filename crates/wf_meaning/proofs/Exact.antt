@@ -1,5 +1,7 @@
 -- Where `runAfter` names only actions that are there and has no cycle, all actions end.
-use Rattle.std.proofs.Common.{◌≡◌, ℕ, zero, suc, ◌+◌, ◌<◌, Bool, true, false, ◌&&◌, cond, List, [], ◌∷◌, length, set, Option, Some, None, is_some, slice_get, inl, inr, ⊎_elim, refl, sym, ap, ◌∙◌, subst, arith, nat_eq, eq-eqb, replicate, true≢false, length-set}
+use Rattle.std.proofs.Common.{◌≡◌, ℕ, zero, suc, ◌+◌, ◌<◌, Bool, true, false, ◌&&◌, cond, List, [], ◌∷◌, length, set, Option, Some, None}
+use Rattle.std.proofs.Common.{is_some, slice_get, inl, inr, ⊎_elim, refl, sym, ap, ◌∙◌, subst, arith, nat_eq, eq-eqb, replicate, true≢false}
+use Rattle.std.proofs.Common.{length-set}
 use Rattle.std.specs.List.{list_all}
 use Rattle.wf_layers.specs.Definition.{Need, Names, Graph, IsDepth, IsBefore, Closed, has_own}
 use Rattle.wf_layers.proofs.Basics.{two}
@@ -10,7 +12,8 @@ use Rattle.wf_meaning.specs.Marks.{is_marked, is_ready}
 use Rattle.wf_meaning.specs.Rounds.{all_end, depth_of}
 use Rattle.wf_meaning.proofs.Graphs.{numbered, numbered_is, after_in, needs_are, has_own_is}
 use Rattle.wf_meaning.proofs.Instance.{falls}
-use Rattle.wf_meaning.proofs.Marks.{marked, marked_more, marked_all, all_are_marked, one_is_left, is_there, is_within, first_count, first_ended, first_size, one_more, HaveEnded}
+use Rattle.wf_meaning.proofs.Marks.{marked, marked_more, marked_all, all_are_marked, one_is_left, is_there, is_within, first_count}
+use Rattle.wf_meaning.proofs.Marks.{first_ended, first_size, one_more, HaveEnded}
 
 -- no action stands behind itself
 pub none_behind_itself : (actions : List ActionTree) → all_end actions ≡ true → (a : ℕ) → IsBefore (graph_of actions) a a → ⊥

@@ -1,5 +1,6 @@
 -- The graph of a list of actions: which action has a number, and what it waits for.
-use Rattle.std.proofs.Common.{◌≡◌, ℕ, zero, suc, ◌+◌, ◌<◌, true, false, ◌||◌, cond, List, [], ◌∷◌, Option, Some, None, is_some, slice_get, ⊎_elim, refl, sym, ap, ◌∙◌, subst, arith, nat_eq, eq-eqb, eqb-true, true≢false}
+use Rattle.std.proofs.Common.{◌≡◌, ℕ, zero, suc, ◌+◌, ◌<◌, true, false, ◌||◌, cond, List, [], ◌∷◌, Option, Some, None, is_some, slice_get}
+use Rattle.std.proofs.Common.{⊎_elim, refl, sym, ap, ◌∙◌, subst, arith, nat_eq, eq-eqb, eqb-true, true≢false}
 use Rattle.std.proofs.lemmas.Bool.{ne_eqb}
 use Rattle.wf_layers.specs.Definition.{Need, has, has_own, needs_of}
 use Rattle.wf_layers.specs.Address.{address, owner}

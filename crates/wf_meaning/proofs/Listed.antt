@@ -1,5 +1,6 @@
 -- The rows of a record stand for the table of the meaning.
-use Rattle.std.proofs.Common.{◌≡◌, ◌⊎◌, ℕ, zero, suc, ◌+◌, Bool, true, false, cond, List, [], ◌∷◌, Option, Some, None, is_some, slice_get, inl, inr, ⊎_elim, refl, sym, ap, ◌∙◌, subst, arith, nat_eq, true≢false}
+use Rattle.std.proofs.Common.{◌≡◌, ◌⊎◌, ℕ, zero, suc, ◌+◌, Bool, true, false, cond, List, [], ◌∷◌, Option, Some, None, is_some, slice_get}
+use Rattle.std.proofs.Common.{inl, inr, ⊎_elim, refl, sym, ap, ◌∙◌, subst, arith, nat_eq, true≢false}
 use Rattle.wf_layers.specs.Address.{Table, address, same_at}
 use Rattle.wf_layers.specs.Address as layered
 use Rattle.wf_layers.specs.Listed.{Among}

@@ -1,5 +1,6 @@
 -- THE PREMISES OF THE LAWS OF ORDER, of a graph all of whose actions end and whose inputs name only actions before them.
-use Rattle.std.proofs.Common.{◌≡◌, ℕ, suc, true, false, ◌||◌, List, [], ◌∷◌, length, Option, Some, None, is_some, slice_get, option_map, ◌⊎◌, inl, inr, refl, sym, ap, ◌∙◌, subst, arith, nat_eq, eqb-true, true≢false}
+use Rattle.std.proofs.Common.{◌≡◌, ℕ, suc, true, false, ◌||◌, List, [], ◌∷◌, length, Option, Some, None, is_some, slice_get, option_map}
+use Rattle.std.proofs.Common.{◌⊎◌, inl, inr, refl, sym, ap, ◌∙◌, subst, arith, nat_eq, eqb-true, true≢false}
 use Rattle.std.specs.List.{list_all}
 use Rattle.wf_val.specs.declared.function.Fun.{Fun}
 use Rattle.wf_layers.specs.Definition.{has, Closed, Turns}

@@ -1,5 +1,6 @@
 -- Rounds of waiting, and the depths that they give.
-use Rattle.std.proofs.Common.{◌≡◌, ℕ, zero, suc, ◌+◌, ◌<◌, Bool, true, false, not, ◌||◌, List, [], ◌∷◌, length, Option, Some, None, is_some, slice_get, inl, inr, refl, sym, subst, arith, true≢false}
+use Rattle.std.proofs.Common.{◌≡◌, ℕ, zero, suc, ◌+◌, ◌<◌, Bool, true, false, not, ◌||◌, List, [], ◌∷◌, length, Option, Some, None, is_some}
+use Rattle.std.proofs.Common.{slice_get, inl, inr, refl, sym, subst, arith, true≢false}
 use Rattle.std.specs.List.{list_any, list_all}
 use Rattle.wf_layers.specs.Definition.{Need, Names}
 use Rattle.wf_layers.proofs.Basics.{and_in}

@@ -1,5 +1,6 @@
 -- The row of one action, from any rows that are the meaning's where it looks.
-use Rattle.std.proofs.Common.{◌≡◌, Option, None, ℕ, suc, Bool, true, false, ◌&&◌, cond, not, List, [], ◌∷◌, Some, is_some, slice_get, inl, inr, ⊎_elim, refl, sym, ap, ◌∙◌, subst, nat_eq, eqb-true, true≢false}
+use Rattle.std.proofs.Common.{◌≡◌, Option, None, ℕ, suc, Bool, true, false, ◌&&◌, cond, not, List, [], ◌∷◌, Some, is_some, slice_get, inl}
+use Rattle.std.proofs.Common.{inr, ⊎_elim, refl, sym, ap, ◌∙◌, subst, nat_eq, eqb-true, true≢false}
 use Rattle.wf_layers.specs.Definition.{Need, Names, IsBefore, next, more, needs_of}
 use Rattle.wf_layers.specs.Address.{Table, address}
 use Rattle.wf_layers.specs.Source.{all_met, is_listed}

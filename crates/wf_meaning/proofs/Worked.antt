@@ -19,7 +19,9 @@ use Rattle.wf_meaning.specs.Meaning.{meaning, rows_of, table_of}
 use Rattle.wf_meaning.specs.Names.{is_before, names_before}
 use Rattle.wf_meaning.specs.Rounds.{all_end, depth_of, is_waiting}
 use Rattle.wf_meaning.specs.Status.{graph_status}
-use Rattle.wf_meaning.specs.Worked.{action, apart, asking, call_of, chain, drawing, drawn_at, drawn_outputs, failing, faulty, four, joined, loop, met_at, need, output, redone_in, relay, renamed, reseeded, run_told, runs_by, second, seeded, single, statuses, timed, told_of_start, triggered, under, untriggered, whole_of}
+use Rattle.wf_meaning.specs.Worked.{action, apart, asking, call_of, chain, drawing, drawn_at, drawn_outputs, failing, faulty, four, joined}
+use Rattle.wf_meaning.specs.Worked.{loop, met_at, need, output, redone_in, relay, renamed, reseeded, run_told, runs_by, second, seeded}
+use Rattle.wf_meaning.specs.Worked.{single, statuses, timed, told_of_start, triggered, under, untriggered, whole_of}
 
 -- ---- `runAfter` with each status, against an action that Succeeded, Failed, was Skipped, TimedOut or was Cancelled
 

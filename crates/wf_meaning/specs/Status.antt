@@ -1,5 +1,6 @@
 -- The status of a graph, from its actions and their rows.
-use Rattle.std.specs.Prelude.{ℕ, zero, suc, Bool, true, false, not, ◌&&◌, List, [], length, Option, None, Some, if◌then◌else◌, nat_eq, slice_get}
+use Rattle.std.specs.Prelude.{ℕ, zero, suc, Bool, true, false, not, ◌&&◌, List, [], length, Option, None, Some, if◌then◌else◌, nat_eq}
+use Rattle.std.specs.Prelude.{slice_get}
 use Rattle.std.specs.List.{list_any}
 use Rattle.wf_layers.specs.Address.{Table, address}
 use Rattle.wf_meaning.specs.Definition.{ActionTree}

@@ -1,5 +1,6 @@
 -- The graph of a definition whose actions at the top hold no graphs: to the laws of order it is the graph of its actions by their places.
-use Rattle.std.proofs.Common.{◌≡◌, ◌+◌, ◌<◌, ℕ, suc, Bool, true, false, cond, List, [], ◌∷◌, ◌++◌, length, map, Option, Some, unwrap_or, inl, inr, Less, bytes_eq, refl, sym, ap, ap₂, ◌∙◌, arith, true≢false}
+use Rattle.std.proofs.Common.{◌≡◌, ◌+◌, ◌<◌, ℕ, suc, Bool, true, false, cond, List, [], ◌∷◌, ◌++◌, length, map, Option, Some, unwrap_or}
+use Rattle.std.proofs.Common.{inl, inr, Less, bytes_eq, refl, sym, ap, ap₂, ◌∙◌, arith, true≢false}
 use Rattle.std.specs.Prelude.{if◌then◌else◌}
 use Rattle.std.specs.List.{AllByRecursion, count_by, list_any}
 use Rattle.std.specs.Ordering.{is_lt, ordering_reverse}
@@ -9,7 +10,8 @@ use Rattle.wf_val.specs.NameOrder.{bytes_cmp, IsInNameOrder}
 use Rattle.wf_template.specs.DataTree.{DataTree}
 use Rattle.wf_layers.specs.Definition as layers
 use Rattle.wf_paths.proofs.PathLemmas.{or_left, or_right, or_split}
-use Rattle.wf_def.specs.ActionTree.{ActionTree, action, action_after, action_kind, action_name, action_number, KindTree, compose, ActionTrees, no_actions, action_then, actions_in}
+use Rattle.wf_def.specs.ActionTree.{ActionTree, action, action_after, action_kind, action_name, action_number, KindTree, compose}
+use Rattle.wf_def.specs.ActionTree.{ActionTrees, no_actions, action_then, actions_in}
 use Rattle.wf_def.specs.Layered.{layered, layered_kind, listed_of, need_of}
 use Rattle.wf_def.specs.Names.{graph_names, kind_names}
 use Rattle.wf_def.specs.declared.after.After.{After}

@@ -1,5 +1,6 @@
 -- What follows where a definition breaks no rule on what it names, and all of it is built.
-use Rattle.std.proofs.Common.{◌≡◌, Bool, true, false, not, List, [], ◌∷◌, ◌++◌, map, Option, Some, None, option_map, refl, sym, ap, subst, ◌∙◌, true≢false, cond}
+use Rattle.std.proofs.Common.{◌≡◌, Bool, true, false, not, List, [], ◌∷◌, ◌++◌, map, Option, Some, None, option_map, refl, sym, ap, subst}
+use Rattle.std.proofs.Common.{◌∙◌, true≢false, cond}
 use Rattle.std.specs.Prelude.{◌&&◌, ◌==◌, ℕ, length}
 use Rattle.std.specs.List.{AllByRecursion, filter}
 use Rattle.wf_json.specs.Pointer.{least}

@@ -1,12 +1,14 @@
 -- Of a definition whose actions are each a Compose, and that keeps the rule on references: each name in the inputs of an action is of an
 -- action before it.
-use Rattle.std.proofs.Common.{◌≡◌, ℕ, suc, Bool, true, false, not, cond, List, [], ◌∷◌, ◌++◌, length, map, Option, Some, None, option_map, inl, inr, nat_eq, bytes_eq, refl, sym, ap, subst, ◌∙◌, true≢false}
+use Rattle.std.proofs.Common.{◌≡◌, ℕ, suc, Bool, true, false, not, cond, List, [], ◌∷◌, ◌++◌, length, map, Option, Some, None, option_map}
+use Rattle.std.proofs.Common.{inl, inr, nat_eq, bytes_eq, refl, sym, ap, subst, ◌∙◌, true≢false}
 use Rattle.std.specs.Prelude.{◌||◌, ◌&&◌, ◌↔◌, if◌then◌else◌}
 use Rattle.std.specs.List.{AllByRecursion, find, list_any}
 use Rattle.std.proofs.lemmas.Bool.{eq-eqb}
 use Rattle.wf_layers.specs.Definition.{IsBefore, has}
 use Rattle.wf_eval.specs.Uses.{Use, tree_uses}
-use Rattle.wf_def.specs.ActionTree.{ActionTree, action, action_kind, action_name, action_number, KindTree, ActionTrees, no_actions, action_then, actions_in}
+use Rattle.wf_def.specs.ActionTree.{ActionTree, action, action_kind, action_name, action_number, KindTree, ActionTrees, no_actions}
+use Rattle.wf_def.specs.ActionTree.{action_then, actions_in}
 use Rattle.wf_def.specs.DefTree.{DefTree}
 use Rattle.wf_def.specs.Layered.{layered}
 use Rattle.wf_def.specs.Names.{graph_names}

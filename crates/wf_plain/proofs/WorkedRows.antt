@@ -7,7 +7,9 @@ use Rattle.wf_template.specs.DataTree.{DataMember, null}
 use Rattle.wf_template.specs.TemplateTree.{plain}
 use Rattle.wf_layers.specs.Definition.{Failed, Skipped, Succeeded, TimedOut}
 use Rattle.wf_retry.specs.declared.policy.Policy.{Policy}
-use Rattle.wf_def.specs.ActionTree.{ActionTree, action, KindTree, compose, connector, wait, response, terminate, select, query, join, parse_json, initialize, set_to, increment, decrement, append_array, append_string, scope, branch, switch, switch_else, foreach, until, ActionTrees, no_actions, action_then, no_cases, case_then}
+use Rattle.wf_def.specs.ActionTree.{ActionTree, action, KindTree, compose, connector, wait, response, terminate, select, query, join}
+use Rattle.wf_def.specs.ActionTree.{parse_json, initialize, set_to, increment, decrement, append_array, append_string, scope, branch}
+use Rattle.wf_def.specs.ActionTree.{switch, switch_else, foreach, until, ActionTrees, no_actions, action_then, no_cases, case_then}
 use Rattle.wf_def.specs.DefTree.{DefTree, OutputTree, ParamTree, TriggerTree}
 use Rattle.wf_def.specs.declared.after.After.{After}
 use Rattle.wf_def.specs.declared.sort.Sort.{Sort}

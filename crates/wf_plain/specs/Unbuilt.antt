@@ -2,7 +2,8 @@
 use Rattle.std.specs.Prelude.{ℕ, Bool, true, false, not, ◌&&◌, List, ◌==◌, length, map, Option}
 use Rattle.std.specs.List.{filter}
 use Rattle.wf_json.specs.Pointer.{least}
-use Rattle.wf_def.specs.ActionTree.{ActionTree, action, action_kind, action_pointer, KindTree, compose, response, terminate, initialize, set_to, increment, decrement, append_array, append_string}
+use Rattle.wf_def.specs.ActionTree.{ActionTree, action, action_kind, action_pointer, KindTree, compose, response, terminate, initialize}
+use Rattle.wf_def.specs.ActionTree.{set_to, increment, decrement, append_array, append_string}
 use Rattle.wf_def.specs.DefTree.{DefTree}
 use Rattle.wf_def.specs.AllActions.{all_actions}
 use Rattle.wf_plain.specs.declared.unbuilt.Purpose.{Purpose}

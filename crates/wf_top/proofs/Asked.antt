@@ -1,5 +1,6 @@
 -- A command asks for no file but those that its words name.
-use Rattle.std.proofs.Common.{◌≡◌, ◌<◌, ℕ, List, [], length, Bool, true, Option, None, Some, Result, Ok, Err, inl, inr, refl, subst, sym, arith}
+use Rattle.std.proofs.Common.{◌≡◌, ◌<◌, ℕ, List, [], length, Bool, true, Option, None, Some, Result, Ok, Err, inl, inr, refl, subst, sym}
+use Rattle.std.proofs.Common.{arith}
 use Rattle.std.specs.Prelude.{Contains}
 use Rattle.std.specs.Option.{IfSome}
 use Rattle.std.specs.Option.{option_map}
@@ -11,7 +12,8 @@ use Rattle.wf_top.specs.Plan.{Plan, Says, Reads, ComesTo, AsksAmong}
 use Rattle.wf_answers.specs.Inputs.{InputsTree}
 use Rattle.wf_def.specs.DefTree.{DefTree}
 use Rattle.wf_top.specs.Form.{definition_form, inputs_form, schedule_form}
-use Rattle.wf_top.specs.Commands.{plan, plan_of, accepted, judged_definition, judged_inputs, judged_schedule, made_runs, run, scheduled, text_of_runs}
+use Rattle.wf_top.specs.Commands.{plan, plan_of, accepted, judged_definition, judged_inputs, judged_schedule, made_runs, run, scheduled}
+use Rattle.wf_top.specs.Commands.{text_of_runs}
 use Rattle.wf_top.specs.Served.{FailedAt}
 use Rattle.wf_top.specs.Words.{command_of, is_traced, makes_runs, schedule_word, word}
 use Rattle.wf_top.specs.declared.words.Command.{Command}

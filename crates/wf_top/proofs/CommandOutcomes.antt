@@ -1,22 +1,26 @@
 -- What the outcome of a command says of its files.
-use Rattle.std.proofs.Common.{◌≡◌, ◌⊎◌, ℕ, List, [], Bool, true, Option, None, Some, Result, Ok, Err, inl, inr, refl, ap, subst, sym, ◌∙◌, arith}
+use Rattle.std.proofs.Common.{◌≡◌, ◌⊎◌, ℕ, List, [], Bool, true, Option, None, Some, Result, Ok, Err, inl, inr, refl, ap, subst, sym, ◌∙◌}
+use Rattle.std.proofs.Common.{arith}
 use Rattle.std.specs.Prelude.{codes}
 use Rattle.std.specs.Option.{IfSome, option_map, option_and_then}
 use Rattle.std.specs.Io.KnownBytes.{Appends}
 use Rattle.wf_answers.specs.Inputs.{InputsTree}
 use Rattle.wf_def.specs.DefTree.{DefTree}
 use Rattle.wf_outside.specs.Outside.{Held, IsCalm}
-use Rattle.wf_top.specs.Commands.{accepted, accepted_line, judged_definition, judged_inputs, judged_schedule, made_runs, plan, plan_of, run, scheduled, text_of_runs, too_large}
+use Rattle.wf_top.specs.Commands.{accepted, accepted_line, judged_definition, judged_inputs, judged_schedule, made_runs, plan, plan_of, run}
+use Rattle.wf_top.specs.Commands.{scheduled, text_of_runs, too_large}
 use Rattle.wf_top.specs.Fault.{fault_line}
 use Rattle.wf_top.specs.Form.{definition_form, inputs_form, schedule_form}
 use Rattle.wf_plain.specs.Plain.{plain_of}
 use Rattle.wf_runs.proofs.RunLemmas.{never_memory}
 use Rattle.wf_top.specs.Limits.{definition_bytes, inputs_bytes, schedule_bytes}
 use Rattle.wf_top.specs.Plan.{Plan, Reads, MaySay, MayGive, said_by, within}
-use Rattle.wf_top.specs.Ran.{Checked, GivesDefinition, GivesInputs, GivesNumbers, GivesSchedule, Holds, HoldsDefinition, HoldsSchedule, IsGiven, IsWhole, PassesAll, Ran}
+use Rattle.wf_top.specs.Ran.{Checked, GivesDefinition, GivesInputs, GivesNumbers, GivesSchedule, Holds, HoldsDefinition, HoldsSchedule}
+use Rattle.wf_top.specs.Ran.{IsGiven, IsWhole, PassesAll, Ran}
 use Rattle.wf_top.specs.Ran.{RefusedCost, RefusedDefinition, RefusedInputs, RefusedSchedule, RefusedTrigger}
 use Rattle.wf_top.proofs.Outcomes.{misused_at}
-use Rattle.wf_top.specs.Served.{Comes, Outcome, IsSaid, Misused, Serves, Speaks, Spent, Unread, Writes, number, said_of, say, status_of, text_of}
+use Rattle.wf_top.specs.Served.{Comes, Outcome, IsSaid, Misused, Serves, Speaks, Spent, Unread, Writes, number, said_of, say, status_of}
+use Rattle.wf_top.specs.Served.{text_of}
 use Rattle.wf_top.specs.Trigger.{trigger_line}
 use Rattle.wf_top.specs.Words.{command_of, is_traced, makes_runs, schedule_word, word}
 use Rattle.wf_top.specs.declared.fault.FormFault.{FormFault}

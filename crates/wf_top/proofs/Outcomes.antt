@@ -1,12 +1,14 @@
 -- What follows from how a call ended.
-use Rattle.std.proofs.Common.{◌≡◌, ◌⊎◌, ◌≤◌, ℕ, List, [], ◌∷◌, ◌++◌, length, Option, None, Some, inl, inr, ap, sym, ◌∙◌, refl, arith, length-append}
+use Rattle.std.proofs.Common.{◌≡◌, ◌⊎◌, ◌≤◌, ℕ, List, [], ◌∷◌, ◌++◌, length, Option, None, Some, inl, inr, ap, sym, ◌∙◌, refl, arith}
+use Rattle.std.proofs.Common.{length-append}
 use Rattle.std.specs.Option.{option_map, option_and_then, IfSome}
 use Rattle.std.specs.Io.KnownBytes.{Appends}
 use Rattle.wf_outside.specs.Outside.{Held, Rose, IsCalm}
 use Rattle.wf_top.specs.declared.said.Verdict.{Verdict}
 use Rattle.wf_top.specs.declared.said.Verdict.TheVariants.{Done, Definition, Inputs, TooLarge}
 use Rattle.wf_top.specs.Plan.{Plan, Says, Reads, MaySay, said_by, within}
-use Rattle.wf_top.specs.Served.{number, Outcome, Misused, Speaks, Unread, Spent, status_of, text_of, Comes, Writes, Serves, FailedAt, IsSaid, said_of, cannot_read}
+use Rattle.wf_top.specs.Served.{number, Outcome, Misused, Speaks, Unread, Spent, status_of, text_of, Comes, Writes, Serves, FailedAt}
+use Rattle.wf_top.specs.Served.{IsSaid, said_of, cannot_read}
 
 -- no status of a command is 2, 3, 4 or 5
 pub number_le : (verdict : Verdict) → number verdict ≤ 8

@@ -8,7 +8,8 @@ use Rattle.wf_def.specs.DefTree.{DefTree}
 use Rattle.wf_json.specs.Json.{string}
 use Rattle.wf_reading.specs.declared.definition.RuleFault.{RuleFault}
 use Rattle.wf_template.specs.DataTree as data_
-use Rattle.wf_top.specs.Commands.{accepted, accepted_line, judged_definition, judged_inputs, judged_schedule, made_runs, plan, run, scheduled, text_of_runs}
+use Rattle.wf_top.specs.Commands.{accepted, accepted_line, judged_definition, judged_inputs, judged_schedule, made_runs, plan, run}
+use Rattle.wf_top.specs.Commands.{scheduled, text_of_runs}
 use Rattle.wf_top.specs.Fault.{fault_line, form_words}
 use Rattle.wf_top.specs.Form.{built, checked, definition_form, inputs_form, schedule_form}
 use Rattle.wf_top.specs.Plan.{Plan, Says, Reads, within}

@@ -1,5 +1,6 @@
 -- Which words are a command.
-use Rattle.std.specs.Prelude.{ℕ, List, [], ◌∷◌, ◌&&◌, ◌||◌, length, Bool, true, false, Option, None, Some, if◌then◌else◌, nat_eq, codes, slice_get, slice_index_or}
+use Rattle.std.specs.Prelude.{ℕ, List, [], ◌∷◌, ◌&&◌, ◌||◌, length, Bool, true, false, Option, None, Some, if◌then◌else◌, nat_eq, codes}
+use Rattle.std.specs.Prelude.{slice_get, slice_index_or}
 use Rattle.std.specs.Str.{bytes_eq}
 use Rattle.wf_top.specs.declared.words.Command.{Command}
 use Rattle.wf_top.specs.declared.words.Command.TheVariants.{Check, Run, Trace}

@@ -1,5 +1,6 @@
 -- The starts of a split: how many they are, which stands at a place, and that a body which is replaced doesn't matter.
-use Rattle.std.proofs.Common.{◌≡◌, ◌↔◌, ◌⊎◌, inl, inr, ℕ, zero, suc, ◌+◌, ◌<◌, List, [], ◌∷◌, Bool, true, false, length, Option, Some, None, option_map, is_some, slice_get, Ordering, Less, Equal, Greater, refl, ap, ◌∙◌, subst, add-zero, arith}
+use Rattle.std.proofs.Common.{◌≡◌, ◌↔◌, ◌⊎◌, inl, inr, ℕ, zero, suc, ◌+◌, ◌<◌, List, [], ◌∷◌, Bool, true, false, length, Option, Some, None}
+use Rattle.std.proofs.Common.{option_map, is_some, slice_get, Ordering, Less, Equal, Greater, refl, ap, ◌∙◌, subst, add-zero, arith}
 use Rattle.std.specs.Cmp.{IsTotalOrder}
 use Rattle.std.specs.List.{AllByRecursion}
 use Rattle.std.specs.Prelude.{codes}

@@ -3,7 +3,8 @@ use Rattle.std.specs.Option.{option_map}
 use Rattle.wf_top.specs.Commands.{plan}
 use Rattle.wf_top.proofs.Asked.{failed_word}
 use Rattle.wf_top.proofs.Outcomes.{serves_le, serves_told, serves_two, serves_misused, serves_three, serves_unread, no_command}
-use Rattle.wf_top.proofs.CommandOutcomes.{serves_accepted, serves_checked, serves_cost, serves_definition, serves_inputs, serves_ran, serves_whole}
+use Rattle.wf_top.proofs.CommandOutcomes.{serves_accepted, serves_checked, serves_cost, serves_definition, serves_inputs, serves_ran}
+use Rattle.wf_top.proofs.CommandOutcomes.{serves_whole}
 use Rattle.wf_top.proofs.serve.serve_words.Goals as goal
 
 pub returns-clause-status : goal.returns-clause-status
