@@ -4,7 +4,7 @@ ghost use Rattle.wf_val.specs.Seen.{tree};
 ghost use Rattle.evaluation_rows.specs.Table.{as_index};
 
 use std::alloc::{AllocError, Global};
-use wf_eval::{Look, word_of};
+use wf_look::{Look, word_of};
 use wf_val::{Fields, Name, Text, Val, Vals};
 
 /// What a look tells, in objects by name and in values. An object or a list that the data lacks is empty.

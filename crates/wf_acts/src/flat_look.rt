@@ -14,7 +14,7 @@ use crate::action::Action;
 use crate::place::place_of;
 use std::alloc::{AllocError, Global};
 use wf_answers::Inputs;
-use wf_eval::{Look, word_of};
+use wf_look::{Look, word_of};
 use wf_record::Row;
 use wf_trigger::Start;
 use wf_val::{Fields, Name, Text, Val};

@@ -15,8 +15,8 @@ use crate::flat_look::FlatLook;
 use crate::value::value_in;
 use std::alloc::{AllocError, Global};
 use wf_def::Output;
-use wf_eval::Look;
 use wf_json::fault_text;
+use wf_look::Look;
 use wf_record::{Row, RunStatus, Status};
 use wf_val::{EvalFault, Fields, Text, Val};
 

@@ -5,7 +5,8 @@ ghost use Rattle.wf_template.specs.DataSeen.{data_tree};
 ghost use Rattle.wf_val.specs.Arguments.{seen};
 
 use std::alloc::{AllocError, Global};
-use wf_eval::{Look, eval_tree};
+use wf_eval::eval_tree;
+use wf_look::Look;
 use wf_template::Tree;
 use wf_val::{EvalFault, Val};
 

@@ -10,10 +10,10 @@ use Rattle.wf_template.specs.ExprSeen.{expr_tree}
 use Rattle.wf_template.specs.declared.chain.Access.{Access}
 use Rattle.wf_template.proofs.ChainLemmas.{key_count}
 use Rattle.wf_eval.specs.Seen.{accessed_run, chained}
-use Rattle.wf_eval.specs.Meets.{MeetsFault}
-use Rattle.wf_eval.specs.Outcomes.{Outcome, turned}
-use Rattle.wf_eval.specs.Accesses.{member_row, index_row}
-use Rattle.wf_eval.specs.Told.{Told}
+use Rattle.wf_look.specs.Meets.{MeetsFault}
+use Rattle.wf_look.specs.Outcomes.{Outcome, turned}
+use Rattle.wf_look.specs.Accesses.{member_row, index_row}
+use Rattle.wf_look.specs.Told.{Told}
 use Rattle.wf_eval.specs.Value.{value}
 use Rattle.wf_eval.proofs.Grow.{then_run-grows, value-grows, handed, turned_fault}
 

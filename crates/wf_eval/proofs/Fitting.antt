@@ -17,16 +17,19 @@ use Rattle.wf_template.specs.TemplateTree.{TemplateTree, plain, whole, parts}
 use Rattle.wf_template.specs.DataTree as inputs
 use Rattle.wf_functions.specs.declared.draw.Draw.{Draw}
 use Rattle.wf_eval.specs.declared.way.Way.{Way}
-use Rattle.wf_eval.specs.Accesses.{found, member_row, index_row}
+use Rattle.wf_look.specs.Accesses.{found, member_row, index_row}
 use Rattle.wf_functions.specs.Draws.{draw_of, made}
-use Rattle.wf_eval.specs.Looked.{named_by, told_row}
-use Rattle.wf_eval.specs.Outcomes.{Outcome, Run, go_on, then_run, turned, all_after}
+use Rattle.wf_look.specs.Looked.{named_by, told_row}
+use Rattle.wf_look.specs.Outcomes.{Outcome, Run, go_on, then_run, turned, all_after}
 use Rattle.wf_functions.specs.Rows.{fitted, strict_row, as_text, joined_row}
 use Rattle.wf_eval.specs.TemplateValue.{text_answer, joined, piece_runs, template_value}
 use Rattle.wf_functions.specs.Timed.{timed_row}
-use Rattle.wf_eval.specs.Told.{Told, next_word}
+use Rattle.wf_look.specs.Told.{Told, next_word}
 use Rattle.wf_eval.specs.TreeValue.{list_answer, object_answer, members_after, tree_value, tree_runs, member_runs}
-use Rattle.wf_eval.specs.Value.{chosen, if_run, stop, at_end, or_go_on, early, literal_name, drawn, called, called_by, value, runs}
+use Rattle.wf_look.specs.Args.{literal_name}
+use Rattle.wf_look.specs.Early.{stop, at_end}
+use Rattle.wf_look.specs.Drawn.{drawn}
+use Rattle.wf_eval.specs.Value.{chosen, if_run, or_go_on, early, called, called_by, value, runs}
 use Rattle.wf_eval.specs.Ways.{way_of}
 
 -- ---- tests

@@ -13,13 +13,14 @@ use Rattle.wf_val.specs.declared.fault.EvalFault.{EvalFault}
 use Rattle.wf_json.specs.Json as json_text
 use Rattle.wf_template.specs.ExprSeen.{expr_tree}
 use Rattle.wf_template.specs.declared.expr.Expr.{Expr}
-use Rattle.wf_eval.specs.Measured.{Measured, with_more, measured_answer, measured}
-use Rattle.wf_eval.specs.Meets.{Meets, MeetsFault}
-use Rattle.wf_eval.specs.Outcomes.{Run, go_on, turned, strictly, all_after}
+use Rattle.wf_look.specs.Measured.{Measured, with_more, measured_answer}
+use Rattle.wf_eval.specs.MeasuredRuns.{measured}
+use Rattle.wf_look.specs.Meets.{Meets, MeetsFault}
+use Rattle.wf_look.specs.Outcomes.{Run, go_on, turned, strictly, all_after}
 use Rattle.wf_functions.specs.Rows.{fitted, as_text, joined_row}
-use Rattle.wf_eval.specs.Seen.{args_tree}
+use Rattle.wf_look.specs.Args.{args_tree}
 use Rattle.wf_eval.specs.TemplateValue.{joined, text_answer}
-use Rattle.wf_eval.specs.Told.{Told}
+use Rattle.wf_look.specs.Told.{Told}
 use Rattle.wf_eval.specs.Value.{value, runs}
 use Rattle.wf_eval.proofs.Grow.{handed, runs-grow}
 use Rattle.wf_eval.proofs.Loops.{from_on, from_on-item}

@@ -9,7 +9,7 @@ mod CondLoops
 mod Fitting
 mod Local
 mod MomentsAndWords
-mod WorkedLook
+mod WorkedExpressions
 mod WorkedFunctions
 mod WorkedCalls
 mod Worked

@@ -13,13 +13,15 @@ use Rattle.wf_eval.specs.declared.way.Way.{Way}
 use Rattle.wf_functions.specs.Draws.{draw_of, made}
 use Rattle.wf_functions.specs.Timed.{timed_row}
 use Rattle.wf_functions.specs.Words.{word_of}
-use Rattle.wf_eval.specs.Told.{Told, raised}
+use Rattle.wf_look.specs.Told.{Told, raised}
 use Rattle.wf_eval.specs.Ways.{way_of}
-use Rattle.wf_eval.specs.Outcomes.{Run, then_run, turned, all_after, strictly}
-use Rattle.wf_eval.specs.Accesses.{member_row, index_row}
-use Rattle.wf_eval.specs.Looked.{or_no_value, over_view, part_in, as_number, outputs_in, body_in, workflow_value, named_row, named_by, told_row}
+use Rattle.wf_look.specs.Outcomes.{Run, then_run, turned, all_after, strictly}
+use Rattle.wf_look.specs.Accesses.{member_row, index_row}
+use Rattle.wf_look.specs.Looked.{or_no_value, over_view, part_in, as_number, outputs_in, body_in, workflow_value, named_row, named_by, told_row}
 use Rattle.wf_functions.specs.Rows.{fitted}
-use Rattle.wf_eval.specs.Value.{early, drawn, drawn_run, called, called_by, value, runs, literal_name}
+use Rattle.wf_look.specs.Args.{literal_name}
+use Rattle.wf_look.specs.Drawn.{drawn}
+use Rattle.wf_eval.specs.Value.{early, drawn_run, called, called_by, value, runs}
 use Rattle.wf_eval.specs.TemplateValue.{piece_value, piece_runs, joined, text_answer, template_value}
 use Rattle.wf_eval.specs.TreeValue.{members_after, list_answer, object_answer, tree_value, tree_runs, member_runs}
 use Rattle.wf_eval.specs.Truth.{negated, compared, truth, truth_of, truths_of}

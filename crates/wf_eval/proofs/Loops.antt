@@ -9,11 +9,12 @@ use Rattle.wf_template.specs.ExprTree.{ExprTrees, expr_then, expr_trees}
 use Rattle.wf_template.specs.ExprCounts.{expr_count, exprs_count}
 use Rattle.wf_template.specs.ExprSeen.{expr_tree}
 use Rattle.wf_template.specs.declared.expr.Expr.{Expr}
-use Rattle.wf_eval.specs.Told.{Told}
-use Rattle.wf_eval.specs.Meets.{Meets, MeetsFault}
-use Rattle.wf_eval.specs.Outcomes.{Outcome, Run, then_run, all_after}
-use Rattle.wf_eval.specs.Seen.{args_tree}
-use Rattle.wf_eval.specs.Value.{if_run, stop, at_end, or_go_on, early, value, runs}
+use Rattle.wf_look.specs.Told.{Told}
+use Rattle.wf_look.specs.Meets.{Meets, MeetsFault}
+use Rattle.wf_look.specs.Outcomes.{Outcome, Run, then_run, all_after}
+use Rattle.wf_look.specs.Args.{args_tree}
+use Rattle.wf_look.specs.Early.{stop_at, stop, at_end}
+use Rattle.wf_eval.specs.Value.{if_run, or_go_on, early, value, runs}
 use Rattle.wf_eval.proofs.Meeting.{of_memory, meets}
 use Rattle.wf_eval.proofs.Grow.{handed_all, handed_early, handed_if}
 
@@ -50,7 +51,7 @@ fault_all l m xs i x done n f k whole lt e same so_far met =
     (subst (λ es. MeetsFault f (all_after (runs l es) done n) k) (sym (from_on-item xs i x lt e))
     (handed_all l (expr_tree x) (from_on xs (suc i)) done n f k (subst (λ t. MeetsFault f (value t (expr_tree x) n) k) same met)))
 
-pub fault_early : (g : Fun) (l m : Told) (xs : List Expr) (i : ℕ) (x : Expr) (place n : ℕ) (f : EvalFault) (k : ℕ) (whole : Outcome) →
+fault_early : (g : Fun) (l m : Told) (xs : List Expr) (i : ℕ) (x : Expr) (place n : ℕ) (f : EvalFault) (k : ℕ) (whole : Outcome) →
     i < length xs → x ≡ get_or xs i x → m ≡ l → early g (runs l (from_on xs i)) place n ≡ whole →
     MeetsFault f (value m (expr_tree x) n) k → MeetsFault f whole k
 fault_early g l m xs i x place n f k whole lt e same so_far met =
@@ -98,22 +99,33 @@ early_next g l m xs i x place n t k lt e same met =
     ap (λ es. early g (runs l es) place n) (from_on-item xs i x lt e)
     ∙ ap (λ o. then_run o (λ u q. or_go_on (stop g place u) (λ p. early g (runs l (from_on xs (suc i))) (suc place) p) q)) here
 
-pub early_stops : (g : Fun) (l m : Told) (xs : List Expr) (i : ℕ) (x : Expr) (place n : ℕ) (t : ValueTree) (k : ℕ) (r : Answer)
+stops : (g : Fun) (l m : Told) (xs : List Expr) (i : ℕ) (x : Expr) (place n : ℕ) (t : ValueTree) (k : ℕ) (r : Answer)
     (all : Outcome) →
     i < length xs → x ≡ get_or xs i x → m ≡ l → early g (runs l (from_on xs i)) place n ≡ all →
     ((value m (expr_tree x) n).0 ≡ Ok t) × ((value m (expr_tree x) n).1 ≡ k) → Some r ≡ stop g place t → Meets r all k
-early_stops g l m xs i x place n t k r all lt e same so_far met end =
+stops g l m xs i x place n t k r all lt e same so_far met end =
     let rest : Run = λ q. early g (runs l (from_on xs (suc i))) (suc place) q in
     let whole : (r, k) ≡ all = ap (λ s. or_go_on s rest k) end ∙ (sym (early_next g l m xs i x place n t k lt e same met) ∙ so_far) in
     subst (λ o. Meets r o k) whole (meets r (r, k) k (λ apart. refl) refl)
 
-pub early_goes_on : (g : Fun) (l m : Told) (xs : List Expr) (i : ℕ) (x : Expr) (place n : ℕ) (t : ValueTree) (k : ℕ) (all : Outcome) →
+-- the function stops at the argument's answer, a fault or a value that decides
+pub early_stops : (g : Fun) (l m : Told) (xs : List Expr) (i : ℕ) (x : Expr) (place n : ℕ) (a : Answer) (k : ℕ) (r : Answer)
+    (all : Outcome) →
     i < length xs → x ≡ get_or xs i x → m ≡ l → early g (runs l (from_on xs i)) place n ≡ all →
-    ((value m (expr_tree x) n).0 ≡ Ok t) × ((value m (expr_tree x) n).1 ≡ k) → None ≡ stop g place t →
-    early g (runs l (from_on xs (i + 1))) (place + 1) k ≡ all
-early_goes_on g l m xs i x place n t k all lt e same so_far met none =
+    Meets a (value m (expr_tree x) n) k → Some r ≡ stop_at g place a → Meets r all k
+early_stops g l m xs i x place n (Ok t) k r all lt e same so_far met end = stops g l m xs i x place n t k r all lt e same so_far met end
+early_stops g l m xs i x place n (Err f) k r all lt e same so_far met end =
+    let fault : Err f ≡ r = cc in
+    subst (λ a. Meets a all k) fault (fault_early g l m xs i x place n f k all lt e same so_far met)
+
+-- it goes on with the rest
+pub early_goes_on : (g : Fun) (l m : Told) (xs : List Expr) (i : ℕ) (x : Expr) (place n : ℕ) (a : Answer) (k : ℕ) (all : Outcome) →
+    i < length xs → x ≡ get_or xs i x → m ≡ l → early g (runs l (from_on xs i)) place n ≡ all →
+    Meets a (value m (expr_tree x) n) k → None ≡ stop_at g place a → early g (runs l (from_on xs (i + 1))) (place + 1) k ≡ all
+early_goes_on g l m xs i x place n (Ok t) k all lt e same so_far met none =
     let rest : Run = λ q. early g (runs l (from_on xs (suc i))) (suc place) q in
     rw (add-one, add-one) (ap (λ s. or_go_on s rest k) none ∙ (sym (early_next g l m xs i x place n t k lt e same met) ∙ so_far))
+early_goes_on g l m xs i x place n (Err f) k all lt e same so_far met none = absurd cc
 
 pub early_ends : (g : Fun) (l : Told) (xs : List Expr) (i place n : ℕ) (t : ValueTree) (all : Outcome) →
     length xs ≤ i → early g (runs l (from_on xs i)) place n ≡ all → t ≡ at_end g → (all.0 ≡ Ok t) × (all.1 ≡ n)

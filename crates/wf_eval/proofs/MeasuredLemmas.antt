@@ -9,11 +9,12 @@ use Rattle.wf_val.specs.declared.fault.EvalFault.{EvalFault}
 use Rattle.wf_json.specs.Json as json_text
 use Rattle.wf_template.specs.TemplateSeen.{piece_tree}
 use Rattle.wf_template.specs.declared.template.Piece.{Piece}
-use Rattle.wf_eval.specs.Measured.{Measured, with_more, measured_answer, measured}
-use Rattle.wf_eval.specs.Meets.{Meets, MeetsFault}
-use Rattle.wf_eval.specs.Outcomes.{Outcome, Run, go_on, turned}
+use Rattle.wf_look.specs.Measured.{Measured, with_more, measured_answer}
+use Rattle.wf_eval.specs.MeasuredRuns.{measured}
+use Rattle.wf_look.specs.Meets.{Meets, MeetsFault}
+use Rattle.wf_look.specs.Outcomes.{Outcome, Run, go_on, turned}
 use Rattle.wf_eval.specs.TemplateValue.{piece_value, piece_runs, joined, text_answer}
-use Rattle.wf_eval.specs.Told.{Told}
+use Rattle.wf_look.specs.Told.{Told}
 use Rattle.wf_eval.proofs.Grow.{AreGrowing, then_run-grows, handed, turned_fault}
 use Rattle.wf_eval.proofs.Loops.{drop-item}
 use Rattle.wf_eval.proofs.Meeting.{of_memory, meets}

@@ -3,7 +3,7 @@ use Rattle.std.proofs.Common.{◌≡◌, ℕ, ◌≤◌, false, Result, Ok, Err,
 use Rattle.std.specs.Prelude.{◌≢◌}
 use Rattle.wf_val.specs.Arguments.{Gives, given, is_memory}
 use Rattle.wf_val.specs.declared.fault.EvalFault.{EvalFault}
-use Rattle.wf_eval.specs.Meets.{Meets, MeetsFault}
+use Rattle.wf_look.specs.Meets.{Meets, MeetsFault}
 
 -- any fault but want of memory
 memory_apart : {X : Type 0} (r : Result X EvalFault) (f : EvalFault) → r ≡ Err f → is_memory f ≡ false → r ≢ Err EvalFault.Memory

@@ -9,9 +9,9 @@ use Rattle.wf_template.specs.DataTree as inputs
 use Rattle.wf_template.specs.DataSeen.{data_tree, data_member}
 use Rattle.wf_template.specs.declared.tree.Tree.{Tree}
 use Rattle.wf_json.specs.Json as json_text
-use Rattle.wf_eval.specs.Told.{Told}
-use Rattle.wf_eval.specs.Meets.{MeetsFault}
-use Rattle.wf_eval.specs.Outcomes.{Run, all_after}
+use Rattle.wf_look.specs.Told.{Told}
+use Rattle.wf_look.specs.Meets.{MeetsFault}
+use Rattle.wf_look.specs.Outcomes.{Run, all_after}
 use Rattle.wf_eval.specs.TemplateValue.{piece_value, piece_runs, joined, template_value}
 use Rattle.wf_eval.specs.TreeValue.{members_after, tree_value, tree_runs, member_runs}
 use Rattle.wf_eval.proofs.Grow.{IsGrowing, AreGrowing, then_run-grows, all_after-grows, value-grows, handed}

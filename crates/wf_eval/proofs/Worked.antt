@@ -1,6 +1,6 @@
 -- Values of accesses, literals, templates, trees and conditions, where a reader can work them out: each fault with its function and place,
 -- and each edge.
-use Rattle.std.proofs.Common.{◌≡◌, ◌-◌, ◌^◌, refl, [], ◌∷◌, Ok, Err, true, false}
+use Rattle.std.proofs.Common.{◌≡◌, refl, [], ◌∷◌, Ok, Err, true, false}
 use Rattle.std.specs.Prelude.{pos, negsuc, codes}
 use Rattle.wf_val.specs.ValueTree.{null, boolean, number, text, object, members}
 use Rattle.wf_val.specs.declared.fault.EvalFault.{EvalFault}
@@ -9,29 +9,17 @@ use Rattle.wf_template.specs.ExprTree.{literal, member, index}
 use Rattle.wf_template.specs.TemplateTree.{letters, part, plain, whole, parts}
 use Rattle.wf_template.specs.DataTree as inputs
 use Rattle.wf_template.specs.CondTree.{holds, all_of, any_of, not_of, compare_by, cond_trees}
-use Rattle.wf_eval.specs.Told.{raised}
 use Rattle.wf_eval.specs.TemplateValue.{template_value}
-use Rattle.wf_eval.proofs.WorkedLook.{nested, somewhere, int, word, truth, untruth, nothing, two_items, five, that, items_of, members_of, by_zero, rest_by_zero, here, tree_here, truth_here}
+use Rattle.wf_look.proofs.WorkedLook.{nested, somewhere}
+use Rattle.wf_eval.proofs.WorkedExpressions.{int, word, truth, untruth, nothing, two_items, five, that, items_of, members_of, by_zero, rest_by_zero, here, tree_here, truth_here}
 
--- ---- accesses: to what is there, to what isn't, and by a key that is neither text nor number
+-- ---- accesses: hard and by `?`, by names and by places, from left to right
 
 member-there : here (member five (codes "a") false) ≡ (Ok (number (pos 5)), 7)
 member-there = refl
 
-member-absent : here (member five (codes "A") false) ≡ (Err (EvalFault.NoMember (codes "A")), 7)
-member-absent = refl
-
 member-absent_soft : here (member five (codes "A") true) ≡ (Ok null, 7)
 member-absent_soft = refl
-
-member-of_null : here (member nothing (codes "x") false) ≡ (Err (EvalFault.NoMember (codes "x")), 7)
-member-of_null = refl
-
-member-of_null_soft : here (member nothing (codes "x") true) ≡ (Ok null, 7)
-member-of_null_soft = refl
-
-member-of_list : here (member two_items (codes "0") false) ≡ (Err (EvalFault.NoMember (codes "0")), 7)
-member-of_list = refl
 
 member-of_fault : here (member by_zero (codes "x") true) ≡ (Err (EvalFault.Range Fun.Div), 7)
 member-of_fault = refl
@@ -39,32 +27,11 @@ member-of_fault = refl
 index-name : here (index five (word (codes "a")) false) ≡ (Ok (number (pos 5)), 7)
 index-name = refl
 
-index-name_on_list : here (index two_items (word (codes "0")) false) ≡ (Err (EvalFault.NoMember (codes "0")), 7)
-index-name_on_list = refl
-
-index-first : here (index two_items (int 0) false) ≡ (Ok (text (codes "x")), 7)
-index-first = refl
-
-index-last : here (index two_items (int 1) false) ≡ (Ok null, 7)
-index-last = refl
-
-index-past_soft : here (index two_items (int 2) true) ≡ (Ok null, 7)
-index-past_soft = refl
-
 index-below_soft : here (index two_items (literal (number (negsuc 0))) true) ≡ (Ok null, 7)
 index-below_soft = refl
 
 index-of_text_soft : here (index (word (codes "abc")) (int 0) true) ≡ (Ok null, 7)
 index-of_text_soft = refl
-
-index-of_object_soft : here (index five (int 0) true) ≡ (Ok null, 7)
-index-of_object_soft = refl
-
-index-other_key : here (index five (truth) false) ≡ (Err (EvalFault.WrongType Fun.Index 2), 7)
-index-other_key = refl
-
-index-other_key_soft : here (index nothing (nothing) true) ≡ (Err (EvalFault.WrongType Fun.Index 2), 7)
-index-other_key_soft = refl
 
 index-base_first : here (index by_zero (rest_by_zero) true) ≡ (Err (EvalFault.Range Fun.Div), 7)
 index-base_first = refl
@@ -177,14 +144,3 @@ compare-no_truth :
     truth_here (compare_by Fun.Add (inputs.number (pos 1)) (inputs.number (pos 1)))
     ≡ (Err (EvalFault.WrongType Fun.Condition 1), 7)
 compare-no_truth = refl
-
--- ---- the number of words drawn
-
-raised-none : raised 0 ≡ 1
-raised-none = refl
-
-raised-last : raised (2 ^ 64 - 2) ≡ 2 ^ 64 - 1
-raised-last = refl
-
-raised-greatest : raised (2 ^ 64 - 1) ≡ 2 ^ 64 - 1
-raised-greatest = refl

@@ -1,14 +1,15 @@
--- Values of the functions that have a way of their own with their arguments, or ask the look, at worked calls: each way of each function,
--- and each fault with its function and place.
-use Rattle.std.proofs.Common.{◌≡◌, ◌-◌, ◌^◌, refl, [], ◌∷◌, Ok, Err, true, false}
+-- Values of the functions that have a way of their own with their arguments, or ask the look, at worked calls: each way of each function.
+-- What the look gives under a name has rows of its own, without expressions, in the crate of looks.
+use Rattle.std.proofs.Common.{◌≡◌, refl, [], ◌∷◌, Ok, Err, true, false}
 use Rattle.std.specs.Prelude.{pos, codes}
 use Rattle.wf_val.specs.ValueTree.{null, boolean, number, text, list, object, trees, no_members}
 use Rattle.wf_val.specs.declared.fault.EvalFault.{EvalFault}
 use Rattle.wf_val.specs.declared.function.Fun.{Fun}
 use Rattle.wf_template.specs.ExprTree.{literal}
-use Rattle.wf_eval.specs.Told.{over}
+use Rattle.wf_look.specs.Told.{over}
 use Rattle.wf_eval.specs.Value.{value}
-use Rattle.wf_eval.proofs.WorkedLook.{nested, one_member, with_body, somewhere, named_workflow, int, word, truth, untruth, nothing, of, by_zero, rest_by_zero, here, there}
+use Rattle.wf_look.proofs.WorkedLook.{nested, one_member, with_body, somewhere, named_workflow}
+use Rattle.wf_eval.proofs.WorkedExpressions.{int, word, truth, untruth, nothing, of, by_zero, rest_by_zero, here, there}
 
 -- ---- `if`: only the chosen arm
 
@@ -116,9 +117,6 @@ actions-view = refl
 actions-none : here (of (codes "actions") (word (codes "X") ∷ [])) ≡ (Err (EvalFault.NoValue (codes "X")), 7)
 actions-none = refl
 
-actions-case_of_name : here (of (codes "actions") (word (codes "a") ∷ [])) ≡ (Err (EvalFault.NoValue (codes "a")), 7)
-actions-case_of_name = refl
-
 actions-any_case : here (of (codes "ACTIONS") (word (codes "C") ∷ [])) ≡ (Ok null, 7)
 actions-any_case = refl
 
@@ -130,9 +128,6 @@ actions-no_literal = refl
 actions-no_text : here (of (codes "actions") (int 1 ∷ [])) ≡ (Err (EvalFault.WrongType Fun.Actions 1), 7)
 actions-no_text = refl
 
-actions-no_argument : here (of (codes "actions") ([])) ≡ (Err (EvalFault.WrongType Fun.Actions 1), 7)
-actions-no_argument = refl
-
 actions-deep : here (of (codes "actions") (word (codes "E") ∷ [])) ≡ (Err (EvalFault.TooBig 65 74), 7)
 actions-deep = refl
 
@@ -142,85 +137,35 @@ outputs-of_deep = refl
 outputs-deep : here (of (codes "outputs") (word (codes "F") ∷ [])) ≡ (Err (EvalFault.TooBig 65 66), 7)
 outputs-deep = refl
 
-outputs-of_object :
-    here (of (codes "outputs") (word (codes "A") ∷ []))
-    ≡ (Ok (one_member (codes "body") (text (codes "a"))), 7)
-outputs-of_object = refl
-
-outputs-of_null : here (of (codes "outputs") (word (codes "C") ∷ [])) ≡ (Ok null, 7)
-outputs-of_null = refl
-
-outputs-absent : here (of (codes "outputs") (word (codes "G") ∷ [])) ≡ (Ok null, 7)
-outputs-absent = refl
-
 outputs-of_list :
     here (of (codes "outputs") (word (codes "D") ∷ []))
     ≡ (Ok (list (trees (one_member (codes "body") (boolean false) ∷ null ∷ null ∷ []))), 7)
 outputs-of_list = refl
-
-outputs-none : here (of (codes "outputs") (word (codes "X") ∷ [])) ≡ (Err (EvalFault.NoValue (codes "X")), 7)
-outputs-none = refl
-
-body-of_object : here (of (codes "body") (word (codes "A") ∷ [])) ≡ (Ok (text (codes "a")), 7)
-body-of_object = refl
-
-body-of_scalar : here (of (codes "body") (word (codes "B") ∷ [])) ≡ (Ok null, 7)
-body-of_scalar = refl
-
-body-of_null : here (of (codes "body") (word (codes "C") ∷ [])) ≡ (Ok null, 7)
-body-of_null = refl
 
 body-of_list :
     here (of (codes "body") (word (codes "D") ∷ []))
     ≡ (Ok (list (trees (boolean false ∷ null ∷ null ∷ []))), 7)
 body-of_list = refl
 
-body-none : here (of (codes "body") (word (codes "X") ∷ [])) ≡ (Err (EvalFault.NoValue (codes "X")), 7)
-body-none = refl
-
 result-views : here (of (codes "result") (word (codes "S") ∷ [])) ≡ (Ok (list (trees [])), 7)
 result-views = refl
-
-result-none : here (of (codes "result") (word (codes "A") ∷ [])) ≡ (Err (EvalFault.NoValue (codes "A")), 7)
-result-none = refl
 
 items-item : here (of (codes "items") (word (codes "L") ∷ [])) ≡ (Ok (text (codes "i")), 7)
 items-item = refl
 
-items-none : here (of (codes "items") (word (codes "M") ∷ [])) ≡ (Err (EvalFault.NoValue (codes "M")), 7)
-items-none = refl
-
 indexes-index : here (of (codes "iterationIndexes") (word (codes "L") ∷ [])) ≡ (Ok (number (pos 2)), 7)
 indexes-index = refl
-
-indexes-greatest : here (of (codes "iterationIndexes") (word (codes "M") ∷ [])) ≡ (Ok (number (pos (2 ^ 63 - 1))), 7)
-indexes-greatest = refl
-
-indexes-cut : here (of (codes "iterationIndexes") (word (codes "N") ∷ [])) ≡ (Ok (number (pos (2 ^ 63 - 1))), 7)
-indexes-cut = refl
-
-indexes-none : here (of (codes "iterationIndexes") (word (codes "X") ∷ [])) ≡ (Err (EvalFault.NoValue (codes "X")), 7)
-indexes-none = refl
 
 parameters-value : here (of (codes "parameters") (word (codes "p") ∷ [])) ≡ (Ok (boolean true), 7)
 parameters-value = refl
 
-parameters-none : here (of (codes "parameters") (word (codes "v") ∷ [])) ≡ (Err (EvalFault.NoValue (codes "v")), 7)
-parameters-none = refl
-
 variables-value : here (of (codes "variables") (word (codes "v") ∷ [])) ≡ (Ok (text (codes "x")), 7)
 variables-value = refl
-
-variables-none : here (of (codes "variables") (word (codes "p") ∷ [])) ≡ (Err (EvalFault.NoValue (codes "p")), 7)
-variables-none = refl
 
 -- ---- what a look has; a fault has the function's own name
 
 action-own : here (of (codes "action") ([])) ≡ (Ok (text (codes "me")), 7)
 action-own = refl
-
-action-none : there (of (codes "ACTION") ([])) ≡ (Err (EvalFault.NoValue (codes "action")), 7)
-action-none = refl
 
 item-nearest : here (of (codes "item") ([])) ≡ (Ok (boolean false), 7)
 item-nearest = refl
@@ -244,12 +189,6 @@ trigger-outputs = refl
 
 trigger-body : here (of (codes "triggerBody") ([])) ≡ (Ok (boolean true), 7)
 trigger-body = refl
-
-trigger-no_object : there (of (codes "triggerOutputs") ([])) ≡ (Ok null, 7)
-trigger-no_object = refl
-
-trigger-no_body : there (of (codes "triggerBody") ([])) ≡ (Ok null, 7)
-trigger-no_body = refl
 
 workflow-run : here (of (codes "workflow") ([])) ≡ (Ok named_workflow, 7)
 workflow-run = refl

@@ -1,11 +1,6 @@
-pub mod Told
-pub mod Outcomes
-pub mod Meets
 pub mod Ways
-pub mod Accesses
-pub mod Looked
 pub mod Value
-pub mod Measured
+pub mod MeasuredRuns
 pub mod TemplateValue
 pub mod TreeValue
 pub mod Truth

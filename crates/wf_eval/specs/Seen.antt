@@ -1,17 +1,11 @@
--- Arguments and accesses as the evaluator goes through them.
-use Rattle.std.specs.Prelude.{List, [], ◌∷◌, map}
+-- Accesses as the evaluator goes through them.
+use Rattle.std.specs.Prelude.{List, [], ◌∷◌}
 use Rattle.wf_template.specs.ExprSeen.{expr_tree}
-use Rattle.wf_template.specs.ExprTree.{ExprTrees, expr_trees}
-use Rattle.wf_template.specs.declared.expr.Expr.{Expr}
 use Rattle.wf_template.specs.declared.chain.Access.{Access}
-use Rattle.wf_eval.specs.Accesses.{member_row, index_row}
-use Rattle.wf_eval.specs.Outcomes.{Outcome, then_run, turned}
-use Rattle.wf_eval.specs.Told.{Told}
+use Rattle.wf_look.specs.Accesses.{member_row, index_row}
+use Rattle.wf_look.specs.Outcomes.{Outcome, then_run, turned}
+use Rattle.wf_look.specs.Told.{Told}
 use Rattle.wf_eval.specs.Value.{value}
-
--- the trees of arguments
-abbrev pub args_tree : List Expr → ExprTrees
-args_tree es = expr_trees (map expr_tree es)
 
 -- what an access makes of the outcome of what it stands on
 abbrev pub accessed_run : Told → Access → Outcome → Outcome

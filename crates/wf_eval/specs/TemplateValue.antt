@@ -5,8 +5,8 @@ use Rattle.wf_val.specs.ValueTree.{text}
 use Rattle.wf_val.specs.declared.fault.EvalFault.{EvalFault}
 use Rattle.wf_json.specs.Json as json_text
 use Rattle.wf_template.specs.TemplateTree.{PieceTree, letters, part, TemplateTree, plain, whole, parts}
-use Rattle.wf_eval.specs.Outcomes.{Run, then_run, turned}
-use Rattle.wf_eval.specs.Told.{Told}
+use Rattle.wf_look.specs.Outcomes.{Run, then_run, turned}
+use Rattle.wf_look.specs.Told.{Told}
 use Rattle.wf_eval.specs.Value.{value}
 
 -- a piece: a literal text is itself

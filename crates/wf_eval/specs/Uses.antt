@@ -7,8 +7,8 @@ use Rattle.wf_template.specs.TemplateTree.{PieceTree, letters, part, TemplateTre
 use Rattle.wf_template.specs.DataTree as inputs
 use Rattle.wf_template.specs.CondTree.{CondTree, holds, all_of, any_of, not_of, compare_by, CondTrees, no_conds, cond_then}
 use Rattle.wf_eval.specs.declared.way.Way.{Way}
-use Rattle.wf_eval.specs.Told.{Told}
-use Rattle.wf_eval.specs.Value.{literal_name}
+use Rattle.wf_look.specs.Told.{Told}
+use Rattle.wf_look.specs.Args.{literal_name}
 use Rattle.wf_eval.specs.Ways.{way_of}
 
 -- a naming function with its name, a function of the look alone, the moment, or the seed and the place of words

@@ -1,21 +1,23 @@
 -- THE VALUE OF AN EXPRESSION in a look (Workflow Definition Language, "Expressions"): its value, or the first fault from left to
 -- right, and the number of words drawn. Each value fits, or is `TooBig`.
-use Rattle.std.specs.Prelude.{ℕ, suc, true, false, List, [], ◌∷◌, length, Option, Some, None, Result, Ok, Err}
+use Rattle.std.specs.Prelude.{ℕ, suc, true, false, List, [], ◌∷◌, length, Option, Some, None, Ok, Err}
 use Rattle.wf_val.specs.Arguments.{Answer, given, wrong_type, bounded}
 use Rattle.wf_val.specs.Function.{function_of}
-use Rattle.wf_val.specs.ValueTree.{ValueTree, null, boolean, text}
+use Rattle.wf_val.specs.ValueTree.{ValueTree, boolean}
 use Rattle.wf_val.specs.declared.fault.EvalFault.{EvalFault}
 use Rattle.wf_val.specs.declared.function.Fun.{Fun}
 use Rattle.wf_template.specs.ExprTree.{ExprTree, ExprTrees, literal, call, member, index, no_exprs, expr_then}
-use Rattle.wf_functions.specs.declared.draw.Draw.{Draw}
 use Rattle.wf_eval.specs.declared.way.Way.{Way}
-use Rattle.wf_eval.specs.Accesses.{member_row, index_row}
-use Rattle.wf_functions.specs.Draws.{draw_of, made}
-use Rattle.wf_eval.specs.Looked.{named_by, told_row}
-use Rattle.wf_eval.specs.Outcomes.{Run, then_run, turned, all_after, strictly}
+use Rattle.wf_look.specs.Accesses.{member_row, index_row}
+use Rattle.wf_functions.specs.Draws.{draw_of}
+use Rattle.wf_look.specs.Args.{literal_name}
+use Rattle.wf_look.specs.Drawn.{drawn}
+use Rattle.wf_look.specs.Early.{stop, at_end}
+use Rattle.wf_look.specs.Looked.{named_by, told_row}
+use Rattle.wf_look.specs.Outcomes.{Run, then_run, turned, all_after, strictly}
 use Rattle.wf_functions.specs.Rows.{fitted, strict_row, joined_row}
 use Rattle.wf_functions.specs.Timed.{timed_row}
-use Rattle.wf_eval.specs.Told.{Told, raised, next_word}
+use Rattle.wf_look.specs.Told.{Told}
 use Rattle.wf_eval.specs.Ways.{way_of}
 
 -- ---- functions that leave an argument without a value
@@ -30,22 +32,7 @@ abbrev pub if_run : List Run → Run
 if_run (test ∷ first ∷ second ∷ rs) n = then_run (test n) (chosen first second)
 if_run rs n = (Err (wrong_type Fun.If (length rs)), n)
 
--- the answer at which a function that stops early stops, at its argument of that place
-abbrev pub stop : Fun → ℕ → ValueTree → Option Answer
-stop Fun.And i (boolean true) = None
-stop Fun.And i (boolean false) = Some (Ok (boolean false))
-stop Fun.Or i (boolean true) = Some (Ok (boolean true))
-stop Fun.Or i (boolean false) = None
-stop Fun.Coalesce i null = None
-stop Fun.Coalesce i t = Some (Ok t)
-stop f i t = Some (Err (wrong_type f i))
-
--- its value where no argument stops it
-abbrev pub at_end : Fun → ValueTree
-at_end Fun.And = boolean true
-at_end Fun.Or = boolean false
-at_end f = null
-
+-- where it doesn't stop, the rest follows
 abbrev pub or_go_on : Option Answer → Run → Run
 or_go_on (Some a) rest n = (a, n)
 or_go_on None rest n = rest n
@@ -57,21 +44,11 @@ early f (r ∷ rs) i n = then_run (r n) (λ t m. or_go_on (stop f i t) (λ k. ea
 
 -- ---- functions that draw a word
 
--- what is made of the next word, where there is something to make; else none is drawn
-abbrev pub drawn : Told → Result Draw EvalFault → Run
-drawn l (Ok d) n = (fitted (Ok (made d (next_word l n))), raised n)
-drawn l (Err f) n = (Err f, n)
-
 -- the arguments come first, and so do the words that they draw
 abbrev pub drawn_run : Told → Fun → List Run → Run
 drawn_run l f rs n = let all = all_after rs [] n in drawn l (given all.0 (draw_of f)) all.1
 
 -- ---- calls
-
--- the name that a naming function has as its literal
-abbrev pub literal_name : ExprTrees → Option (List ℕ)
-literal_name (expr_then (literal (text name)) es) = Some name
-literal_name es = None
 
 -- a call of a function, by the way in which it comes to its value; what an arm gives fits already
 abbrev pub called : Told → Fun → ExprTrees → List Run → Way → Run

@@ -1,25 +1,25 @@
 //! The value of an expression.
-ghost use Rattle.std.specs.Prelude.{◌≡◌, [], Ok, option_map};
+ghost use Rattle.std.specs.Prelude.{◌≡◌, [], Ok};
 ghost use Rattle.wf_val.specs.Arguments.{Gives, seen};
 ghost use Rattle.wf_val.specs.Function.{function_of};
 ghost use Rattle.wf_val.specs.Seen.{tree};
 ghost use Rattle.wf_template.specs.ChainSeen.{start_tree};
 ghost use Rattle.wf_template.specs.ExprSeen.{expr_tree};
-ghost use Rattle.wf_eval.specs.Meets.{Meets};
-ghost use Rattle.wf_eval.specs.Outcomes.{all_after, strictly};
+ghost use Rattle.wf_look.specs.Meets.{Meets};
+ghost use Rattle.wf_look.specs.Outcomes.{all_after, strictly};
 ghost use Rattle.wf_functions.specs.Rows.{fitted, joined_row};
-ghost use Rattle.wf_eval.specs.Seen.{args_tree, accessed_run};
-ghost use Rattle.wf_eval.specs.Value.{value, runs, called, called_by, if_run, early, stop, at_end, drawn, drawn_run};
+ghost use Rattle.wf_look.specs.Args.{args_tree};
+ghost use Rattle.wf_eval.specs.Seen.{accessed_run};
+ghost use Rattle.wf_eval.specs.Value.{value, runs, called, called_by, if_run, early, drawn_run};
 ghost use Rattle.wf_eval.specs.Ways.{way_of};
 
-use crate::accesses::{index_of, member_of};
-use crate::look::Look;
-use crate::measured::{Measured, as_text};
-use crate::named::{named_by, told_row};
 use crate::way::{Way, way_of};
 use std::alloc::Global;
 use wf_calls::function_named;
-use wf_functions::{Draw, draw_of, made, strict_row, timed_row};
+use wf_functions::{strict_row, timed_row};
+use wf_look::{
+    Look, Measured, as_text, at_end, drawn_by, index_of, member_of, named_by, stop, told_row,
+};
 use wf_template::{Access, Expr, Start, chain_of};
 use wf_val::{EvalFault, Fun, Text, Val, Vals, bounded, wrong_type};
 
@@ -137,16 +137,6 @@ fn eval_known<L: Look>(
     }
 }
 
-// What is made of the next word.
-fn drawn<L: Look>(alloc: Global, draw: Draw, look: &mut L) -> Result<Val, EvalFault>
-    ensures value { Meets (seen result) (drawn (L.told look.old) (Ok draw) (L.drawn look.old)) (L.drawn look.new) }
-    ensures same { L.told look.new ≡ L.told look.old }
-    ensures held { L.held look.new ≡ L.held look.old }
-{
-    let word = look.word();
-    bounded(made(alloc, draw, &word)?)
-}
-
 // A value, where it fits.
 fn fitted(answer: Result<Val, EvalFault>) -> Result<Val, EvalFault>
     ensures { seen result ≡ fitted (seen answer) }
@@ -189,8 +179,7 @@ fn eval_drawn<L: Look>(
     ensures held { L.held look.new ≡ L.held look.old }
 {
     let values = eval_all(alloc, args, look)?;
-    let draw = draw_of(function, &values)?;
-    drawn(alloc, draw, look)
+    drawn_by(alloc, function, &values, look)
 }
 
 // The texts of all in a row, which is `concat`. No value is kept once its text is there, and no more text than fits.
@@ -249,37 +238,11 @@ fn eval_early<L: Look>(
 {
     let mut place = 0;
     for arg in args {
-        let value = eval_expr(alloc, arg, look)?;
-        if let Some(end) = stop(function, place, value) {
+        let answer = eval_expr(alloc, arg, look);
+        if let Some(end) = stop(function, place, answer) {
             return end;
         }
         place += 1;
     }
     Ok(at_end(function))
-}
-
-// The answer of a function that stops early, where it stops at this argument; its place is counted from 0.
-fn stop(function: Fun, place: u64, value: Val) -> Option<Result<Val, EvalFault>>
-    ensures { option_map seen result ≡ stop function place (tree value) }
-{
-    match (function, value) {
-        (Fun::And, Val::Bool(true)) => None,
-        (Fun::And, Val::Bool(false)) => Some(Ok(Val::Bool(false))),
-        (Fun::Or, Val::Bool(true)) => Some(Ok(Val::Bool(true))),
-        (Fun::Or, Val::Bool(false)) => None,
-        (Fun::Coalesce, Val::Null) => None,
-        (Fun::Coalesce, value) => Some(Ok(value)),
-        _ => Some(Err(wrong_type(function, place))),
-    }
-}
-
-// The value of a function that stops early and did not.
-fn at_end(function: Fun) -> Val
-    ensures { tree result ≡ at_end function }
-{
-    match function {
-        Fun::And => Val::Bool(true),
-        Fun::Or => Val::Bool(false),
-        _ => Val::Null,
-    }
 }

@@ -4,7 +4,7 @@ ghost use Rattle.wf_val.specs.ValueTree.{ValueTree, Fits};
 ghost use Rattle.wf_template.specs.TemplateTree.{TemplateTree};
 ghost use Rattle.wf_template.specs.DataTree.{DataTree};
 ghost use Rattle.wf_template.specs.CondTree.{CondTree};
-ghost use Rattle.wf_eval.specs.Told.{Told, words};
+ghost use Rattle.wf_look.specs.Told.{Told};
 ghost use Rattle.wf_eval.specs.TemplateValue.{template_value};
 ghost use Rattle.wf_eval.specs.TreeValue.{tree_value};
 ghost use Rattle.wf_eval.specs.Truth.{truth_of};
@@ -16,12 +16,6 @@ pub fn values_are_local()
     ensures template { (l m : Told) (t : TemplateTree) → AgreeAt l m (template_uses t) → template_value l t ≡ template_value m t }
     ensures tree { (l m : Told) (t : DataTree) → AgreeAt l m (tree_uses t) → tree_value l t ≡ tree_value m t }
     ensures condition { (l m : Told) (c : CondTree) → AgreeAt l m (cond_uses c) → truth_of l c ≡ truth_of m c }
-{}
-
-/// Two looks of one seed and place give the same words in a row, whatever else they tell and whatever was drawn
-/// elsewhere. Tells a caller so, and does nothing.
-pub fn words_are_by_place()
-    ensures { (l m : Told) (n k : ℕ) → l.seed ≡ m.seed → l.place ≡ m.place → words l n k ≡ words m n k }
 {}
 
 /// Every value that a template or a tree is given fits, also where it is a part that an access found. Tells a caller

@@ -4,7 +4,7 @@ use Rattle.std.specs.List.{list_any}
 use Rattle.wf_layers.specs.Address.{Table}
 use Rattle.wf_layers.specs.Meaning as layered
 use Rattle.wf_layers.specs.Source.{Source}
-use Rattle.wf_eval.specs.Told.{Told}
+use Rattle.wf_look.specs.Told.{Told}
 use Rattle.wf_eval.specs.TreeValue.{tree_value}
 use Rattle.wf_val.specs.Arguments.{Answer}
 use Rattle.wf_val.specs.ValueTree.{null}

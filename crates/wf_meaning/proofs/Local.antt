@@ -9,7 +9,7 @@ use Rattle.wf_layers.specs.Source.{Sound, Agrees}
 use Rattle.wf_layers.specs.Laws.{IsInstance}
 use Rattle.wf_layers.proofs.Basics.{two, same_self, and_in}
 use Rattle.wf_eval.specs.Uses.{Use, names, asks, asks_moment, asks_words, tree_uses, Agree, AgreeAt}
-use Rattle.wf_eval.specs.Told.{Told}
+use Rattle.wf_look.specs.Told.{Told}
 use Rattle.wf_eval.specs.TreeValue.{tree_value}
 use Rattle.wf_template.specs.DataTree.{DataTree}
 use Rattle.wf_meaning.specs.Definition.{ActionTree}

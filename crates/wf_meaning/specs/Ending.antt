@@ -3,8 +3,8 @@ use Rattle.std.specs.Prelude.{ℕ, List, [], ◌∷◌, Result, Ok, Err, map, co
 use Rattle.wf_val.specs.ValueTree.{ValueTree, Member, null, text, object, members}
 use Rattle.wf_val.specs.declared.fault.EvalFault.{EvalFault}
 use Rattle.wf_def.specs.DefTree.{OutputTree}
-use Rattle.wf_eval.specs.Outcomes.{Run}
-use Rattle.wf_eval.specs.Told.{Told}
+use Rattle.wf_look.specs.Outcomes.{Run}
+use Rattle.wf_look.specs.Told.{Told}
 use Rattle.wf_eval.specs.TreeValue.{members_after, tree_value}
 use Rattle.wf_json.specs.FaultText.{fault_text}
 use Rattle.wf_record.specs.declared.status.Status as row_status

@@ -26,7 +26,7 @@ ghost use Rattle.wf_val.specs.NameOrder.{IsInNameOrder};
 ghost use Rattle.wf_layers.specs.Definition.{Closed, IsBefore, IsDepth};
 ghost use Rattle.wf_layers.specs.Address.{Table};
 ghost use Rattle.wf_layers.specs.Laws.{IsInstance};
-ghost use Rattle.wf_eval.specs.Told.{words};
+ghost use Rattle.wf_look.specs.Told.{words};
 ghost use Rattle.wf_meaning.specs.Definition.{ActionTree, DefinitionTree, action_name};
 ghost use Rattle.wf_meaning.specs.Environment.{Environment, Layer, facts_of, first_facts, last_facts, layer_facts};
 ghost use Rattle.wf_meaning.specs.Flat.{graph_of, source};
@@ -41,7 +41,8 @@ ghost use Rattle.wf_meaning.specs.Rounds.{all_end, depth_of};
 ghost use Rattle.wf_meaning.specs.Status.{graph_status};
 ghost use Rattle.wf_meaning.specs.Worked.{astray, caught, cycle, drawing, drawn_at, four, missed, rows_with, seeded, untriggered};
 
-use wf_eval::{values_are_local, words_are_by_place};
+use wf_eval::values_are_local;
+use wf_look::words_are_by_place;
 
 /// A definition all of whose actions end, and whose inputs name only actions before them, meets the premises of the laws
 /// of order, so its meaning doesn't depend on the order in which its actions end.

@@ -6,8 +6,9 @@ ghost use Rattle.wf_val.specs.Arguments.{is_memory};
 ghost use Rattle.wf_val.specs.Seen.{tree};
 
 use std::alloc::{AllocError, Global};
-use wf_eval::{Look, eval, word_of};
+use wf_eval::eval;
 use wf_fn_time::Ticks;
+use wf_look::{Look, word_of};
 use wf_template::Template;
 use wf_val::{EvalFault, Fields, Name, Text, Val};
 

@@ -5,20 +5,20 @@ use Rattle.wf_template.specs.ChainSeen.{start_tree, chain_tree}
 use Rattle.wf_template.specs.ExprCounts.{expr_count}
 use Rattle.wf_template.specs.ExprSeen.{expr_tree}
 use Rattle.wf_template.proofs.ChainLemmas.{key_count, base_le_built}
-use Rattle.wf_eval.specs.Seen.{args_tree}
+use Rattle.wf_look.specs.Args.{args_tree}
 use Rattle.wf_eval.specs.Value.{runs}
 use Rattle.wf_eval.proofs.Grow.{value-grows, handed_draw}
 use Rattle.wf_eval.proofs.Chains.{fault_of_start, fault_of_access, start_value, access_value, through, keys_count, keys_count-snoc, keys_le_built}
 use Rattle.wf_eval.proofs.JoinedLemmas.{fault_texts, memory_texts, texts_end, some-argument}
-use Rattle.wf_eval.proofs.Loops.{count-item, fault_all, memory_all, fault_early, early_stops, early_goes_on, early_ends, fault_if, if-few}
+use Rattle.wf_eval.proofs.Loops.{count-item, fault_all, memory_all, early_stops, early_goes_on, early_ends, fault_if, if-few}
 use Rattle.wf_eval.proofs.Meeting.{of_memory, of_fault}
 use Rattle.wf_eval.proofs.expression.+eval.Goals as goal
 
 pub eval_all-eval_expr-requires : goal.eval_all-eval_expr-requires
 eval_all-eval_expr-requires g t c = let le = count-item _ _ _ c.loop-arg-test.true c.arg-item.is in search (rules, arith)
 
-pub eval_early-eval_expr-requires : goal.eval_early-eval_expr-requires
-eval_early-eval_expr-requires g t c = let le = count-item _ _ _ c.loop-arg-test.true c.arg-item.is in search (rules, arith)
+pub eval_early-eval_expr-answer-requires : goal.eval_early-eval_expr-answer-requires
+eval_early-eval_expr-answer-requires g t c = let le = count-item _ _ _ c.loop-arg-test.true c.arg-item.is in search (rules, arith)
 
 pub eval_joined-eval_expr-requires : goal.eval_joined-eval_expr-requires
 eval_joined-eval_expr-requires g t c = let le = count-item _ _ _ c.loop-arg-test.true c.arg-item.is in search (rules, arith)
@@ -65,23 +65,17 @@ eval_drawn-returns-in_err-values-clause-value g t c =
     rw (p.1, p.2) (handed_draw l c.args.function (runs l (args_tree c.args.args.now)) (g.L.Look.drawn c.args.look.now) _ _
     c.in_err-values.ensures.values)
 
-pub eval_early-returns-in_err-value-clause-value : goal.eval_early-returns-in_err-value-clause-value
-eval_early-returns-in_err-value-clause-value g t c =
-    let p = err_from_is_err_and c.from_residual.result c.from_residual.ensures.1 in
-    rw (p.1, p.2) (fault_early _ _ _ _ _ _ _ _ _ _ _ c.loop-arg-test.true c.arg-item.is c.loop-arg.invariant.same
-    c.loop-arg.invariant.so_far c.in_err-value.ensures.value)
-
 pub eval_early-returns-in-Some-clause-value : goal.eval_early-returns-in-Some-clause-value
 eval_early-returns-in-Some-clause-value g t c =
     early_stops _ _ _ _ _ _ _ _ _ _ _ _ c.loop-arg-test.true c.arg-item.is c.loop-arg.invariant.same c.loop-arg.invariant.so_far
-    c.in_ok-value.ensures.value c.in-Some.ensures
+    c.eval_expr-answer.ensures.value c.in-Some.ensures
 
 pub eval_early-loop-arg-preserved : goal.eval_early-loop-arg-preserved
 eval_early-loop-arg-preserved g t c = record {
   so_far = early_goes_on _ _ _ _ _ _ _ _ _ _ _ c.loop-arg-test.true c.arg-item.is c.loop-arg.invariant.same c.loop-arg.invariant.so_far
-      c.in_ok-value.ensures.value c.in_default.ensures;
-  same = c.in_ok-value.ensures.same ∙ c.loop-arg.invariant.same;
-  held = c.in_ok-value.ensures.held ∙ c.loop-arg.invariant.held;
+      c.eval_expr-answer.ensures.value c.in_default.ensures;
+  same = c.eval_expr-answer.ensures.same ∙ c.loop-arg.invariant.same;
+  held = c.eval_expr-answer.ensures.held ∙ c.loop-arg.invariant.held;
   counted = omega arith;
 }
 

@@ -4,9 +4,10 @@ use Rattle.wf_template.specs.ExprCounts.{expr_count, exprs_count}
 use Rattle.wf_template.specs.ExprSeen.{expr_tree}
 use Rattle.wf_template.specs.ChainSeen.{start_tree}
 use Rattle.wf_template.proofs.ChainLemmas.{key_count}
-use Rattle.wf_eval.specs.Seen.{args_tree, chained}
-use Rattle.wf_eval.specs.Measured.{measured}
-use Rattle.wf_eval.specs.Outcomes.{all_after}
+use Rattle.wf_look.specs.Args.{args_tree}
+use Rattle.wf_eval.specs.Seen.{chained}
+use Rattle.wf_eval.specs.MeasuredRuns.{measured}
+use Rattle.wf_look.specs.Outcomes.{all_after}
 use Rattle.wf_eval.specs.Value.{value, runs, early}
 use Rattle.wf_eval.proofs.Chains.{keys_count}
 use Rattle.wf_eval.proofs.expression.+eval.Given as goal

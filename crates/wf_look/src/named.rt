@@ -1,10 +1,10 @@
 //! Functions that ask the look.
-ghost use Rattle.std.specs.Prelude.{◌≡◌, IfOk, map, option_map};
+ghost use Rattle.std.specs.Prelude.{◌≡◌, [], ◌∷◌, IfOk, codes, map, option_map};
 ghost use Rattle.wf_val.specs.Arguments.{Gives, seen};
 ghost use Rattle.wf_val.specs.Seen.{tree};
-ghost use Rattle.wf_eval.specs.Looked.{or_no_value, part_in, over_view, named_row, named_by, told_row, workflow_value};
-ghost use Rattle.wf_eval.specs.Seen.{args_tree};
-ghost use Rattle.wf_eval.specs.Value.{literal_name};
+ghost use Rattle.wf_val.specs.ValueTree.{text};
+ghost use Rattle.wf_look.specs.Args.{args_tree, literal_name};
+ghost use Rattle.wf_look.specs.Looked.{or_null, or_no_value, outputs_in, body_in, part_in, over_view, named_row, named_by, told_row, workflow_value};
 
 use crate::look::Look;
 use std::alloc::{AllocError, Global};
@@ -32,17 +32,38 @@ fn copied(alloc: Global, found: Option<&Val>) -> Result<Option<Val>, AllocError>
     }
 }
 
+// What was found, or null.
+fn or_null(alloc: Global, found: Option<&Val>) -> Result<Val, AllocError>
+    ensures { IfOk result (λ v. tree v ≡ or_null (option_map (λ v. tree v.now) found.entry)) }
+{
+    match found {
+        Some(value) => value.copy(alloc),
+        None => Ok(Val::Null),
+    }
+}
+
+fn outputs_in(alloc: Global, view: &Val) -> Result<Val, AllocError>
+    ensures { IfOk result (λ v. tree v ≡ outputs_in (tree view.now)) }
+{
+    or_null(alloc, view.member("outputs"))
+}
+
+fn body_in(alloc: Global, view: &Val) -> Result<Val, AllocError>
+    ensures { IfOk result (λ v. tree v ≡ body_in (tree view.now)) }
+{
+    match view.member("outputs") {
+        Some(outputs) => or_null(alloc, outputs.member("body")),
+        None => Ok(Val::Null),
+    }
+}
+
 // The outputs of one view, or their body.
 fn part_in(alloc: Global, function: Fun, view: &Val) -> Result<Val, AllocError>
     ensures { IfOk result (λ v. tree v ≡ part_in function (tree view.now)) }
 {
-    match (function, view.member("outputs")) {
-        (Fun::Outputs, Some(outputs)) => outputs.copy(alloc),
-        (_, Some(outputs)) => match outputs.member("body") {
-            Some(body) => body.copy(alloc),
-            None => Ok(Val::Null),
-        },
-        (_, None) => Ok(Val::Null),
+    match function {
+        Fun::Outputs => outputs_in(alloc, view),
+        _ => body_in(alloc, view),
     }
 }
 
@@ -98,7 +119,7 @@ fn named_row<L: Look>(alloc: Global, look: &L, function: Fun, name: &Text) -> Re
 }
 
 /// What a naming function gives, by its first argument, which has to be a literal text.
-pub(crate) fn named_by<L: Look>(
+pub fn named_by<L: Look>(
     alloc: Global,
     look: &L,
     function: Fun,
@@ -112,30 +133,34 @@ pub(crate) fn named_by<L: Look>(
     }
 }
 
+// Members with a name alone.
+fn with_name(alloc: Global, name: Text) -> Result<Fields, AllocError>
+    ensures { IfOk result (λ ms. ms ≡ (codes "name", text name) ∷ []) }
+{
+    let mut fields = Fields::new(alloc);
+    fields.put(Text::of(alloc, "name")?, Val::Text(name))?;
+    Ok(fields)
+}
+
 fn workflow_value(alloc: Global, run: &Text) -> Result<Val, AllocError>
     ensures { IfOk result (λ v. tree v ≡ workflow_value run.now) }
 {
-    let mut inner = Fields::new(alloc);
-    inner.put(Text::of(alloc, "name")?, Val::Text(run.copy(alloc)?))?;
-    let mut outer = Fields::new(alloc);
-    outer.put(
-        Text::of(alloc, "name")?,
-        Val::Text(Text::of(alloc, "workflow")?),
-    )?;
+    let inner = with_name(alloc, run.copy(alloc)?)?;
+    let mut outer = with_name(alloc, Text::of(alloc, "workflow")?)?;
     outer.put(Text::of(alloc, "run")?, Val::Obj(inner))?;
     Ok(Val::Obj(outer))
 }
 
 /// What a function of the look alone gives.
-pub(crate) fn told_row<L: Look>(alloc: Global, look: &L, function: Fun) -> Result<Val, EvalFault>
+pub fn told_row<L: Look>(alloc: Global, look: &L, function: Fun) -> Result<Val, EvalFault>
     ensures { Gives (seen result) (told_row (L.told look.now) function) }
 {
     let found = match function {
         Fun::Action => copied(alloc, look.own())?,
         Fun::Item => copied(alloc, look.item())?,
         Fun::Trigger => Some(look.trigger().copy(alloc)?),
-        Fun::TriggerOutputs => Some(part_in(alloc, Fun::Outputs, look.trigger())?),
-        Fun::TriggerBody => Some(part_in(alloc, Fun::Body, look.trigger())?),
+        Fun::TriggerOutputs => Some(outputs_in(alloc, look.trigger())?),
+        Fun::TriggerBody => Some(body_in(alloc, look.trigger())?),
         Fun::Workflow => Some(workflow_value(alloc, look.run_name())?),
         _ => None,
     };

@@ -1,7 +1,7 @@
 use Rattle.std.proofs.Common.{◌≡◌, ℕ, zero, suc, ◌∷◌, refl, ap, ◌∙◌}
 use Rattle.wf_functions.specs.Words.{word_of}
-use Rattle.wf_eval.specs.Told.{Told, words, raised}
-use Rattle.wf_eval.proofs.laws.words_are_by_place.Goals as goal
+use Rattle.wf_look.specs.Told.{Told, words, raised}
+use Rattle.wf_look.proofs.laws.words_are_by_place.Goals as goal
 
 words-same : (l m : Told) (n k : ℕ) → l.seed ≡ m.seed → l.place ≡ m.place → words l n k ≡ words m n k
 words-same l m n zero seed place = refl

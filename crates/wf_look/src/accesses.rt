@@ -2,18 +2,13 @@
 ghost use Rattle.std.specs.Prelude.{◌≡◌, option_map};
 ghost use Rattle.wf_val.specs.Arguments.{Gives, seen};
 ghost use Rattle.wf_val.specs.Seen.{tree};
-ghost use Rattle.wf_eval.specs.Accesses.{member_row, item_at, index_row};
+ghost use Rattle.wf_look.specs.Accesses.{member_row, item_at, index_row};
 
 use std::alloc::Global;
 use wf_val::{EvalFault, Fun, Text, Val, wrong_type};
 
 /// The member of a name, moved out of the value.
-pub(crate) fn member_of(
-    alloc: Global,
-    value: Val,
-    name: &Text,
-    soft: bool,
-) -> Result<Val, EvalFault>
+pub fn member_of(alloc: Global, value: Val, name: &Text, soft: bool) -> Result<Val, EvalFault>
     ensures { Gives (seen result) (member_row name.now soft (tree value)) }
 {
     let mut value = value;
@@ -46,7 +41,7 @@ fn item_at(value: Val, place: i64) -> Option<Val>
 }
 
 /// The member or the item that a key names.
-pub(crate) fn index_of(alloc: Global, value: Val, key: &Val, soft: bool) -> Result<Val, EvalFault>
+pub fn index_of(alloc: Global, value: Val, key: &Val, soft: bool) -> Result<Val, EvalFault>
     ensures { Gives (seen result) (index_row soft (tree value) (tree key.now)) }
 {
     match key {

@@ -1,11 +1,9 @@
 -- A text that is put together and measured: what is kept of it may be less than the whole once that doesn't fit, but never its length.
-use Rattle.std.specs.Prelude.{ℕ, suc, ◌+◌, ◌^◌, List, [], ◌∷◌, ◌++◌, length, nat_lt, Result, Ok, Err, if◌then◌else◌}
+use Rattle.std.specs.Prelude.{ℕ, suc, ◌+◌, ◌^◌, List, ◌++◌, length, nat_lt, Ok, Err, if◌then◌else◌}
 use Rattle.wf_val.specs.Arguments.{Answer}
 use Rattle.wf_val.specs.Cut.{cut_u64}
 use Rattle.wf_val.specs.ValueTree.{text}
 use Rattle.wf_val.specs.declared.fault.EvalFault.{EvalFault}
-use Rattle.wf_json.specs.Json as json_text
-use Rattle.wf_eval.specs.Outcomes.{Run, then_run}
 
 -- what is kept of a text, and the text's length in bytes, cut to the greatest u64
 abbrev pub Measured : Type 0
@@ -20,8 +18,3 @@ with_more s m =
 -- the text, where it fits
 abbrev pub measured_answer : Measured → Answer
 measured_answer m = if nat_lt m.1 (2 ^ 20) then Ok (text m.0) else Err (EvalFault.TooBig 0 (cut_u64 (suc m.1)))
-
--- the text that values make, behind what is there
-abbrev pub measured : List Run → Measured → ℕ → Result Measured EvalFault × ℕ
-measured [] m n = (Ok m, n)
-measured (r ∷ rs) m n = then_run (r n) (λ t k. measured rs (with_more (json_text.text t) m) k)

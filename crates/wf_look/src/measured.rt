@@ -3,7 +3,7 @@ ghost use Rattle.std.specs.Prelude.{◌≡◌, [], IfOk, OnOk};
 ghost use Rattle.wf_val.specs.Arguments.{seen};
 ghost use Rattle.wf_val.specs.Seen.{tree};
 ghost use Rattle.wf_json.specs.Json as json_text;
-ghost use Rattle.wf_eval.specs.Measured.{with_more, measured_answer};
+ghost use Rattle.wf_look.specs.Measured.{with_more, measured_answer};
 
 use std::alloc::{AllocError, Global};
 use std::marker::Model;
@@ -15,14 +15,14 @@ const LIMIT: u64 = (1 << 20) - 1;
 /// What is kept of a text that is put together, and how long the text is. Once it is too long no more is kept, but its
 /// length is counted on, cut to the greatest u64.
 #[derive(Drop)]
-pub(crate) struct Measured {
+pub struct Measured {
     kept: String,
     length: u64,
 }
 
 impl Model for Measured {
     ghost use Rattle.std.specs.Prelude.{string_bytes};
-    ghost use Rattle.wf_eval.specs.Measured as definition;
+    ghost use Rattle.wf_look.specs.Measured as definition;
 
     ghost Value = { definition.Measured };
 
@@ -31,7 +31,7 @@ impl Model for Measured {
 
 impl Measured {
     /// The empty text.
-    pub(crate) fn new(alloc: Global) -> Self
+    pub fn new(alloc: Global) -> Self
         ensures { result ≡ ([], 0) }
     {
         Measured {
@@ -41,7 +41,7 @@ impl Measured {
     }
 
     /// Puts a part behind what is there.
-    pub(crate) fn push(&mut self, part: &str) -> Result<(), AllocError>
+    pub fn push(&mut self, part: &str) -> Result<(), AllocError>
         ensures { OnOk result (self.new ≡ with_more part.now self.old) }
     {
         self.length = self.length.saturating_add(part.len() as u64);
@@ -52,7 +52,7 @@ impl Measured {
     }
 
     /// The whole, where it fits.
-    pub(crate) fn answer(self) -> Result<Val, EvalFault>
+    pub fn answer(self) -> Result<Val, EvalFault>
         ensures { seen result ≡ measured_answer self }
     {
         if self.length <= LIMIT {
@@ -67,7 +67,7 @@ impl Measured {
 }
 
 /// A value as text; a text is moved.
-pub(crate) fn as_text(alloc: Global, value: Val) -> Result<Text, AllocError>
+pub fn as_text(alloc: Global, value: Val) -> Result<Text, AllocError>
     ensures { IfOk result (λ s. s ≡ json_text.text (tree value)) }
 {
     match value {

@@ -2,7 +2,7 @@
 ghost use Rattle.std.specs.Prelude.{◌≡◌, ◌∷◌, IfOk, option_map, option_copied, slice_get};
 ghost use Rattle.wf_val.specs.Seen.{tree};
 ghost use Rattle.wf_functions.specs.Words.{word_of};
-ghost use Rattle.wf_eval.specs.Told.{Told, over, raised};
+ghost use Rattle.wf_look.specs.Told.{Told, over, raised};
 
 use std::alloc::{AllocError, Global};
 use wf_val::{Name, Text, Val};

@@ -7,7 +7,7 @@ use Rattle.wf_val.specs.Get as look_up
 use Rattle.wf_val.specs.ValueTree.{ValueTree, null, number, text, list, object, trees, items, members}
 use Rattle.wf_val.specs.declared.fault.EvalFault.{EvalFault}
 use Rattle.wf_val.specs.declared.function.Fun.{Fun}
-use Rattle.wf_eval.specs.Told.{Told}
+use Rattle.wf_look.specs.Told.{Told}
 
 abbrev pub or_null : Option ValueTree → ValueTree
 or_null (Some t) = t

@@ -1,0 +1,2 @@
+pub mod WorkedLook
+mod Worked

@@ -1,0 +1,9 @@
+pub mod Told
+pub mod Outcomes
+pub mod Meets
+pub mod Accesses
+pub mod Args
+pub mod Looked
+pub mod Measured
+pub mod Early
+pub mod Drawn
