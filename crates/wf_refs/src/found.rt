@@ -1,9 +1,8 @@
 //! Uses as they are found.
 ghost use Rattle.std.specs.Prelude.{◌≡◌, ◌++◌, IfOk, map, option_map, option_to_list};
 ghost use Rattle.std.specs.List.{list_any};
-ghost use Rattle.wf_eval.specs.Seen.{args_tree};
+ghost use Rattle.wf_look.specs.Args.{args_tree, literal_name};
 ghost use Rattle.wf_eval.specs.Uses.{named_use, used_by, used_by_name};
-ghost use Rattle.wf_eval.specs.Value.{literal_name};
 ghost use Rattle.wf_eval.specs.Ways.{way_of};
 ghost use Rattle.wf_refs.specs.Named.{asks_for, name_by, names_by};
 ghost use Rattle.wf_refs.specs.Seen.{found_use, found_uses};
