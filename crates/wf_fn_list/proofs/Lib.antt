@@ -2,6 +2,9 @@ pub mod PartLemmas
 pub mod ChunkLemmas
 pub mod RangeLemmas
 pub mod SetLemmas
+pub mod Ascending
+pub mod SearchLemmas
+pub mod DistinctLemmas
 pub mod SortLemmas
 pub mod SortLaws
 pub mod SetLaws

@@ -1,8 +1,8 @@
 -- Parts of a list that may be shorter.
-use Rattle.std.proofs.Common.{◌≡◌, ℕ, zero, suc, ◌+◌, ◌<◌, min, List, [], ◌∷◌, length, map, take, drop, get_or, ap, sym, ◌∙◌, arith}
+use Rattle.std.proofs.Common.{◌≡◌, ℕ, zero, suc, ◌+◌, ◌<◌, min, List, [], ◌∷◌, ◌++◌, append_assoc, length, map, take, drop, get_or, ap, sym, ◌∙◌, arith}
 use Rattle.std.specs.List.{flat_map}
 use Rattle.std.proofs.lemmas.List.Folds.{flat_map-map}
-use Rattle.std.proofs.lemmas.List.{take-map, drop-map, at_drop_more}
+use Rattle.std.proofs.lemmas.List.{map-append, take-map, drop-map, at_drop_more}
 
 take-min : {X : Type 0} (n : ℕ) (xs : List X) → take (min n (length xs)) xs ≡ take n xs
 take-min zero xs = let e : min 0 (length xs) ≡ 0 = omega arith in ap (λ k. take k xs) e
@@ -32,3 +32,9 @@ rest-from left xs i x lt is = at_drop_more left xs i x lt ∙ ap (λ y. left (y 
 -- lists that are read off, joined
 pub joined_mapped : {X Y : Type 0} (f : X → List Y) (xs : List X) → flat_map (λ ys. ys) (map f xs) ≡ flat_map f xs
 joined_mapped f xs = flat_map-map (λ ys. ys) f xs
+
+-- what is done, with what comes behind it, where one more is done
+pub one-more : {X Y : Type 0} (f : X → Y) (done more : List X) (x : X) (behind : List Y) → more ≡ done ++ x ∷ []
+    → map f more ++ behind ≡ map f done ++ f x ∷ behind
+one-more f done more x behind is =
+    ap (λ l. map f l ++ behind) is ∙ ap (λ l. l ++ behind) (map-append f done (x ∷ [])) ∙ append_assoc (map f done) (f x ∷ []) behind

@@ -11,7 +11,7 @@ use Rattle.wf_val.specs.ValueTree.{ValueTree}
 use Rattle.wf_fn_list.specs.Membership.{is_among}
 use Rattle.wf_fn_list.specs.Sets.{distinct_after, distinct, in_all, common_items, union_items}
 
-equal-from_test : (o : Ordering) → is_eq o ≡ true → o ≡ Equal
+pub equal-from_test : (o : Ordering) → is_eq o ≡ true → o ≡ Equal
 equal-from_test Less is = absurd (cc)
 equal-from_test Equal is = refl
 equal-from_test Greater is = absurd (cc)
@@ -23,7 +23,7 @@ same-from_equal x y is = same_from_order x y (equal-from_test (order x y) is)
 equal-itself : (x : ValueTree) → is_eq (order x x) ≡ true
 equal-itself x = ap is_eq (order-self x)
 
-reversed-equal : (o : Ordering) → is_eq (ordering_reverse o) ≡ is_eq o
+pub reversed-equal : (o : Ordering) → is_eq (ordering_reverse o) ≡ is_eq o
 reversed-equal Less = refl
 reversed-equal Equal = refl
 reversed-equal Greater = refl
@@ -31,11 +31,11 @@ reversed-equal Greater = refl
 equal-swapped : (x y : ValueTree) → is_eq (order x y) ≡ is_eq (order y x)
 equal-swapped x y = ap is_eq (order-total.antisymm x y) ∙ reversed-equal (order y x)
 
-or-true : (a b : Bool) → b ≡ true → a || b ≡ true
+pub or-true : (a b : Bool) → b ≡ true → a || b ≡ true
 or-true true b is = refl
 or-true false b is = is
 
-or-left : (a b : Bool) → a ≡ true → a || b ≡ true
+pub or-left : (a b : Bool) → a ≡ true → a || b ≡ true
 or-left true b is = refl
 or-left false b is = absurd (cc)
 

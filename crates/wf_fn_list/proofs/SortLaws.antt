@@ -5,7 +5,7 @@ use Rattle.std.proofs.lemmas.List.{append-nil}
 use Rattle.std.proofs.lemmas.List.Sums.{sum_by-cons}
 use Rattle.std.specs.Cmp.{IsTotalOrder}
 use Rattle.std.specs.List.{AllByRecursion, count_by, filter}
-use Rattle.std.specs.List.Sorted.{IsSortedByKey, IsStableByKey, ties}
+use Rattle.std.specs.List.Sorted.{IsSortedByKey, IsStableByKey}
 use Rattle.std.specs.Ordering.{is_lt, is_gt, ordering_reverse}
 use Rattle.std.specs.declared.cmp.Ordering.{Ordering}
 use Rattle.std.specs.declared.cmp.Ordering.TheVariants.{Less, Equal, Greater}
@@ -22,7 +22,7 @@ module _ (key : ValueTree → ValueTree) where
   by_key-total = on_total key order-total
 
   -- no item is above one behind it
-  abbrev IsAscending : List ValueTree → Type 0
+  abbrev pub IsAscending : List ValueTree → Type 0
   IsAscending [] = Unit {0}
   IsAscending (x ∷ xs) = AllByRecursion (λ y. is_gt (by_key x y) ≡ false) xs × IsAscending xs
 
@@ -127,9 +127,9 @@ module _ (key : ValueTree → ValueTree) where
   pub sorted-counted : (xs : List ValueTree) (test : ValueTree → Bool) → count_by test (sorted key xs) ≡ count_by test xs
   sorted-counted xs test = omega (arith, onto-counted test [] xs)
 
-  -- those that tie with an item
-  abbrev is_tied : ValueTree → ValueTree → Bool
-  is_tied = ties (λ x y. is_lt (by_key x y))
+  -- the items that tie with a key
+  abbrev pub is_tied : ValueTree → ValueTree → Bool
+  is_tied z x = not (is_lt (order z (key x))) && not (is_lt (order (key x) z))
 
   is-below : (o : Ordering) → is_lt o ≡ true → o ≡ Less
   is-below Less is = refl
@@ -142,14 +142,15 @@ module _ (key : ValueTree → ValueTree) where
   tied-equal Equal is = refl
   tied-equal Greater is = absurd (cc)
 
-  is-equal : (z x : ValueTree) → is_tied z x ≡ true → by_key z x ≡ Equal
-  is-equal z x tied = tied-equal (by_key z x) (ap (λ o. not (is_lt (by_key z x)) && not (is_lt o)) (sym (by_key-total.antisymm x z)) ∙ tied)
+  is-equal : (z x : ValueTree) → is_tied z x ≡ true → order z (key x) ≡ Equal
+  is-equal z x tied =
+      tied-equal (order z (key x)) (ap (λ o. not (is_lt (order z (key x))) && not (is_lt o)) (sym (order-total.antisymm (key x) z)) ∙ tied)
 
   -- one above what ties doesn't tie
   above-apart : (z x y : ValueTree) → is_tied z x ≡ true → by_key x y ≡ Less → is_tied z y ≡ false
   above-apart z x y tied less =
-      let lower : by_key z y ≡ Less = by_key-total.congr z x y (is-equal z x tied) ∙ less in
-      ap (λ o. not (is_lt o) && not (is_lt (by_key y z))) lower
+      let lower : order z (key y) ≡ Less = order-total.congr z (key x) (key y) (is-equal z x tied) ∙ less in
+      ap (λ o. not (is_lt o) && not (is_lt (order (key y) z))) lower
 
   below-through : (x y z : ValueTree) (o : Ordering) → o ≡ by_key y z → by_key x y ≡ Less → is_gt o ≡ false → by_key x z ≡ Less
   below-through x y z Less is less le = by_key-total.trans x y z less (sym is)
@@ -208,4 +209,20 @@ module _ (key : ValueTree → ValueTree) where
       joined false = refl
 
   pub sorted-stable : (xs : List ValueTree) → IsStableByKey key order xs (sorted key xs)
-  sorted-stable xs z = onto-tied z [] xs tt
+  sorted-stable xs z = onto-tied (key z) [] xs tt
+
+  -- the same at any key
+  pub sorted-tied : (z : ValueTree) (xs : List ValueTree) → filter (is_tied z) (sorted key xs) ≡ filter (is_tied z) xs
+  sorted-tied z xs = onto-tied z [] xs tt
+
+  pub sorted-ascending : (xs : List ValueTree) → IsAscending (sorted key xs)
+  sorted-ascending xs = onto-ascending [] xs tt
+
+  -- what holds of each item holds of each sorted
+  onto-all : (P : ValueTree → Type 0) (done xs : List ValueTree) → AllByRecursion P done → AllByRecursion P xs
+      → AllByRecursion P (sorted_onto key done xs)
+  onto-all P done [] all rest = all
+  onto-all P done (x ∷ xs) all rest = onto-all P (insert_behind key x done) xs (all-insert P x done rest.0 all) rest.1
+
+  pub sorted-all : (P : ValueTree → Type 0) (xs : List ValueTree) → AllByRecursion P xs → AllByRecursion P (sorted key xs)
+  sorted-all P xs all = onto-all P [] xs tt all

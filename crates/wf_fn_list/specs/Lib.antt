@@ -6,3 +6,6 @@ pub mod Ranges
 pub mod Sets
 pub mod Members
 pub mod Sorting
+pub mod Keys
+pub mod Places
+pub mod SortKeys

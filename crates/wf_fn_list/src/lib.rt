@@ -7,8 +7,8 @@
 //! and last `TooBig`, of a value that does not fit. Where no memory is left the answer is `Memory`, which no row names.
 //!
 //! A value that could be far larger than its arguments (`range`, `join`, `createArray`) is measured before it is made.
-//! `union`, `intersection` and `sort` go by sets and maps in the order of values, so they take some n log n steps, and
-//! they copy only the items that stay.
+//! `union` and `intersection` of lists and `sort` sort what items are compared by, which holds a number itself, so they take
+//! some n log n steps that seldom wait for memory; `union` of objects goes by a map of names. They copy only what stays.
 //!
 //! Laws stand beside the rows, and say in another way what they mean: `distinct_items_are_the_items`,
 //! `sorted_items_are_in_order`, `chunks_make_the_list`, `reversed_twice_is_the_list` and others in `laws`.
@@ -19,6 +19,7 @@
 #![tactic(auto)]
 
 mod chunks;
+mod key;
 mod laws;
 mod making;
 mod members;

@@ -1,14 +1,16 @@
 //! Values that are looked at where they stand, so that only those that stay are copied.
 ghost use Rattle.std.specs.Prelude.{◌≡◌, ◌++◌, IfOk, OnOk, map};
 ghost use Rattle.std.specs.List.{flat_map};
-ghost use Rattle.wf_val.specs.Seen.{tree, member};
+ghost use Rattle.wf_val.specs.Seen.{member};
+ghost use Rattle.wf_fn_list.specs.Keys.{key_tree};
 
+use crate::key::Key;
 use std::alloc::{AllocError, Global};
 use wf_val::{Fields, Text, Val, Vals};
 
 /// The items of several lists in turn.
-pub(crate) fn items_of<'a>(alloc: Global, lists: &[&'a Vals]) -> Result<Vec<&'a Val>, AllocError>
-    ensures { IfOk result (λ v. map (λ x. tree x.now) v.items ≡ flat_map (λ l. l.now) lists.now) }
+pub(crate) fn items_of<'a>(alloc: Global, lists: &[&'a Vals]) -> Result<Vec<Key<'a>>, AllocError>
+    ensures { IfOk result (λ v. map key_tree v.items ≡ flat_map (λ l. l.now) lists.now) }
 {
     let mut items = Vec::new(alloc);
     for list in lists {
@@ -18,11 +20,11 @@ pub(crate) fn items_of<'a>(alloc: Global, lists: &[&'a Vals]) -> Result<Vec<&'a 
 }
 
 /// The items of a list behind others.
-pub(crate) fn push_items<'a>(items: &mut Vec<&'a Val>, list: &'a Vals) -> Result<(), AllocError>
-    ensures { OnOk result (map (λ x. tree x.now) items.new.items ≡ map (λ x. tree x.now) items.old.items ++ list.now) }
+pub(crate) fn push_items<'a>(items: &mut Vec<Key<'a>>, list: &'a Vals) -> Result<(), AllocError>
+    ensures { OnOk result (map key_tree items.new.items ≡ map key_tree items.old.items ++ list.now) }
 {
     for item in list.as_slice() {
-        items.push(item)?;
+        items.push(Key::of(item))?;
     }
     Ok(())
 }
@@ -54,8 +56,8 @@ fn push_members<'a>(
 }
 
 /// A copy of each value.
-pub(crate) fn copies_of(alloc: Global, values: &[&Val]) -> Result<Vals, AllocError>
-    ensures { IfOk result (λ v. v ≡ map (λ x. tree x.now) values.now) }
+pub(crate) fn copies_of(alloc: Global, values: &[Key<'_>]) -> Result<Vals, AllocError>
+    ensures { IfOk result (λ v. v ≡ map key_tree values.now) }
 {
     let mut copies = Vals::new(alloc);
     for value in values {

@@ -1,15 +1,19 @@
 //! Lists and objects taken together.
 ghost use Rattle.std.specs.Prelude.{◌≡◌, ◌≤◌, [], IfOk, length, map};
 ghost use Rattle.std.specs.List.{filter, flat_map, list_all};
+ghost use Rattle.std.specs.List.Sorted.{IsSorted};
 ghost use Rattle.wf_val.specs.Arguments.{seen, given, Gives, list_of, object_of};
 ghost use Rattle.wf_val.specs.Seen.{tree, member};
 ghost use Rattle.wf_val.specs.ValueTree.{ValueTree};
+ghost use Rattle.wf_fn_list.specs.Keys.{key_tree, key_cmp};
 ghost use Rattle.wf_fn_list.specs.Membership.{is_among};
+ghost use Rattle.wf_fn_list.specs.Places.{placed_trees, placed_from};
 ghost use Rattle.wf_fn_list.specs.Sets.{union_row, intersection_row, lists_together, objects_together, each_from, union_items, union_members, common_items, common_members, distinct, put_all, all_have};
 
+use crate::key::Key;
 use crate::references::{copies_of, items_of, members_of, push_items};
 use std::alloc::{AllocError, Global};
-use std::collections::{BTreeMap, BTreeSet};
+use std::collections::BTreeMap;
 use wf_val::{EvalFault, Fields, Fun, Text, Val, Vals, bounded, list_at, object_at, wrong_type};
 
 /// `union`: of lists the distinct items, in order of first occurrence; of objects the members of all, and of those of one
@@ -99,24 +103,50 @@ fn objects_at<'a>(
     Ok(objects)
 }
 
-// Each value once, in order of first occurrence.
-fn distinct<'a>(alloc: Global, values: &[&'a Val]) -> Result<Vec<&'a Val>, AllocError>
-    ensures { IfOk result (λ v. map (λ x. tree x.now) v.items ≡ distinct (map (λ x. tree x.now) values.now)) }
+/// An item, and its place.
+#[derive(Clone, Copy)]
+pub(crate) struct Placed<'a> {
+    pub(crate) item: Key<'a>,
+    pub(crate) place: usize,
+}
+
+// Each value once, in order of first occurrence. A stable sort brings those that are equal together, the first of them in
+// front, and the first goes back to where it stood.
+fn distinct<'a>(alloc: Global, values: &[Key<'a>]) -> Result<Vec<Key<'a>>, AllocError>
+    ensures { IfOk result (λ v. map key_tree v.items ≡ distinct (map key_tree values.now)) }
 {
-    let mut seen = BTreeSet::new(alloc);
-    let mut found = Vec::new(alloc);
-    for value in values {
-        if !seen.insert(*value)? {
-            continue;
-        }
-        found.push(*value)?;
+    let mut placed = with_places(alloc, values)?;
+    placed.sort_by_key(|one| one.item)?;
+    placed.dedup_by_key(|one| one.item);
+    placed.sort_by_key(|one| one.place)?;
+    items_of_placed(alloc, placed.as_slice())
+}
+
+// Each item with its place.
+fn with_places<'a>(alloc: Global, values: &[Key<'a>]) -> Result<Vec<Placed<'a>>, AllocError>
+    ensures { IfOk result (λ v. map placed_trees v.items ≡ placed_from 0 (map key_tree values.now)) }
+{
+    let mut placed = Vec::new(alloc);
+    for (place, item) in values.iter().enumerate() {
+        placed.push(Placed { item: *item, place })?;
     }
-    Ok(found)
+    Ok(placed)
+}
+
+// The items without their places.
+fn items_of_placed<'a>(alloc: Global, placed: &[Placed<'a>]) -> Result<Vec<Key<'a>>, AllocError>
+    ensures { IfOk result (λ v. map key_tree v.items ≡ map (λ e. key_tree e.item) placed.now) }
+{
+    let mut items = Vec::new(alloc);
+    for one in placed {
+        items.push(one.item)?;
+    }
+    Ok(items)
 }
 
 // The distinct items of the first list that all lists have.
-fn common_items<'a>(alloc: Global, lists: &[&'a Vals]) -> Result<Vec<&'a Val>, AllocError>
-    ensures { IfOk result (λ v. map (λ x. tree x.now) v.items ≡ common_items (map (λ l. l.now) lists.now)) }
+fn common_items<'a>(alloc: Global, lists: &[&'a Vals]) -> Result<Vec<Key<'a>>, AllocError>
+    ensures { IfOk result (λ v. map key_tree v.items ≡ common_items (map (λ l. l.now) lists.now)) }
 {
     let Some((first, others)) = lists.split_first() else {
         return Ok(Vec::new(alloc));
@@ -131,10 +161,10 @@ fn common_items<'a>(alloc: Global, lists: &[&'a Vals]) -> Result<Vec<&'a Val>, A
 fn in_all<'a>(
     alloc: Global,
     lists: &[&'a Vals],
-    values: Vec<&'a Val>,
-) -> Result<Vec<&'a Val>, AllocError>
-    ensures { IfOk result (λ v. map (λ x. tree x.now) v.items
-        ≡ filter (λ x. list_all (λ ys. is_among ys x) (map (λ l. l.now) lists.now)) (map (λ x. tree x.now) values.entry.items)) }
+    values: Vec<Key<'a>>,
+) -> Result<Vec<Key<'a>>, AllocError>
+    ensures { IfOk result (λ v. map key_tree v.items
+        ≡ filter (λ x. list_all (λ ys. is_among ys x) (map (λ l. l.now) lists.now)) (map key_tree values.entry.items)) }
 {
     let mut kept = values;
     for list in lists {
@@ -147,14 +177,14 @@ fn in_all<'a>(
 fn those_in<'a>(
     alloc: Global,
     list: &'a Vals,
-    values: &[&'a Val],
-) -> Result<Vec<&'a Val>, AllocError>
-    ensures { IfOk result (λ v. map (λ x. tree x.now) v.items ≡ filter (is_among list.now) (map (λ x. tree x.now) values.now)) }
+    values: &[Key<'a>],
+) -> Result<Vec<Key<'a>>, AllocError>
+    ensures { IfOk result (λ v. map key_tree v.items ≡ filter (is_among list.now) (map key_tree values.now)) }
 {
-    let there = set_of(alloc, list)?;
+    let there = sorted_items(alloc, list)?;
     let mut found = Vec::new(alloc);
     for value in values {
-        if !there.contains(value) {
+        if !has(there.as_slice(), value) {
             continue;
         }
         found.push(*value)?;
@@ -162,15 +192,23 @@ fn those_in<'a>(
     Ok(found)
 }
 
-// The items of a list as a set.
-fn set_of<'a>(alloc: Global, list: &'a Vals) -> Result<BTreeSet<&'a Val>, AllocError>
-    ensures { IfOk result (λ s. (x : ValueTree) → is_among (map (λ k. tree k.now) s.keys) x ≡ is_among list.now x) }
+// The items of a list in order, so that one is found by a binary search.
+fn sorted_items<'a>(alloc: Global, list: &'a Vals) -> Result<Vec<Key<'a>>, AllocError>
+    ensures same { IfOk result (λ v. (x : ValueTree) → is_among (map key_tree v.items) x ≡ is_among list.now x) }
+    ensures in_order { IfOk result (λ v. IsSorted key_cmp v.items) }
 {
-    let mut set = BTreeSet::new(alloc);
-    for item in list.as_slice() {
-        let _new = set.insert(item)?;
-    }
-    Ok(set)
+    let mut items = Vec::new(alloc);
+    push_items(&mut items, list)?;
+    items.sort_unstable();
+    Ok(items)
+}
+
+// Whether a value is among others, which are in order.
+fn has(values: &[Key<'_>], value: &Key<'_>) -> bool
+    requires { IsSorted key_cmp values.now }
+    ensures { result ≡ is_among (map key_tree values.now) (key_tree value.now) }
+{
+    values.binary_search(value).is_ok()
 }
 
 // Members by their names; of two of one name the later stands.

@@ -1,12 +1,12 @@
 //! A stable sort.
-ghost use Rattle.std.specs.Prelude.{◌≡◌, ◌≤◌, IfOk, length, map, option_map};
+ghost use Rattle.std.specs.Prelude.{◌≡◌, ◌≤◌, IfOk, IsTrue, length, map, option_map};
 ghost use Rattle.std.specs.List.{list_all};
 ghost use Rattle.wf_val.specs.Arguments.{seen, Gives};
 ghost use Rattle.wf_val.specs.Seen.{tree};
+ghost use Rattle.wf_fn_list.specs.SortKeys.{key_tree, number_or_text, keyed_trees};
 ghost use Rattle.wf_fn_list.specs.Sorting.{sort_row, sorted, judged_by, sort_key, is_number, is_text, can_be_sorted};
 
 use std::alloc::{AllocError, Global};
-use std::collections::BTreeMap;
 use wf_val::{EvalFault, Fun, Text, Val, Vals, bounded, list_at, optional_text_at, wrong_type};
 
 /// `sort`: the items in ascending order, and those that tie as they stood. The items are all numbers or all texts, or,
@@ -66,48 +66,66 @@ fn is_text(value: Option<&Val>) -> bool
     matches!(value, Some(Val::Text(_)))
 }
 
-// What an item is sorted by.
-fn sort_key<'a>(value: &'a Val, name: Option<&Text>) -> &'a Val
-    ensures { tree result.now ≡ sort_key (option_map (λ t. t.now) name.entry) (tree value.now) }
-{
-    judged_by(value, name).unwrap_or(value)
+/// What an item is sorted by. A number stands in it itself, and of a text where its bytes are, so that as little as can be
+/// is looked up while two are compared.
+#[derive(Clone, Copy, PartialEq, Eq, PartialOrd, Ord)]
+pub(crate) enum SortKey<'a> {
+    Number(i64),
+    Text(&'a str),
 }
 
-/// What an item is sorted by, and the item's place: of items that tie, the one that stood before is below.
-#[derive(Clone, Copy, PartialEq, Eq, PartialOrd, Ord)]
-pub(crate) struct SortKey<'a> {
-    pub(crate) value: &'a Val,
-    pub(crate) place: usize,
+// What an item is sorted by; what is neither a number nor a text isn't sorted.
+fn sort_key<'a>(value: &'a Val, name: Option<&Text>) -> SortKey<'a>
+    ensures { key_tree result ≡ number_or_text (sort_key (option_map (λ t. t.now) name.entry) (tree value.now)) }
+{
+    match judged_by(value, name).unwrap_or(value) {
+        Val::Int(number) => SortKey::Number(*number),
+        Val::Text(text) => SortKey::Text(text.as_str()),
+        _ => SortKey::Number(0),
+    }
+}
+
+/// An item, and what it is sorted by.
+#[derive(Clone, Copy)]
+pub(crate) struct Keyed<'a> {
+    pub(crate) key: SortKey<'a>,
+    pub(crate) item: &'a Val,
 }
 
 // The items in order; those that tie stay as they stood.
 fn sorted(alloc: Global, values: &[Val], name: Option<&Text>) -> Result<Vals, AllocError>
+    requires { IsTrue (can_be_sorted (option_map (λ t. t.now) name) (map tree values.now)) }
     ensures { IfOk result (λ v. v ≡ sorted (sort_key (option_map (λ t. t.now) name.entry)) (map tree values.now)) }
 {
-    let mut left = by_key(alloc, values, name)?;
-    let mut sorted = Vals::new(alloc);
-    while let Some((_, value)) = left.pop_first() {
-        sorted.push(value.copy(alloc)?)?;
-    }
-    Ok(sorted)
+    let mut items = with_keys(alloc, values, name)?;
+    items.sort_by_key(|item| item.key)?;
+    items_of_keyed(alloc, items.as_slice())
 }
 
-// The items by what they are sorted by.
-fn by_key<'a>(
+// Each item with what it is sorted by.
+fn with_keys<'a>(
     alloc: Global,
     values: &'a [Val],
     name: Option<&Text>,
-) -> Result<BTreeMap<SortKey<'a>, &'a Val>, AllocError>
-    ensures { IfOk result (λ m. map (λ e. tree e.1.now) m.entries
-        ≡ sorted (sort_key (option_map (λ t. t.now) name.entry)) (map tree values.now)) }
+) -> Result<Vec<Keyed<'a>>, AllocError>
+    ensures { IfOk result (λ v. map keyed_trees v.items
+        ≡ map (λ x. (number_or_text (sort_key (option_map (λ t. t.now) name.entry) x), x)) (map tree values.now)) }
 {
-    let mut by_key = BTreeMap::new(alloc);
-    for (place, value) in values.iter().enumerate() {
-        let key = SortKey {
-            value: sort_key(value, name),
-            place,
-        };
-        let _none = by_key.insert(key, value)?;
+    let mut keyed = Vec::new(alloc);
+    for item in values {
+        let key = sort_key(item, name);
+        keyed.push(Keyed { key, item })?;
     }
-    Ok(by_key)
+    Ok(keyed)
+}
+
+// A copy of each item.
+fn items_of_keyed(alloc: Global, keyed: &[Keyed<'_>]) -> Result<Vals, AllocError>
+    ensures { IfOk result (λ v. v ≡ map (λ e. tree e.item.now) keyed.now) }
+{
+    let mut items = Vals::new(alloc);
+    for entry in keyed {
+        items.push(entry.item.copy(alloc)?)?;
+    }
+    Ok(items)
 }
