@@ -6,7 +6,7 @@ use Rattle.wf_def.specs.ActionTree.{ActionTrees, no_actions, action_then, CaseTr
 use Rattle.wf_reading.specs.Facts.{graph_numbers}
 use Rattle.wf_refs.proofs.NumberLemmas.{numbers_are}
 use Rattle.wf_def.specs.AllActions.{all_actions, cases_actions, kind_actions}
-use Rattle.wf_rules.specs.Standing.{StandingTree, case_standings, graph_standings, kind_standings, number_at, standings_of}
+use Rattle.wf_standing.specs.Standing.{StandingTree, case_standings, graph_standings, kind_standings, number_at, standings_of}
 
 abbrev action_of : StandingTree → ActionTree
 action_of s = s.action

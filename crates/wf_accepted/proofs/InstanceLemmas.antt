@@ -6,8 +6,8 @@ use Rattle.wf_def.specs.Layered.{layered}
 use Rattle.wf_order.specs.Indexes.{HaveSameIndexes}
 use Rattle.wf_order.specs.Order.{Before, Contains}
 use Rattle.wf_refs.specs.declared.site.Site.{Site}
-use Rattle.wf_rules.specs.Rules.{is_test}
-use Rattle.wf_rules.specs.Standing.{StandingTree, number_at, standings_of}
+use Rattle.wf_standing.specs.Inside.{is_test}
+use Rattle.wf_standing.specs.Standing.{StandingTree, number_at, standings_of}
 use Rattle.wf_accepted.proofs.RoundLemmas.{all-weaker}
 use Rattle.wf_accepted.specs.Instances.{InstancesAreSeen, IsSeenAt, MayLookAt, Sees}
 use Rattle.wf_accepted.specs.Seen.{AreSeen, IsNamedAt, IsSeenFrom, IsSiteOf}

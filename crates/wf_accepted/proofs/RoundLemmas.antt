@@ -13,7 +13,7 @@ use Rattle.wf_def.specs.Layered.{layered, layered_cases, layered_kind, need_of}
 use Rattle.wf_order.proofs.OrderLaws.{clash, two}
 use Rattle.wf_order.specs.Order.{around, around_any, around_in}
 use Rattle.wf_paths.proofs.PathLemmas.{or_left, or_right}
-use Rattle.wf_rules.specs.Standing.{StandingTree, case_standings, graph_standings, kind_standings, number_at, standings_of}
+use Rattle.wf_standing.specs.Standing.{StandingTree, case_standings, graph_standings, kind_standings, number_at, standings_of}
 use Rattle.wf_accepted.proofs.SeenLemmas.{none-first, none-second}
 
 all-append : {X : Type 0} (P : X → Type 0) (xs ys : List X) → AllByRecursion P xs → AllByRecursion P ys → AllByRecursion P (xs ++ ys)

@@ -11,13 +11,14 @@ use Rattle.wf_order.specs.Order.{Before, Contains}
 use Rattle.wf_paths.proofs.PathLemmas.{or_left, or_right}
 use Rattle.wf_reading.proofs.PartLemmas.{equal_keys}
 use Rattle.wf_reading.proofs.RunAfterLemmas.{append-first, append-second}
-use Rattle.wf_refs.specs.UsesTree.{UsesTree}
+use Rattle.wf_uses.specs.UsesTree.{UsesTree}
 use Rattle.wf_refs.specs.declared.site.Site.{Site}
 use Rattle.wf_rules.specs.Broken.{broken_of, first_broken, offences, rules_in_order, told}
-use Rattle.wf_rules.specs.Rules.{action_breaks, breaks_at, breaks_if, breaks_itself, is_found_unseen, is_seen, is_test, is_unseen}
+use Rattle.wf_standing.specs.Inside.{is_test}
+use Rattle.wf_rules.specs.Rules.{action_breaks, breaks_at, breaks_if, breaks_itself, is_found_unseen, is_unseen}
 use Rattle.wf_rules.specs.Rules.{names_unseen}
-use Rattle.wf_rules.specs.Standing.{StandingTree, number_at, pointer_at, standings_of}
-use Rattle.wf_rules.specs.Whole.{Whole, has_name, whole_of}
+use Rattle.wf_standing.specs.Standing.{StandingTree, number_at, pointer_at, standings_of}
+use Rattle.wf_standing.specs.Whole.{Whole, has_name, is_seen, whole_of}
 use Rattle.wf_rules.specs.declared.rule.Rule.{Rule}
 use Rattle.wf_accepted.specs.Seen.{AreSeen, IsNamedAt, IsSeenFrom, IsSiteOf, at_inputs, at_items, at_test, at_tracked}
 

@@ -8,9 +8,9 @@ use Rattle.wf_def.specs.Layered.{layered}
 use Rattle.wf_order.specs.Indexes.{HaveSameIndexes}
 use Rattle.wf_order.specs.Order.{Contains}
 use Rattle.wf_refs.specs.declared.site.Site.{Site}
-use Rattle.wf_rules.specs.Rules.{is_test}
-use Rattle.wf_rules.specs.Standing.{StandingTree, number_at, standings_of}
-use Rattle.wf_rules.specs.Whole.{has_name}
+use Rattle.wf_standing.specs.Inside.{is_test}
+use Rattle.wf_standing.specs.Standing.{StandingTree, number_at, standings_of}
+use Rattle.wf_standing.specs.Whole.{has_name}
 use Rattle.wf_accepted.specs.Seen.{IsNamedAt, IsSiteOf}
 
 -- each instance of y sees those of x that have the same indexes in the loops round both

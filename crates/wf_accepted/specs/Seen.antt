@@ -5,11 +5,11 @@ use Rattle.wf_def.specs.DefTree.{DefTree}
 use Rattle.wf_def.specs.Layered.{layered}
 use Rattle.wf_order.specs.Order.{Before, Contains}
 use Rattle.wf_refs.specs.Sites.{uses_of}
-use Rattle.wf_refs.specs.UsesTree.{UsesTree}
+use Rattle.wf_uses.specs.UsesTree.{UsesTree}
 use Rattle.wf_refs.specs.declared.site.Site.{Site}
-use Rattle.wf_rules.specs.Rules.{is_test}
-use Rattle.wf_rules.specs.Standing.{StandingTree, number_at, standings_of}
-use Rattle.wf_rules.specs.Whole.{has_name}
+use Rattle.wf_standing.specs.Inside.{is_test}
+use Rattle.wf_standing.specs.Standing.{StandingTree, number_at, standings_of}
+use Rattle.wf_standing.specs.Whole.{has_name}
 
 -- the sites of an action
 pub data IsSiteOf (s : StandingTree) : Site → Type 0 where

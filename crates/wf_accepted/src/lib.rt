@@ -24,7 +24,7 @@ ghost use Rattle.wf_order.specs.Order.{Contains, around};
 ghost use Rattle.wf_reading.specs.Read.{IsRead};
 ghost use Rattle.wf_def.specs.AllActions.{all_actions};
 ghost use Rattle.wf_rules.specs.Broken.{broken_of};
-ghost use Rattle.wf_rules.specs.Standing.{number_at, standings_of};
+ghost use Rattle.wf_standing.specs.Standing.{number_at, standings_of};
 
 /// The rules look at all actions of a graph, at any depth, and at no others.
 pub fn standings_are_the_actions()

@@ -20,7 +20,7 @@ use Rattle.wf_meaning.proofs.Before.{there_both}
 use Rattle.wf_meaning.proofs.Graphs.{after_in}
 use Rattle.wf_meaning.proofs.Instance.{needs_at}
 use Rattle.wf_meaning.proofs.Waiting.{before_ended, ends}
-use Rattle.wf_refs.specs.UsesTree.{uses_tree}
+use Rattle.wf_uses.specs.UsesTree.{uses_tree}
 use Rattle.wf_plain.specs.Flat.{flat, flat_action, inputs_of, place_from, place_of}
 use Rattle.wf_plain.proofs.AlikeLemmas.{AtPlaces}
 use Rattle.wf_plain.proofs.EndLemmas.{some_one}

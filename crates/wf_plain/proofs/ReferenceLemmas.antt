@@ -20,12 +20,12 @@ use Rattle.wf_order.specs.Order.{Among, around, Before, up}
 use Rattle.wf_order.specs.Table.{before, order_of}
 use Rattle.wf_def.specs.AllActions.{all_actions, kind_actions, numbered}
 use Rattle.wf_refs.specs.Sites.{uses_at_inputs}
-use Rattle.wf_refs.specs.UsesTree.{uses_tree}
+use Rattle.wf_uses.specs.UsesTree.{uses_tree}
 use Rattle.wf_refs.specs.declared.site.Site.{Site}
 use Rattle.wf_rules.specs.Broken.{offences, told}
-use Rattle.wf_rules.specs.Rules.{action_breaks, breaks_at, breaks_if, is_found_unseen, is_seen, is_unseen, names_unseen}
-use Rattle.wf_rules.specs.Standing.{StandingTree, graph_standings, kind_standings, number_at, pointer_at, standings_of}
-use Rattle.wf_rules.specs.Whole.{Whole, has_name, whole_of}
+use Rattle.wf_rules.specs.Rules.{action_breaks, breaks_at, breaks_if, is_found_unseen, is_unseen, names_unseen}
+use Rattle.wf_standing.specs.Standing.{StandingTree, graph_standings, kind_standings, number_at, pointer_at, standings_of}
+use Rattle.wf_standing.specs.Whole.{Whole, has_name, is_seen, whole_of}
 use Rattle.wf_rules.specs.declared.rule.Rule.{Rule}
 use Rattle.wf_plain.specs.Flat.{inputs_of, place_from}
 use Rattle.wf_plain.proofs.AlikeLemmas.{AreCompose, AtPlaces, IsCompose, numbers-flat}

@@ -1,6 +1,5 @@
 mod ChainLemmas
 mod LoopLemmas
-pub mod NameLemmas
 pub mod NumberLemmas
 mod SiteLemmas
 mod TableLemmas

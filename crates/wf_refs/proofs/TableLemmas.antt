@@ -13,30 +13,29 @@ use Rattle.wf_def.specs.declared.graph.Action.{Action, out-Action}
 use Rattle.wf_def.specs.declared.graph.Kind.TheFolds.{fold_out-Action}
 use Rattle.wf_def.proofs.SizeLemmas.{drop_at_place}
 use Rattle.wf_def.specs.AllActions.{has_number, numbered}
-use Rattle.wf_refs.specs.Seen.{action_at, action_uses_seen, is_free, uses_at, uses_seen}
+use Rattle.wf_uses.specs.Seen.{uses_seen}
+use Rattle.wf_refs.specs.Seen.{action_at, is_free, kept_at, uses_at}
 use Rattle.wf_refs.specs.Sites.{action_uses, uses_at_inputs, uses_at_items, uses_at_output, uses_at_test, uses_at_tracked, uses_at_trigger}
 use Rattle.wf_refs.specs.Sites.{uses_of}
-use Rattle.wf_refs.specs.UsesTree.{ActionUsesTree, UsesTree}
+use Rattle.wf_uses.specs.UsesTree.{UsesTree}
+use Rattle.wf_refs.specs.Sites.{ActionUsesTree}
 use Rattle.wf_refs.specs.declared.site.Site.{Site}
-use Rattle.wf_refs.specs.declared.table.ActionUses.{ActionUses}
 use Rattle.wf_refs.specs.declared.table.UseTable.{UseTable}
 
 -- a number more in the table holds nothing
-pub at-grown : (xs : List (Option ActionUses)) (n : ℕ) → action_at (xs ++ None ∷ []) n ≡ action_at xs n
+pub at-grown : {X : Type 0} (xs : List (Option X)) (n : ℕ) → kept_at (xs ++ None ∷ []) n ≡ kept_at xs n
 at-grown [] zero = refl
 at-grown [] (suc n) = refl
 at-grown (x ∷ xs) zero = refl
 at-grown (x ∷ xs) (suc n) = at-grown xs n
 
 -- one number of the table is written over
-at_same : (xs : List (Option ActionUses)) (i : ℕ) (u : ActionUses) → i < length xs → action_at (set xs i (Some u)) i
-    ≡ Some (action_uses_seen u)
+at_same : {X : Type 0} (xs : List (Option X)) (i : ℕ) (u : X) → i < length xs → kept_at (set xs i (Some u)) i ≡ Some u
 at_same [] i u lt = absurd (omega arith)
 at_same (x ∷ xs) zero u lt = refl
 at_same (x ∷ xs) (suc i) u lt = at_same xs i u (omega arith)
 
-at_other : (xs : List (Option ActionUses)) (i : ℕ) (u : ActionUses) (n : ℕ) → (n ≡ i → ⊥) → action_at (set xs i (Some u)) n
-    ≡ action_at xs n
+at_other : {X : Type 0} (xs : List (Option X)) (i : ℕ) (u : X) (n : ℕ) → (n ≡ i → ⊥) → kept_at (set xs i (Some u)) n ≡ kept_at xs n
 at_other [] i u n apart = refl
 at_other (x ∷ xs) zero u zero apart = absurd (apart refl)
 at_other (x ∷ xs) zero u (suc n) apart = refl
@@ -44,44 +43,54 @@ at_other (x ∷ xs) (suc i) u zero apart = refl
 at_other (x ∷ xs) (suc i) u (suc n) apart = at_other xs i u n (λ same. apart (ap suc same))
 
 -- what stands at a number, or else what is put at one
-abbrev pub or_put : Option ActionUsesTree → ℕ → ℕ → ActionUsesTree → Option ActionUsesTree
+abbrev pub or_put : {X : Type 0} → Option X → ℕ → ℕ → X → Option X
 or_put o n i u = option_or o (cond (nat_eq n i) (Some u) None)
 
-free-none : (o : Option ActionUsesTree) → is_free o ≡ true → o ≡ None
+free-none : {X : Type 0} (o : Option X) → is_free o ≡ true → o ≡ None
 free-none None free = refl
 free-none (Some u) free = absurd (cc)
 
-or-none : (o : Option ActionUsesTree) → o ≡ option_or o None
+or-none : {X : Type 0} (o : Option X) → o ≡ option_or o None
 or-none None = refl
 or-none (Some u) = refl
 
-put_free_at : (xs : List (Option ActionUses)) (i : ℕ) (u : ActionUses) (n : ℕ) (b : Bool) → nat_eq n i ≡ b → i < length xs
-    → action_at xs i ≡ None
-    → action_at (set xs i (Some u)) n ≡ option_or (action_at xs n) (cond b (Some (action_uses_seen u)) None)
-put_free_at xs i u n true is lt none =
-    let here : Option ActionUsesTree = Some (action_uses_seen u) in
-    ap (action_at (set xs i (Some u))) (eqb-true n i is)
+put_free_at : {X : Type 0} (xs : List (Option X)) (i : ℕ) (u : X) (n : ℕ) (b : Bool) → nat_eq n i ≡ b → i < length xs
+    → kept_at xs i ≡ None → kept_at (set xs i (Some u)) n ≡ option_or (kept_at xs n) (cond b (Some u) None)
+put_free_at {X} xs i u n true is lt none =
+    let here : Option X = Some u in
+    ap (kept_at (set xs i (Some u))) (eqb-true n i is)
     ∙ at_same xs i u lt
-    ∙ sym (ap (λ (o : Option ActionUsesTree). option_or o here) (ap (action_at xs) (eqb-true n i is) ∙ none))
+    ∙ sym (ap (λ (o : Option X). option_or o here) (ap (kept_at xs) (eqb-true n i is) ∙ none))
 put_free_at xs i u n false is lt none =
-    at_other xs i u n (λ same. true≢false (sym (eq-eqb n i same) ∙ is)) ∙ or-none (action_at xs n)
+    at_other xs i u n (λ same. true≢false (sym (eq-eqb n i same) ∙ is)) ∙ or-none (kept_at xs n)
 
-pub put_free : (xs : List (Option ActionUses)) (i : ℕ) (u : ActionUses) → i < length xs → is_free (action_at xs i) ≡ true
-    → (n : ℕ) → action_at (set xs i (Some u)) n ≡ or_put (action_at xs n) n i (action_uses_seen u)
-put_free xs i u lt free n = put_free_at xs i u n (nat_eq n i) refl lt (free-none (action_at xs i) free)
+pub put_free : {X : Type 0} (xs : List (Option X)) (i : ℕ) (u : X) → i < length xs → is_free (kept_at xs i) ≡ true
+    → (n : ℕ) → kept_at (set xs i (Some u)) n ≡ or_put (kept_at xs n) n i u
+put_free xs i u lt free n = put_free_at xs i u n (nat_eq n i) refl lt (free-none (kept_at xs i) free)
 
-taken-stays : (o : Option ActionUsesTree) (u : ActionUsesTree) → is_free o ≡ false → o ≡ option_or o (Some u)
+taken-stays : {X : Type 0} (o : Option X) (u : X) → is_free o ≡ false → o ≡ option_or o (Some u)
 taken-stays None u taken = absurd (cc)
 taken-stays (Some v) u taken = refl
 
-put_taken_at : (xs : List (Option ActionUses)) (i : ℕ) (u : ActionUsesTree) (n : ℕ) (b : Bool) → nat_eq n i ≡ b
-    → is_free (action_at xs i) ≡ false → action_at xs n ≡ option_or (action_at xs n) (cond b (Some u) None)
-put_taken_at xs i u n true is taken = taken-stays (action_at xs n) u (ap (λ k. is_free (action_at xs k)) (eqb-true n i is) ∙ taken)
-put_taken_at xs i u n false is taken = or-none (action_at xs n)
+put_taken_at : {X : Type 0} (xs : List (Option X)) (i : ℕ) (u : X) (n : ℕ) (b : Bool) → nat_eq n i ≡ b → is_free (kept_at xs i) ≡ false
+    → kept_at xs n ≡ option_or (kept_at xs n) (cond b (Some u) None)
+put_taken_at xs i u n true is taken = taken-stays (kept_at xs n) u (ap (λ k. is_free (kept_at xs k)) (eqb-true n i is) ∙ taken)
+put_taken_at xs i u n false is taken = or-none (kept_at xs n)
 
-pub put_taken : (xs : List (Option ActionUses)) (i : ℕ) (u : ActionUsesTree) → is_free (action_at xs i) ≡ false
-    → (n : ℕ) → action_at xs n ≡ or_put (action_at xs n) n i u
+pub put_taken : {X : Type 0} (xs : List (Option X)) (i : ℕ) (u : X) → is_free (kept_at xs i) ≡ false
+    → (n : ℕ) → kept_at xs n ≡ or_put (kept_at xs n) n i u
 put_taken xs i u taken n = put_taken_at xs i u n (nat_eq n i) refl taken
+
+-- what is put is seen
+seen-put_at : {X Y : Type 0} (f : X → Y) (o : Option X) (b : Bool) (u : X)
+    → option_map f (option_or o (cond b (Some u) None)) ≡ option_or (option_map f o) (cond b (Some (f u)) None)
+seen-put_at f None true u = refl
+seen-put_at f None false u = refl
+seen-put_at f (Some v) b u = refl
+
+pub seen_put : {X Y : Type 0} (f : X → Y) (o o' : Option X) (n i : ℕ) (u : X) → o' ≡ or_put o n i u
+    → option_map f o' ≡ or_put (option_map f o) n i (f u)
+seen_put f o o' n i u put = ap (option_map f) put ∙ seen-put_at f o (nat_eq n i) u
 
 or-next : (b : Bool) (o r : Option ActionUsesTree) (u : ActionUsesTree)
     → option_or (option_or o (cond b (Some u) None)) r ≡ option_or o (cond b (Some u) r)

@@ -1,4 +1,2 @@
-pub mod Named
 pub mod Seen
 pub mod Sites
-pub mod UsesTree

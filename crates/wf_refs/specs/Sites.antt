@@ -11,7 +11,7 @@ use Rattle.wf_def.specs.ActionTree.{switch, switch_else, foreach, until}
 use Rattle.wf_def.specs.DefTree.{DefTree, OutputTree, TriggerTree}
 use Rattle.wf_eval.specs.Uses.{Use, cond_uses, members_uses, template_uses, tree_uses}
 use Rattle.wf_def.specs.AllActions.{numbered}
-use Rattle.wf_refs.specs.UsesTree.{ActionUsesTree, UsesTree, uses_tree}
+use Rattle.wf_uses.specs.UsesTree.{UsesTree, uses_tree}
 use Rattle.wf_refs.specs.declared.site.Site.{Site}
 
 -- ---- the uses at each site of an action
@@ -97,6 +97,13 @@ uses_at_test (action name number pointer after kind tracked) = option_map (uses_
 
 abbrev pub uses_at_tracked : ActionTree → UsesTree
 uses_at_tracked (action name number pointer after kind tracked) = uses_tree [] (members_uses (data_members tracked))
+
+-- the uses of an action's sites
+pub record ActionUsesTree : Type 0 where
+  pub inputs : UsesTree
+  pub items : Option UsesTree
+  pub test : Option UsesTree
+  pub tracked : UsesTree
 
 abbrev pub action_uses : ActionTree → ActionUsesTree
 action_uses a = record { inputs = uses_at_inputs a; items = uses_at_items a; test = uses_at_test a; tracked = uses_at_tracked a }

@@ -4,12 +4,13 @@ ghost use Rattle.wf_template.specs.ChainSeen.{start_tree};
 ghost use Rattle.wf_template.specs.ExprSeen.{expr_tree};
 ghost use Rattle.wf_look.specs.Args.{args_tree};
 ghost use Rattle.wf_eval.specs.Uses.{all_uses, used_by_name, uses};
-ghost use Rattle.wf_refs.specs.Seen.{access_uses, found_uses};
+ghost use Rattle.wf_refs.specs.Seen.{access_uses};
+ghost use Rattle.wf_uses.specs.Seen.{found_uses};
 ghost use Rattle.wf_val.specs.Function.{function_of};
 
-use crate::found::{Found, found_by_name, with};
 use std::alloc::{AllocError, Global};
 use wf_template::{Access, Expr, Start, chain_of};
+use wf_uses::{Found, found_by_name, with};
 use wf_val::Text;
 
 /// What the expression asks for. Accesses are gone through by a loop, however many they are.

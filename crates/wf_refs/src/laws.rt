@@ -1,20 +1,12 @@
 //! What is known of uses. Each call tells a caller so, and does nothing.
-ghost use Rattle.std.specs.Prelude.{◌≡◌, ℕ, List, Some, bytes_eq, is_some, slice_get};
-ghost use Rattle.std.specs.List.{AllByRecursion, list_any};
-ghost use Rattle.wf_val.specs.NameOrder.{IsInNameOrder};
+ghost use Rattle.std.specs.Prelude.{◌≡◌, ℕ, Some, is_some, slice_get};
+ghost use Rattle.std.specs.List.{AllByRecursion};
 ghost use Rattle.wf_def.specs.ActionTree.{action_number};
 ghost use Rattle.wf_def.specs.DefTree.{DefTree};
 ghost use Rattle.wf_reading.specs.Read.{IsRead};
 ghost use Rattle.wf_def.specs.AllActions.{all_actions, numbered};
 ghost use Rattle.wf_refs.specs.Sites.{uses_of};
-ghost use Rattle.wf_refs.specs.UsesTree.{ordered};
 ghost use Rattle.wf_refs.specs.declared.site.Site.{Site};
-
-/// The names of a site are those that stand there, in byte order and each once.
-pub fn names_are_those_named()
-    ensures same { (k : List ℕ) (ks : List (List ℕ)) → list_any (bytes_eq k) (ordered ks) ≡ list_any (bytes_eq k) ks }
-    ensures in_order { (ks : List (List ℕ)) → IsInNameOrder (λ k. k) (ordered ks) }
-{}
 
 /// Every action has inputs and tracked properties, and there are the sites of each output and each trigger; a place that the definition
 /// lacks has none.

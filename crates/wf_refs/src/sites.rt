@@ -4,17 +4,16 @@ ghost use Rattle.wf_def.specs.ActionSeen.{action_tree, initial_tree, kind_tree};
 ghost use Rattle.wf_def.specs.DefSeen.{output_tree, trigger_tree};
 ghost use Rattle.wf_template.specs.DataSeen.{data_tree};
 ghost use Rattle.wf_template.specs.TemplateSeen.{template_tree};
-ghost use Rattle.wf_refs.specs.UsesTree.{uses_tree};
-ghost use Rattle.wf_refs.specs.Seen.{found_uses, uses_seen};
+ghost use Rattle.wf_uses.specs.UsesTree.{uses_tree};
+ghost use Rattle.wf_uses.specs.Seen.{found_uses, uses_seen};
 ghost use Rattle.wf_refs.specs.Sites.{initials_uses, inputs_uses, items_uses, split_uses, test_uses, trigger_uses, uses_at_inputs};
 ghost use Rattle.wf_refs.specs.Sites.{uses_at_items, uses_at_output, uses_at_test, uses_at_tracked, uses_at_trigger, value_uses, writes_of};
 
-use crate::found::Found;
 use crate::templates::{in_condition, in_members, in_template, in_templates, in_tree};
-use crate::uses::Uses;
 use std::alloc::{AllocError, Global};
 use wf_def::{Action, Initial, Kind, Output, Trigger};
 use wf_template::{Template, Tree};
+use wf_uses::{Found, Uses};
 use wf_val::Text;
 
 fn in_value<'a>(

@@ -6,16 +6,17 @@ ghost use Rattle.wf_def.specs.ActionSeen.{action_tree};
 ghost use Rattle.wf_def.specs.DefSeen.{output_tree, trigger_tree};
 ghost use Rattle.wf_reading.specs.ReadSeen.{def_tree};
 ghost use Rattle.wf_def.specs.AllActions.{has_number};
-ghost use Rattle.wf_refs.specs.Seen.{action_at, action_uses_seen, is_free, uses_at, uses_seen};
+ghost use Rattle.wf_uses.specs.Seen.{uses_seen};
+ghost use Rattle.wf_refs.specs.Seen.{action_at, action_uses_seen, is_free, kept_at, uses_at};
 ghost use Rattle.wf_refs.specs.Sites.{action_uses, uses_at_output, uses_at_trigger, uses_of};
 ghost use Rattle.wf_refs.specs.declared.site.Site.{Site};
 
 use crate::site::Site;
 use crate::sites::{at_inputs, at_items, at_output, at_test, at_tracked, at_trigger};
-use crate::uses::Uses;
 use std::alloc::{AllocError, Global};
 use wf_def::{Action, Output, Trigger, all_actions};
 use wf_reading::Def;
+use wf_uses::Uses;
 
 /// The uses of an action's sites.
 #[derive(Drop)]
@@ -47,12 +48,9 @@ fn of_action<'a>(alloc: Global, action: &'a Action) -> Result<ActionUses<'a>, Al
 }
 
 // The table with room for a number.
-fn grown<'a>(
-    table: Vec<Option<ActionUses<'a>>>,
-    number: usize,
-) -> Result<Vec<Option<ActionUses<'a>>>, AllocError>
+fn grown<T: Drop>(table: Vec<Option<T>>, number: usize) -> Result<Vec<Option<T>>, AllocError>
     ensures room { IfOk result (λ all. number < length all.items) }
-    ensures same { IfOk result (λ all. (n : ℕ) → action_at all.items n ≡ action_at table.entry.items n) }
+    ensures same { IfOk result (λ all. (n : ℕ) → kept_at all.items n ≡ kept_at table.items n) }
 {
     let mut all = table;
     while all.len() <= number {
@@ -61,8 +59,8 @@ fn grown<'a>(
     Ok(all)
 }
 
-fn is_free<'a>(table: &[Option<ActionUses<'a>>], number: usize) -> bool
-    ensures { result ≡ is_free (action_at table.now number) }
+fn is_free<T: Drop>(table: &[Option<T>], number: usize) -> bool
+    ensures { result ≡ is_free (kept_at table.now number) }
 {
     match table.get(number) {
         Some(Some(_)) => false,
@@ -70,21 +68,21 @@ fn is_free<'a>(table: &[Option<ActionUses<'a>>], number: usize) -> bool
     }
 }
 
-// The table with the uses of an action at its number, where that is free.
+// The table with a value at a number, where that is free.
 #[tactic(auto, using(crate::proofs::TableLemmas::put_free, crate::proofs::TableLemmas::put_taken))]
-fn put<'a>(
-    table: Vec<Option<ActionUses<'a>>>,
+fn put<T: Drop>(
+    table: Vec<Option<T>>,
     number: usize,
-    uses: ActionUses<'a>,
-) -> Result<Vec<Option<ActionUses<'a>>>, AllocError>
-    ensures { IfOk result (λ all. (n : ℕ) → action_at all.items n
-        ≡ option_or (action_at table.entry.items n) (if nat_eq n number then Some (action_uses_seen uses.entry) else None)) }
+    value: T,
+) -> Result<Vec<Option<T>>, AllocError>
+    ensures { IfOk result (λ all. (n : ℕ) → kept_at all.items n
+        ≡ option_or (kept_at table.items n) (if nat_eq n number then Some value else None)) }
 {
     let mut all = grown(table, number)?;
     if !is_free(&all, number) {
         return Ok(all);
     }
-    all[number] = Some(uses);
+    all[number] = Some(value);
     Ok(all)
 }
 

@@ -6,13 +6,13 @@ ghost use Rattle.wf_template.specs.DataSeen.{data_member, data_tree};
 ghost use Rattle.wf_template.specs.DataTree.{data_members, data_trees};
 ghost use Rattle.wf_template.specs.TemplateSeen.{piece_tree, template_tree};
 ghost use Rattle.wf_eval.specs.Uses.{cond_uses, conds_uses, members_uses, piece_use, piece_uses, template_uses, tree_uses, trees_uses};
-ghost use Rattle.wf_refs.specs.Seen.{found_uses};
+ghost use Rattle.wf_uses.specs.Seen.{found_uses};
 ghost use Rattle.wf_refs.specs.Sites.{templates_uses};
 
 use crate::expressions::in_expression;
-use crate::found::Found;
 use std::alloc::{AllocError, Global};
 use wf_template::{Cond, Piece, Template, Tree};
+use wf_uses::Found;
 use wf_val::Text;
 
 fn in_piece<'a>(

@@ -1,8 +1,5 @@
 mod FaultLemmas
-mod StandingLemmas
 mod ToldLemmas
-mod NameLemmas
-mod InitialLemmas
 mod RowWords
 mod WorkedNames
 mod WorkedLoops

@@ -6,8 +6,8 @@ use Rattle.wf_def.specs.DefTree.{DefTree, ParamTree}
 use Rattle.wf_reading.specs.ReadSeen.{rule_fault}
 use Rattle.wf_reading.specs.declared.definition.RuleFault.{RuleFault}
 use Rattle.wf_rules.specs.Rules.{action_breaks, output_breaks, parameter_breaks, trigger_breaks}
-use Rattle.wf_rules.specs.Standing.{pointer_at, standings_of}
-use Rattle.wf_rules.specs.Whole.{whole_of}
+use Rattle.wf_standing.specs.Standing.{pointer_at, standings_of}
+use Rattle.wf_standing.specs.Whole.{whole_of}
 use Rattle.wf_rules.specs.declared.rule.Rule.{Rule}
 
 -- the pointers of what is broken

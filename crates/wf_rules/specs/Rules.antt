@@ -3,56 +3,29 @@
 --
 -- Each rule but V17 is a test of what is asked for at one site. A site stands at an action, or in the section `outputs`, where there is no
 -- action. What breaks a rule is told at the action, the output, the trigger or the parameter (specs/Broken).
-use Rattle.std.specs.Prelude.{ℕ, List, [], ◌∷◌, Bool, true, false, not, ◌&&◌, ◌||◌, nat_eq, nat_lt, bytes_eq, Option, Some, None, count_by}
+use Rattle.std.specs.Prelude.{ℕ, List, [], ◌∷◌, Bool, true, false, not, ◌&&◌, ◌||◌, nat_eq, nat_lt, Option, Some, None}
 use Rattle.std.specs.Prelude.{if◌then◌else◌}
 use Rattle.std.specs.List.{list_any}
-use Rattle.std.specs.Ordering.{is_lt}
-use Rattle.wf_val.specs.NameOrder.{bytes_cmp}
 use Rattle.wf_val.specs.ValueTree.{ValueTree, boolean, number, text, list, object, Member, fits}
 use Rattle.wf_val.specs.Get.{value_of}
-use Rattle.wf_def.specs.ActionTree.{ActionTree, action_kind, action_name, action_number}
+use Rattle.wf_def.specs.ActionTree.{ActionTree}
 use Rattle.wf_def.specs.DefTree.{ParamTree}
 use Rattle.wf_def.specs.declared.sort.Sort.{Sort}
-use Rattle.wf_refs.specs.UsesTree.{UsesTree}
+use Rattle.wf_uses.specs.UsesTree.{UsesTree}
 use Rattle.wf_refs.specs.declared.site.Site.{Site}
-use Rattle.wf_rules.specs.Kinds.{ends_or_responds, is_container, is_foreach, is_initialize, is_loop, is_of, suits}
-use Rattle.wf_rules.specs.Standing.{StandingTree, kind_at, number_at, pointer_at}
-use Rattle.wf_rules.specs.Whole.{InitialisedTree, Whole}
-use Rattle.wf_rules.specs.declared.kinds.Loop.{Loop}
+use Rattle.wf_standing.specs.Inside.{has_item, is_in_loop, is_outside, is_tracked, loops_left}
+use Rattle.wf_standing.specs.Kinds.{ends_or_responds, is_container, is_initialize, is_loop, suits}
+use Rattle.wf_standing.specs.Standing.{StandingTree, kind_at, number_at}
+use Rattle.wf_standing.specs.Whole.{InitialisedTree, Whole, is_again, is_seen}
+use Rattle.wf_standing.specs.declared.kinds.Loop.{Loop}
 use Rattle.wf_rules.specs.declared.rule.Rule.{Rule}
-
--- ---- sites
-
-abbrev pub is_test : Site → Bool
-is_test (Site.Test n) = true
-is_test site = false
-
-abbrev pub is_items : Site → Bool
-is_items (Site.Items n) = true
-is_items site = false
-
-abbrev pub is_tracked : Site → Bool
-is_tracked (Site.Tracked n) = true
-is_tracked site = false
-
--- A site stands inside a container for which `test` holds. The expression of an Until stands inside that Until, as it is evaluated after
--- each of its iterations; all else of an action stands inside the containers round the action, and an output in none.
-abbrev pub is_inside : Site → Option StandingTree → (ActionTree → Bool) → Bool
-is_inside site None test = false
-is_inside site (Some y) test = list_any test y.round || (is_test site && test y.action)
 
 -- ---- V9: each action that is named is there, and is before the one that names it
 
 module _ (whole : Whole) where
-  -- The expression of an Until sees what is inside that Until too, and an output sees all.
-  abbrev pub is_seen : Site → Option StandingTree → StandingTree → Bool
-  is_seen site None x = true
-  is_seen site (Some y) x =
-      whole.before (number_at x) (number_at y) || (is_test site && whole.contains (number_at y) (number_at x))
-
   abbrev pub is_found_unseen : Site → Option StandingTree → Option StandingTree → Bool
   is_found_unseen site at None = true
-  is_found_unseen site at (Some x) = not (is_seen site at x)
+  is_found_unseen site at (Some x) = not (is_seen whole site at x)
 
   abbrev pub is_unseen : Site → Option StandingTree → List ℕ → Bool
   is_unseen site at k = is_found_unseen site at (whole.named k)
@@ -100,12 +73,6 @@ abbrev pub is_nested : List ActionTree → Bool
 is_nested [] = false
 is_nested (c ∷ cs) = true
 
--- the action initialises the variable once more: another does so at a lesser pointer, or it does so twice itself
-abbrev pub is_again : StandingTree → List InitialisedTree → Bool
-is_again y is =
-    list_any (λ i. is_lt (bytes_cmp (pointer_at i.standing) (pointer_at y))) is
-    || nat_lt 1 (count_by (λ i. nat_eq (number_at i.standing) (number_at y)) is)
-
 abbrev pub initialises_again : Option StandingTree → List InitialisedTree → Bool
 initialises_again None is = false
 initialises_again (Some y) is = is_initialize (kind_at y) && is_again y is
@@ -147,15 +114,6 @@ module _ (whole : Whole) where
 -- ---- V14: `items` names a Foreach round the site, `iterationIndexes` an Until, and `item` stands in a Foreach or at what a Select or a
 -- Query asks of each item
 
-abbrev pub is_loop_named : Loop → List ℕ → ActionTree → Bool
-is_loop_named loop k c = is_of loop (action_kind c) && bytes_eq k (action_name c)
-
-abbrev pub is_outside : Loop → Site → Option StandingTree → List ℕ → Bool
-is_outside loop site at k = not (is_inside site at (is_loop_named loop k))
-
-abbrev pub has_item : Site → Option StandingTree → Bool
-has_item site at = is_items site || is_inside site at (λ c. is_foreach (action_kind c))
-
 abbrev pub names_outer : Site → Option StandingTree → UsesTree → Bool
 names_outer site at u =
     list_any (is_outside Loop.Foreach site at) u.items
@@ -164,17 +122,9 @@ names_outer site at u =
 -- ---- V17: a Terminate and a Response stand in no loop
 
 abbrev pub ends_in_loop : StandingTree → Bool
-ends_in_loop y = ends_or_responds (kind_at y) && list_any (λ c. is_loop (action_kind c)) y.round
+ends_in_loop y = ends_or_responds (kind_at y) && is_in_loop y
 
 -- ---- V18: a reference leaves at most one loop
-
--- a loop, which isn't round the site
-abbrev pub is_left : Site → Option StandingTree → ActionTree → Bool
-is_left site at c = is_loop (action_kind c) && not (is_inside site at (λ r. nat_eq (action_number r) (action_number c)))
-
--- how many of the loops round an action a reference to it leaves; with `result` it leaves the action too, where that is a loop
-abbrev pub loops_left : Site → Option StandingTree → StandingTree → ℕ
-loops_left site at x = count_by (is_left site at) x.round
 
 abbrev pub leaves_two : Site → Option StandingTree → Option StandingTree → Bool
 leaves_two site at None = false

@@ -1,11 +1,12 @@
 -- What may be wrong with a name at a site.
 use Rattle.std.specs.Prelude.{ℕ, List, Bool, not, Option}
 use Rattle.wf_refs.specs.declared.site.Site.{Site}
-use Rattle.wf_rules.specs.Rules.{is_misread, is_miswritten, is_no_container, is_outside, is_uninitialised, is_unseen, leaves_two}
+use Rattle.wf_standing.specs.Inside.{is_outside}
+use Rattle.wf_rules.specs.Rules.{is_misread, is_miswritten, is_no_container, is_uninitialised, is_unseen, leaves_two}
 use Rattle.wf_rules.specs.Rules.{leaves_two_for}
-use Rattle.wf_rules.specs.Standing.{StandingTree}
-use Rattle.wf_rules.specs.Whole.{Whole}
-use Rattle.wf_rules.specs.declared.kinds.Loop.{Loop}
+use Rattle.wf_standing.specs.Standing.{StandingTree}
+use Rattle.wf_standing.specs.Whole.{Whole}
+use Rattle.wf_standing.specs.declared.kinds.Loop.{Loop}
 use Rattle.wf_rules.specs.declared.wrong.Wrong.{Wrong}
 
 module _ (whole : Whole) where

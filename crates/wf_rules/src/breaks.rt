@@ -2,22 +2,21 @@
 ghost use Rattle.std.specs.List.{list_any};
 ghost use Rattle.std.specs.Prelude.{◌≡◌, map, option_map};
 ghost use Rattle.wf_def.specs.DefSeen.{param_tree};
-ghost use Rattle.wf_refs.specs.Seen.{uses_seen};
-ghost use Rattle.wf_rules.specs.KnownSeen.{whole_seen};
+ghost use Rattle.wf_uses.specs.Seen.{uses_seen};
+ghost use Rattle.wf_standing.specs.KnownSeen.{whole_seen};
 ghost use Rattle.wf_rules.specs.Rules.{action_breaks, asks_elsewhere, asks_leaf, asks_too_soon, breaks_at, breaks_if, breaks_itself};
-ghost use Rattle.wf_rules.specs.Rules.{breaks_with, comes_early, has_misfit, has_sort, is_any, is_misdeclared, is_misfit, is_misfit_if};
-ghost use Rattle.wf_rules.specs.Rules.{is_too_big_if, leaves_loops, misuses, names_outer, names_undeclared, names_unseen, output_breaks};
-ghost use Rattle.wf_rules.specs.Rules.{parameter_breaks, trigger_breaks, trigger_breaks_if, trigger_breaks_with};
-ghost use Rattle.wf_rules.specs.Seen.{standing_tree};
+ghost use Rattle.wf_rules.specs.Rules.{breaks_with, comes_early, ends_in_loop, has_misfit, has_sort, is_any, is_misdeclared, is_misfit};
+ghost use Rattle.wf_rules.specs.Rules.{is_misfit_if, is_too_big_if, leaves_loops, misuses, names_outer, names_undeclared, names_unseen};
+ghost use Rattle.wf_rules.specs.Rules.{output_breaks, parameter_breaks, trigger_breaks, trigger_breaks_if, trigger_breaks_with};
+ghost use Rattle.wf_standing.specs.Seen.{standing_tree};
 ghost use Rattle.wf_val.specs.Seen.{tree};
 
-use crate::known::Known;
 use crate::rule::Rule;
-use crate::sites::{ends_in_loop, has_item, is_tracked};
-use crate::standing::Standing;
 use crate::wrong::{Wrong, any_wrong};
 use wf_def::{Param, Sort};
-use wf_refs::{Names, Site, Uses};
+use wf_refs::Site;
+use wf_standing::{Known, Standing, ends_or_responds, has_item, is_in_loop, is_tracked};
+use wf_uses::{Names, Uses};
 use wf_val::{Fields, Val, Vals};
 
 // ---- at a site
@@ -163,6 +162,13 @@ fn breaks_at(known: &Known<'_, '_>, rule: Rule, site: Site, at: Option<&Standing
 }
 
 // ---- by an action, an output, a trigger, a parameter
+
+// Whether the action is a Terminate or a Response in a loop.
+fn ends_in_loop(standing: &Standing<'_>) -> bool
+    ensures { result ≡ ends_in_loop (standing_tree standing.now) }
+{
+    ends_or_responds(&standing.action.kind) && is_in_loop(standing)
+}
 
 fn breaks_itself(rule: Rule, standing: &Standing<'_>) -> bool
     ensures { result ≡ breaks_itself rule (standing_tree standing.now) }

@@ -3,7 +3,7 @@ ghost use Rattle.std.specs.Prelude.{◌≡◌, None};
 ghost use Rattle.wf_order.specs.OrderSeen.{order_tree};
 ghost use Rattle.wf_reading.specs.ReadSeen.{def_tree};
 ghost use Rattle.wf_rules.specs.Broken.{broken_of};
-ghost use Rattle.wf_rules.specs.Whole.{order_in};
+ghost use Rattle.wf_standing.specs.Whole.{order_in};
 
 use wf_order::Order;
 use wf_reading::Def;

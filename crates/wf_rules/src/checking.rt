@@ -4,7 +4,7 @@ ghost use Rattle.wf_order.specs.OrderSeen.{order_tree};
 ghost use Rattle.wf_reading.specs.ReadSeen.{def_tree};
 ghost use Rattle.wf_reading.specs.declared.definition.RuleFault.{RuleFault};
 ghost use Rattle.wf_rules.specs.Broken.{broken_of};
-ghost use Rattle.wf_rules.specs.Whole.{order_in};
+ghost use Rattle.wf_standing.specs.Whole.{order_in};
 
 use crate::checked::Checked;
 use crate::fault::first_broken;

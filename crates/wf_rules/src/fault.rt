@@ -5,17 +5,15 @@ ghost use Rattle.wf_json.specs.Pointer.{least, lesser, member_step};
 ghost use Rattle.wf_order.specs.OrderSeen.{order_tree};
 ghost use Rattle.wf_reading.specs.ReadSeen.{def_tree};
 ghost use Rattle.wf_rules.specs.Broken.{first_broken, offences, parameter_pointer, rules_in_order, told, told_in};
-ghost use Rattle.wf_rules.specs.KnownSeen.{whole_seen};
+ghost use Rattle.wf_standing.specs.KnownSeen.{whole_seen};
 ghost use Rattle.wf_rules.specs.Rules.{action_breaks, output_breaks, parameter_breaks, trigger_breaks};
-ghost use Rattle.wf_rules.specs.Seen.{standing_tree};
-ghost use Rattle.wf_rules.specs.Standing.{pointer_at, standings_of};
-ghost use Rattle.wf_rules.specs.Whole.{order_in, whole_of};
+ghost use Rattle.wf_standing.specs.Seen.{standing_tree};
+ghost use Rattle.wf_standing.specs.Standing.{pointer_at, standings_of};
+ghost use Rattle.wf_standing.specs.Whole.{order_in, whole_of};
 ghost use Rattle.wf_val.specs.Cut.{cut_u32};
 
 use crate::breaks::{action_breaks, output_breaks, parameter_breaks, trigger_breaks};
-use crate::known::Known;
 use crate::rule::Rule;
-use crate::standing::{Standing, standings_of};
 use std::alloc::{AllocError, Global};
 use std::cmp::Ordering;
 use wf_def::{Output, Param, Trigger};
@@ -23,6 +21,7 @@ use wf_json::pointer::{lesser, lesser_of, step_to};
 use wf_order::Order;
 use wf_reading::Def;
 use wf_refs::refs;
+use wf_standing::{Known, Standing, standings_of};
 use wf_val::{Fields, Name, Text};
 
 // The lesser of the pointer so far, if there is one, and another, where that is broken.

@@ -6,9 +6,9 @@
 //! numbers, and answers the first that is broken with the least pointer of what breaks it, or the definition as a `Checked`, whose type
 //! keeps that it breaks none.
 //!
-//! The tests ask for the uses of names at each site (`wf_refs`), for the order of two actions (`wf_order`), and for the containers round an
-//! action (`specs/Standing`). Names are looked up in ordered lists, and what is compared then are numbers, so a definition in which each
-//! action names all others takes little more than the look-ups of those names.
+//! The tests ask for the uses of names at each site (`wf_refs`), and for what is known of the definition (`wf_standing`): the action of a
+//! name, the order of two actions, the containers round an action, what initialises a variable. They compare numbers, so a definition in
+//! which each action names all others takes little more than the look-ups of those names.
 //!
 //! V13, V15 and V16, on variables that are written side by side, on Terminate and on Response, aren't tried here yet.
 #![tactic(auto)]
@@ -17,14 +17,8 @@ mod breaks;
 mod checked;
 mod checking;
 mod fault;
-mod initials;
-mod kinds;
-mod known;
 mod laws;
-mod names;
 mod rule;
-mod sites;
-mod standing;
 mod wrong;
 
 pub use checked::Checked;

@@ -1,22 +1,19 @@
 //! What may be wrong with a name at a site.
 ghost use Rattle.std.specs.List.{list_any};
-ghost use Rattle.std.specs.Ordering.{is_lt};
-ghost use Rattle.std.specs.Prelude.{◌≡◌, count_by, map, nat_eq, option_map};
-ghost use Rattle.wf_rules.specs.KnownSeen.{whole_seen};
-ghost use Rattle.wf_rules.specs.Rules.{initialises_again, is_again, is_early, is_found_unseen, is_misread, is_miswritten, is_nested};
-ghost use Rattle.wf_rules.specs.Rules.{is_no_container, is_seen, is_uninitialised, is_unseen, leaves_two, leaves_two_for, suits_at};
-ghost use Rattle.wf_rules.specs.Seen.{initialised_in, initialised_tree, standing_tree};
-ghost use Rattle.wf_rules.specs.Standing.{number_at, pointer_at};
+ghost use Rattle.std.specs.Prelude.{◌≡◌, map, option_map};
+ghost use Rattle.wf_standing.specs.KnownSeen.{whole_seen};
+ghost use Rattle.wf_rules.specs.Rules.{initialises_again, is_early, is_found_unseen, is_misread, is_miswritten, is_nested};
+ghost use Rattle.wf_rules.specs.Rules.{is_no_container, is_uninitialised, is_unseen, leaves_two, leaves_two_for, suits_at};
+ghost use Rattle.wf_standing.specs.Whole.{is_again};
+ghost use Rattle.wf_standing.specs.Seen.{initialised_in, initialised_tree, standing_tree};
 ghost use Rattle.wf_rules.specs.Wrong.{is_wrong};
-ghost use Rattle.wf_val.specs.NameOrder.{bytes_cmp};
 
-use crate::initials::{Initialised, Variable};
-use crate::kinds::{Loop, is_container, is_initialize, is_loop, suits};
-use crate::known::Known;
-use crate::sites::{is_outside, is_test, loops_left};
-use crate::standing::Standing;
 use wf_def::Sort;
 use wf_refs::Site;
+use wf_standing::{
+    Initialised, Known, Loop, Standing, Variable, is_again, is_container, is_initialize, is_loop,
+    is_outside, loops_left, suits,
+};
 use wf_val::Name;
 
 /// What may be wrong with a name, by what it is the name of and by how it is used.
@@ -59,7 +56,7 @@ fn is_found_unseen(
         None => true,
         Some(x) => match at {
             None => false,
-            Some(y) => !(known.before(x, y) || (is_test(site) && known.contains(y, x))),
+            Some(y) => !known.sees(site, y, x),
         },
     }
 }
@@ -104,46 +101,12 @@ fn is_nested(standing: &Standing<'_>) -> bool
     !standing.round.is_empty()
 }
 
-fn any_lesser(standing: &Standing<'_>, by: &[Initialised<'_, '_>]) -> bool
-    ensures { result ≡ list_any
-        (λ i. is_lt (bytes_cmp (pointer_at i.standing) (pointer_at (standing_tree standing.now)))) (map initialised_tree by.now) }
-{
-    for one in by {
-        if one
-            .standing
-            .action
-            .pointer
-            .order(&standing.action.pointer)
-            .is_lt()
-        {
-            return true;
-        }
-    }
-    false
-}
-
-fn count_own(standing: &Standing<'_>, by: &[Initialised<'_, '_>]) -> usize
-    ensures { result ≡ count_by
-        (λ i. nat_eq (number_at i.standing) (number_at (standing_tree standing.now))) (map initialised_tree by.now) }
-{
-    let mut count = 0;
-    for one in by {
-        if one.standing.action.number == standing.action.number {
-            count += 1;
-        }
-    }
-    count
-}
-
 fn initialises_again(at: Option<&Standing<'_>>, by: &[Initialised<'_, '_>]) -> bool
     ensures { result ≡ initialises_again (option_map (λ s. standing_tree s.now) at.entry) (map initialised_tree by.now) }
 {
     match at {
         None => false,
-        Some(standing) => {
-            is_initialize(&standing.action.kind)
-                && (any_lesser(standing, by) || count_own(standing, by) > 1)
-        }
+        Some(standing) => { is_initialize(&standing.action.kind) && is_again(standing, by) }
     }
 }
 

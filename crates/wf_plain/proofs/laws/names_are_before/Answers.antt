@@ -6,7 +6,7 @@ use Rattle.wf_def.specs.Layered.{layered}
 use Rattle.wf_def.specs.Names.{graph_names}
 use Rattle.std.specs.Prelude.{length}
 use Rattle.wf_plain.proofs.AlikeLemmas.{alike, numbers-are-places}
-use Rattle.wf_refs.proofs.NameLemmas.{named-insert}
+use Rattle.wf_uses.proofs.NameLemmas.{named-insert}
 use Rattle.wf_plain.proofs.KeptLemmas.{all-compose, references-kept}
 use Rattle.wf_plain.proofs.NamesLemmas.{all-names-before, NamesKnown}
 use Rattle.wf_plain.proofs.ReferenceLemmas.{all-known}

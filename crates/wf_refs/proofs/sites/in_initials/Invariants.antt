@@ -1,6 +1,6 @@
 use Rattle.std.proofs.Common.{◌≡◌, ◌++◌, map, drop}
 use Rattle.wf_def.specs.ActionSeen.{initial_tree}
-use Rattle.wf_refs.specs.Seen.{found_uses}
+use Rattle.wf_uses.specs.Seen.{found_uses}
 use Rattle.wf_refs.specs.Sites.{initials_uses}
 use Rattle.wf_refs.proofs.sites.in_initials.Given as goal
 

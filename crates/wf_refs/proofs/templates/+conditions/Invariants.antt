@@ -3,7 +3,7 @@ use Rattle.wf_template.specs.CondTree.{cond_trees}
 use Rattle.wf_template.specs.CondSeen.{cond_tree}
 use Rattle.wf_eval.specs.Truth.{cond_count, conds_count}
 use Rattle.wf_eval.specs.Uses.{conds_uses}
-use Rattle.wf_refs.specs.Seen.{found_uses}
+use Rattle.wf_uses.specs.Seen.{found_uses}
 use Rattle.wf_refs.proofs.templates.+conditions.Given as goal
 
 -- what is found so far, and what is left

@@ -2,7 +2,7 @@ use Rattle.std.proofs.Common.{◌≡◌, ◌++◌, ◌+◌, ◌*◌, map, drop}
 use Rattle.wf_template.specs.DataTree.{data_trees, data_members, node_count, trees_count, members_count}
 use Rattle.wf_template.specs.DataSeen.{data_tree, data_member}
 use Rattle.wf_eval.specs.Uses.{members_uses, trees_uses}
-use Rattle.wf_refs.specs.Seen.{found_uses}
+use Rattle.wf_uses.specs.Seen.{found_uses}
 use Rattle.wf_refs.proofs.templates.+trees.Given as goal
 
 -- what is found so far, and what is left

@@ -1,7 +1,7 @@
 use Rattle.std.proofs.Common.{◌≡◌, ◌++◌, map, drop}
 use Rattle.wf_template.specs.TemplateSeen.{piece_tree}
 use Rattle.wf_eval.specs.Uses.{piece_uses}
-use Rattle.wf_refs.specs.Seen.{found_uses}
+use Rattle.wf_uses.specs.Seen.{found_uses}
 use Rattle.wf_refs.proofs.templates.in_pieces.Given as goal
 
 -- what is found so far, and what is left

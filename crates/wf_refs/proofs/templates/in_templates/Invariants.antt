@@ -1,6 +1,6 @@
 use Rattle.std.proofs.Common.{◌≡◌, ◌++◌, map, drop}
 use Rattle.wf_template.specs.TemplateSeen.{template_tree}
-use Rattle.wf_refs.specs.Seen.{found_uses}
+use Rattle.wf_uses.specs.Seen.{found_uses}
 use Rattle.wf_refs.specs.Sites.{templates_uses}
 use Rattle.wf_refs.proofs.templates.in_templates.Given as goal
 

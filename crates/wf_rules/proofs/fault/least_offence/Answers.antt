@@ -7,11 +7,11 @@ use Rattle.wf_def.specs.declared.section.Trigger.{Trigger}
 use Rattle.wf_json.specs.Pointer.{least}
 use Rattle.wf_reading.specs.ReadSeen.{def_tree}
 use Rattle.wf_rules.specs.Broken.{parameter_pointer, told, told_in}
-use Rattle.wf_rules.specs.KnownSeen.{whole_seen}
+use Rattle.wf_standing.specs.KnownSeen.{whole_seen}
 use Rattle.wf_rules.specs.Rules.{action_breaks, output_breaks, parameter_breaks, trigger_breaks}
-use Rattle.wf_rules.specs.Seen.{standing_tree}
-use Rattle.wf_rules.specs.Standing.{StandingTree, pointer_at, standings_of}
-use Rattle.wf_rules.specs.Whole.{Whole, whole_of}
+use Rattle.wf_standing.specs.Seen.{standing_tree}
+use Rattle.wf_standing.specs.Standing.{StandingTree, pointer_at, standings_of}
+use Rattle.wf_standing.specs.Whole.{Whole, whole_of}
 use Rattle.wf_rules.proofs.ToldLemmas.{both, least-four}
 use Rattle.wf_rules.proofs.fault.least_offence.Goals as goal
 

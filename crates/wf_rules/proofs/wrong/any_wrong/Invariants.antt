@@ -1,7 +1,7 @@
 use Rattle.std.proofs.Common.{◌≡◌, drop, map, option_map}
 use Rattle.std.specs.List.{list_any}
-use Rattle.wf_rules.specs.KnownSeen.{whole_seen}
-use Rattle.wf_rules.specs.Seen.{standing_tree}
+use Rattle.wf_standing.specs.KnownSeen.{whole_seen}
+use Rattle.wf_standing.specs.Seen.{standing_tree}
 use Rattle.wf_rules.specs.Wrong.{is_wrong}
 use Rattle.wf_rules.proofs.wrong.any_wrong.Given as goal
 

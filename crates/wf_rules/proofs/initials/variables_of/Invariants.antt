@@ -1,9 +1,0 @@
-use Rattle.std.proofs.Common.{◌≡◌, ◌++◌, ℕ, List, drop, map}
-use Rattle.wf_rules.specs.Seen.{initialised_found, standing_tree}
-use Rattle.wf_rules.specs.Whole.{initialised_among}
-use Rattle.wf_rules.proofs.initials.variables_of.Given as goal
-
-abbrev pub invariant-loop-standing : goal.invariant-loop-standing
-invariant-loop-standing l =
-    (k : List ℕ) → initialised_found l.variables k ++ initialised_among (map standing_tree (drop l.standing-index l.standings)) k
-    ≡ initialised_among (map standing_tree l.standings) k

@@ -1,0 +1,3 @@
+pub mod StandingLemmas
+mod NameLemmas
+mod InitialLemmas

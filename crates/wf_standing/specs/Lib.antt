@@ -1,0 +1,6 @@
+pub mod Standing
+pub mod Kinds
+pub mod Inside
+pub mod Whole
+pub mod Seen
+pub mod KnownSeen
