@@ -6,7 +6,7 @@ use Rattle.wf_template.specs.ExprTree.{ExprTree, literal, call, expr_trees}
 use Rattle.wf_template.specs.TemplateTree.{whole, plain}
 use Rattle.wf_template.specs.DataTree.{DataTree, number, text, list, data_trees}
 use Rattle.wf_template.specs.CondTree.{CondTree, holds}
-use Rattle.wf_def.specs.ActionTree.{ActionTree, action, KindTree, compose, initialize, scope, foreach, until, action_trees}
+use Rattle.wf_def.specs.ActionTree.{ActionTree, action, InitialTree, KindTree, compose, initialize, scope, foreach, until, action_trees}
 use Rattle.wf_def.specs.DefTree.{DefTree, OutputTree, TriggerTree}
 use Rattle.wf_def.specs.declared.after.After.{After}
 use Rattle.wf_def.specs.declared.sort.Sort.{Sort}
@@ -18,6 +18,10 @@ asks f = call (codes f) (expr_trees [])
 
 abbrev pub asked : String → String → ExprTree
 asked f k = call (codes f) (expr_trees (literal (value.text (codes k)) ∷ []))
+
+-- one call of two others
+abbrev pub both : ExprTree → ExprTree → ExprTree
+both e f = call (codes "concat") (expr_trees (e ∷ f ∷ []))
 
 abbrev pub data_of : ExprTree → DataTree
 data_of e = text (whole e)
@@ -72,6 +76,9 @@ abbrev pub fault : ℕ → String → Option RuleFault
 fault n pointer = Some (RuleFault.Rule n (codes pointer))
 
 -- a variable is initialised, and read
+abbrev pub variable : String → InitialTree
+variable s = record { name = codes s; sort = Sort.List; value = None }
+
 abbrev pub init : Sort → KindTree
 init sort = initialize (record { name = codes "v"; sort = sort; value = None } ∷ [])
 

@@ -10,7 +10,7 @@ use Rattle.wf_def.specs.DefTree.{DefTree}
 use Rattle.wf_def.specs.declared.sort.Sort.{Sort}
 use Rattle.wf_reading.specs.declared.definition.RuleFault.{RuleFault}
 use Rattle.wf_rules.specs.Broken.{broken_of, rule_number, rules_in_order}
-use Rattle.wf_rules.proofs.RowWords.{after, asked, asks, at, composes, data_of, each, fault, in_scope, init, of, one, output, reads}
+use Rattle.wf_rules.proofs.RowWords.{after, asked, asks, at, both, composes, data_of, each, fault, in_scope, init, of, one, output, reads}
 use Rattle.wf_rules.proofs.RowWords.{some, tracking, trigger, truth, turns, yes}
 
 -- ---- V14
@@ -57,6 +57,21 @@ index_of_foreach : broken_of (of (
     at "L" 1 "/actions/L" [] (each some (at "A" 0 "/actions/L/actions/A" [] (composes (asked "iterationIndexes" "L")) ∷ [])) ∷ []))
     ≡ fault 14 "/actions/L/actions/A"
 index_of_foreach = refl
+
+index_in_other_letters : broken_of (of (at "U" 0 "/actions/U" [] (turns (truth (asked "iterationIndexes" "u")) []) ∷ []))
+    ≡ fault 14 "/actions/U"
+index_in_other_letters = refl
+
+-- of two names the second counts too
+second_items : broken_of (of (
+    at "L" 1 "/actions/L" [] (each some (at "A" 0 "/actions/L/actions/A" [] (composes (both (asked "items" "L") (asked "items" "M"))) ∷ []))
+    ∷ [])) ≡ fault 14 "/actions/L/actions/A"
+second_items = refl
+
+second_index : broken_of (of (
+    at "U" 0 "/actions/U" [] (turns (truth (both (asked "iterationIndexes" "U") (asked "iterationIndexes" "V"))) []) ∷ []))
+    ≡ fault 14 "/actions/U"
+second_index = refl
 
 -- the expression of an Until has its index, its tracked properties haven't
 own_index : broken_of (of (at "U" 0 "/actions/U" [] (turns (truth (asked "iterationIndexes" "U")) []) ∷ [])) ≡ None
@@ -129,6 +144,16 @@ result_leaves_both = refl
 result_leaves_one : broken_of (two_loops (asked "result" "L")) ≡ None
 result_leaves_one = refl
 
+-- of two names the second counts too
+second_leaves_both : broken_of (of (
+    at "A" 0 "/actions/A" (after 2) (composes (both (asked "outputs" "M") (asked "outputs" "Z")))
+    ∷ at "L" 2 "/actions/L" [] (each some (at "M" 3 "/actions/L/actions/M" [] (each some (
+    at "Z" 1 "/actions/L/actions/M/actions/Z" [] one ∷ [])) ∷ [])) ∷ [])) ≡ fault 18 "/actions/A"
+second_leaves_both = refl
+
+second_result_leaves_both : broken_of (two_loops (both (asked "result" "L") (asked "result" "M"))) ≡ fault 18 "/actions/A"
+second_result_leaves_both = refl
+
 -- of anything else it doesn't
 result_of_a_scope_leaves_one : broken_of (of (
     at "A" 0 "/actions/A" (after 1) (composes (asked "result" "S"))
@@ -155,6 +180,10 @@ leaves_a_scope : broken_of (of (
     at "C" 1 "/actions/L/actions/S/actions/C" [] one ∷ [])) ∷ [])) ∷ [])) ≡ None
 leaves_a_scope = refl
 
+output_result_leaves_both : broken_of (record (two_loops (asked "outputs" "L")) { outputs = output (asked "result" "M") })
+    ≡ fault 18 "/outputs/o"
+output_result_leaves_both = refl
+
 output_leaves_both : broken_of (record (two_loops (asked "outputs" "L")) { outputs = output (asked "outputs" "C") }) ≡ fault 18 "/outputs/o"
 output_leaves_both = refl
 
@@ -176,6 +205,11 @@ inner_leaves_one = refl
 result_of_a_leaf : broken_of (of (at "A" 0 "/actions/A" (after 1) (composes (asked "result" "B")) ∷ at "B" 1 "/actions/B" [] one ∷ []))
     ≡ fault 19 "/actions/A"
 result_of_a_leaf = refl
+
+second_result_of_a_leaf : broken_of (of (
+    at "A" 0 "/actions/A" (after 2) (composes (both (asked "result" "B") (asked "result" "C")))
+    ∷ at "B" 1 "/actions/B" [] (in_scope []) ∷ at "C" 2 "/actions/C" (after 1) one ∷ [])) ≡ fault 19 "/actions/A"
+second_result_of_a_leaf = refl
 
 result_of_a_scope : broken_of
     (of (at "A" 0 "/actions/A" (after 1) (composes (asked "result" "B")) ∷ at "B" 1 "/actions/B" [] (in_scope []) ∷ [])) ≡ None

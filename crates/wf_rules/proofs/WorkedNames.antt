@@ -5,14 +5,15 @@ use Rattle.std.specs.Prelude.{codes, pos}
 use Rattle.wf_val.specs.ValueTree as value
 use Rattle.wf_template.specs.TemplateTree.{TemplateTree, whole, plain}
 use Rattle.wf_template.specs.DataTree.{null}
-use Rattle.wf_def.specs.ActionTree.{ActionTrees, no_actions, CaseTrees, no_cases, case_then, KindTree, action_trees, select, query, initialize}
-use Rattle.wf_def.specs.ActionTree.{set_to, increment, decrement, append_array, append_string, scope, branch, switch, switch_else, foreach, until}
+use Rattle.wf_def.specs.ActionTree.{ActionTrees, no_actions, CaseTrees, no_cases, case_then, KindTree, action_trees, select, query}
+use Rattle.wf_def.specs.ActionTree.{initialize, set_to, increment, decrement, append_array, append_string, scope, branch, switch}
+use Rattle.wf_def.specs.ActionTree.{switch_else, foreach, until}
 use Rattle.wf_def.specs.DefTree.{DefTree, ParamTree}
 use Rattle.wf_def.specs.declared.sort.Sort.{Sort}
 use Rattle.wf_reading.specs.declared.definition.RuleFault.{RuleFault}
 use Rattle.wf_rules.specs.Broken.{broken_of}
-use Rattle.wf_rules.proofs.RowWords.{after, asked, at, composes, data_of, fault, in_scope, init, of, one, output, reads, some, tracking}
-use Rattle.wf_rules.proofs.RowWords.{trigger, truth, turns, yes}
+use Rattle.wf_rules.proofs.RowWords.{after, asked, at, both, composes, data_of, fault, in_scope, init, of, one, output, reads, some}
+use Rattle.wf_rules.proofs.RowWords.{tracking, trigger, truth, turns, variable, yes}
 
 -- ---- V9
 
@@ -156,6 +157,17 @@ least_pointer : broken_of (of (
     ≡ fault 9 "/actions/a0"
 least_pointer = refl
 
+-- of two names the second counts too
+second_name : broken_of (of (
+    at "A" 0 "/actions/A" (after 1) (composes (both (asked "body" "B") (asked "body" "Z"))) ∷ at "B" 1 "/actions/B" [] one ∷ []))
+    ≡ fault 9 "/actions/A"
+second_name = refl
+
+second_result : broken_of (of (
+    at "A" 0 "/actions/A" (after 1) (composes (both (asked "result" "S") (asked "result" "T")))
+    ∷ at "S" 1 "/actions/S" [] (in_scope []) ∷ [])) ≡ fault 9 "/actions/A"
+second_result = refl
+
 -- ---- V10
 
 abbrev declared : Sort → Option value.ValueTree → Option (List value.ValueTree) → List ParamTree
@@ -183,6 +195,23 @@ undeclared_output = refl
 
 undeclared_trigger : broken_of (record (of []) { triggers = trigger (asked "parameters" "p") }) ≡ fault 10 "/triggers/t"
 undeclared_trigger = refl
+
+second_parameter : broken_of (record (of (
+    at "A" 0 "/actions/A" [] (composes (both (asked "parameters" "p") (asked "parameters" "q"))) ∷ [])) {
+      parameters = declared Sort.Int None None;
+    }) ≡ fault 10 "/actions/A"
+second_parameter = refl
+
+-- each condition of a trigger is looked at
+undeclared_condition : broken_of (record (of []) {
+  triggers = record {
+    name = codes "t";
+    split = None;
+    conditions = whole (asked "parameters" "p") ∷ whole (asked "parameters" "q") ∷ [];
+  } ∷ [];
+  parameters = declared Sort.Int None None;
+}) ≡ fault 10 "/triggers/t"
+undeclared_condition = refl
 
 -- the sections by their bytes
 undeclared_both : broken_of
@@ -277,6 +306,22 @@ initialised : broken_of (record (of (at "A" 0 "/actions/A" (after 1) reads ∷ a
   outputs = output (asked "variables" "v");
 }) ≡ None
 initialised = refl
+
+-- not its name in other letters
+variable_in_other_letters : broken_of (of (
+    at "A" 0 "/actions/A" (after 1) (composes (asked "variables" "V")) ∷ at "V" 1 "/actions/V" [] (init Sort.List) ∷ []))
+    ≡ fault 11 "/actions/A"
+variable_in_other_letters = refl
+
+second_read : broken_of (of (
+    at "A" 0 "/actions/A" (after 1) (composes (both (asked "variables" "v") (asked "variables" "w")))
+    ∷ at "V" 1 "/actions/V" [] (init Sort.List) ∷ [])) ≡ fault 11 "/actions/A"
+second_read = refl
+
+second_written : broken_of (of (
+    at "A" 0 "/actions/A" [] (initialize (variable "w" ∷ []))
+    ∷ at "V" 1 "/actions/V" (after 0) (initialize (variable "v" ∷ variable "w" ∷ [])) ∷ [])) ≡ fault 11 "/actions/V"
+second_written = refl
 
 -- twice: the later pointer, and none that reads
 twice : broken_of (of (
@@ -373,3 +418,9 @@ early_test : broken_of (of (
     at "U" 0 "/actions/U" [] (turns (truth (asked "variables" "v")) []) ∷ at "V" 1 "/actions/V" [] (init Sort.List) ∷ []))
     ≡ fault 12 "/actions/U"
 early_test = refl
+
+second_early : broken_of (of (
+    at "A" 0 "/actions/A" (after 1) (composes (both (asked "variables" "v") (asked "variables" "w")))
+    ∷ at "V" 1 "/actions/V" [] (init Sort.List) ∷ at "W" 2 "/actions/W" [] (initialize (variable "w" ∷ [])) ∷ []))
+    ≡ fault 12 "/actions/A"
+second_early = refl
