@@ -1,5 +1,6 @@
 -- What is given fits: calls, literals, lists, objects and texts are tested, and a part of a value that fits does too.
-use Rattle.std.proofs.Common.{◌≡◌, ℕ, zero, suc, ◌≤◌, ◌^◌, Bool, true, false, List, [], ◌∷◌, Option, Some, None, option_map, Result, Ok, Err, slice_get, refl, subst, arith}
+use Rattle.std.proofs.Common.{◌≡◌, ℕ, zero, suc, ◌≤◌, ◌^◌, Bool, true, false, List, [], ◌∷◌, Option, Some, None, option_map, Result, Ok}
+use Rattle.std.proofs.Common.{Err, slice_get, refl, subst, arith}
 use Rattle.std.specs.Fmt.{signed_decimal}
 use Rattle.std.specs.Ordering.{is_eq}
 use Rattle.std.specs.Prelude.{map, pos, negsuc, ◌&&◌, nat_le, if◌then◌else◌}
@@ -9,7 +10,9 @@ use Rattle.wf_val.specs.Cut.{cut_u32, cut_u64}
 use Rattle.wf_val.specs.Function.{function_of}
 use Rattle.wf_val.specs.Get as look_up
 use Rattle.wf_val.specs.NameOrder.{bytes_cmp, find_named}
-use Rattle.wf_val.specs.ValueTree.{ValueTree, null, boolean, number, text, list, object, ValueTrees, no_values, value_then, MemberTrees, no_members, member_then, trees, items, members, pairs, depth, trees_depth, members_depth, weight, trees_weight, members_weight, Fits, fits}
+use Rattle.wf_val.specs.ValueTree.{ValueTree, null, boolean, number, text, list, object, ValueTrees, no_values, value_then, MemberTrees}
+use Rattle.wf_val.specs.ValueTree.{no_members, member_then, trees, items, members, pairs, depth, trees_depth, members_depth, weight}
+use Rattle.wf_val.specs.ValueTree.{trees_weight, members_weight, Fits, fits}
 use Rattle.wf_val.specs.declared.function.Fun.{Fun}
 use Rattle.wf_val.specs.declared.fault.EvalFault.{EvalFault}
 use Rattle.wf_template.specs.ExprTree.{ExprTree, ExprTrees, literal, call, member, index, no_exprs, expr_then}

@@ -1,5 +1,6 @@
 -- Words are only ever drawn, and a fault is handed on.
-use Rattle.std.proofs.Common.{ℕ, suc, ◌+◌, ◌-◌, ◌^◌, ◌≤◌, arith, Bool, true, false, List, [], ◌∷◌, ◌++◌, Option, Some, None, Result, Ok, Err, refl, le_refl, le_trans}
+use Rattle.std.proofs.Common.{ℕ, suc, ◌+◌, ◌-◌, ◌^◌, ◌≤◌, arith, Bool, true, false, List, [], ◌∷◌, ◌++◌, Option, Some, None, Result, Ok}
+use Rattle.std.proofs.Common.{Err, refl, le_refl, le_trans}
 use Rattle.wf_val.specs.ValueTree.{ValueTree, boolean}
 use Rattle.std.specs.Prelude.{nat_lt, if◌then◌else◌}
 use Rattle.wf_val.specs.Arguments.{Answer, given}

@@ -17,7 +17,8 @@ use Rattle.wf_look.specs.Told.{Told, raised}
 use Rattle.wf_eval.specs.Ways.{way_of}
 use Rattle.wf_look.specs.Outcomes.{Run, then_run, turned, all_after, strictly}
 use Rattle.wf_look.specs.Accesses.{member_row, index_row}
-use Rattle.wf_look.specs.Looked.{or_no_value, over_view, part_in, as_number, outputs_in, body_in, workflow_value, named_row, named_by, told_row}
+use Rattle.wf_look.specs.Looked.{or_no_value, over_view, part_in, as_number, outputs_in, body_in, workflow_value, named_row, named_by}
+use Rattle.wf_look.specs.Looked.{told_row}
 use Rattle.wf_functions.specs.Rows.{fitted}
 use Rattle.wf_look.specs.Args.{literal_name}
 use Rattle.wf_look.specs.Drawn.{drawn}
@@ -25,7 +26,8 @@ use Rattle.wf_eval.specs.Value.{early, drawn_run, called, called_by, value, runs
 use Rattle.wf_eval.specs.TemplateValue.{piece_value, piece_runs, joined, text_answer, template_value}
 use Rattle.wf_eval.specs.TreeValue.{members_after, list_answer, object_answer, tree_value, tree_runs, member_runs}
 use Rattle.wf_eval.specs.Truth.{negated, compared, truth, truth_of, truths_of}
-use Rattle.wf_eval.specs.Uses.{Use, names, asks, asks_words, named_use, used_by, used_by_name, uses, all_uses, piece_use, piece_uses, template_uses, tree_uses, trees_uses, members_uses, cond_uses, conds_uses, Agree, AgreeAt}
+use Rattle.wf_eval.specs.Uses.{Use, names, asks, asks_words, named_use, used_by, used_by_name, uses, all_uses, piece_use, piece_uses}
+use Rattle.wf_eval.specs.Uses.{template_uses, tree_uses, trees_uses, members_uses, cond_uses, conds_uses, Agree, AgreeAt}
 
 pub agree-front : (l m : Told) (us vs : List Use) → AgreeAt l m (us ++ vs) → AgreeAt l m us
 agree-front l m [] vs a = tt

@@ -1,5 +1,6 @@
 -- What the loops over arguments need, over plain lists.
-use Rattle.std.proofs.Common.{◌≡◌, ℕ, zero, suc, ◌+◌, ◌<◌, ◌≤◌, List, [], ◌∷◌, Some, None, Result, Ok, Err, map, length, drop, get_or, refl, sym, ◌∙◌, ap, subst, arith, le_refl, add-one}
+use Rattle.std.proofs.Common.{◌≡◌, ℕ, zero, suc, ◌+◌, ◌<◌, ◌≤◌, List, [], ◌∷◌, Some, None, Result, Ok, Err, map, length, drop, get_or, refl}
+use Rattle.std.proofs.Common.{sym, ◌∙◌, ap, subst, arith, le_refl, add-one}
 use Rattle.std.proofs.lemmas.List.{drop_all}
 use Rattle.wf_val.specs.Arguments.{Answer, wrong_type}
 use Rattle.wf_val.specs.ValueTree.{ValueTree}

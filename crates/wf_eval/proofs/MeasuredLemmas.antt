@@ -1,5 +1,6 @@
 -- A text that is measured as it is put together is the text, where it fits.
-use Rattle.std.proofs.Common.{◌≡◌, ℕ, suc, ◌+◌, ◌<◌, ◌≤◌, ◌^◌, List, [], ◌∷◌, ◌++◌, Result, Ok, Err, map, length, drop, get_or, refl, sym, ◌∙◌, ap, subst, arith, le_refl, ◌⊎◌, inl, inr}
+use Rattle.std.proofs.Common.{◌≡◌, ℕ, suc, ◌+◌, ◌<◌, ◌≤◌, ◌^◌, List, [], ◌∷◌, ◌++◌, Result, Ok, Err, map, length, drop, get_or, refl, sym}
+use Rattle.std.proofs.Common.{◌∙◌, ap, subst, arith, le_refl, ◌⊎◌, inl, inr}
 use Rattle.std.proofs.lemmas.Bool.{lt-ltb, le-leb, le-ltb, lt-leb, cases_lt}
 use Rattle.std.proofs.lemmas.List.{length-append, drop_all}
 use Rattle.wf_val.specs.Arguments.{Answer}

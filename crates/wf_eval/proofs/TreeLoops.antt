@@ -1,5 +1,6 @@
 -- What the loops over items and members need.
-use Rattle.std.proofs.Common.{◌≡◌, ℕ, zero, suc, ◌<◌, ◌≤◌, List, [], ◌∷◌, ◌++◌, Result, map, length, drop, get_or, sym, subst, arith, le_refl}
+use Rattle.std.proofs.Common.{◌≡◌, ℕ, zero, suc, ◌<◌, ◌≤◌, List, [], ◌∷◌, ◌++◌, Result, map, length, drop, get_or, sym, subst, arith}
+use Rattle.std.proofs.Common.{le_refl}
 use Rattle.wf_val.specs.Get.{name_of}
 use Rattle.wf_val.specs.NameOrder.{put_named}
 use Rattle.wf_val.specs.ValueTree.{ValueTree, Member}

@@ -11,7 +11,8 @@ use Rattle.wf_template.specs.DataTree as inputs
 use Rattle.wf_template.specs.CondTree.{holds, all_of, any_of, not_of, compare_by, cond_trees}
 use Rattle.wf_eval.specs.TemplateValue.{template_value}
 use Rattle.wf_look.proofs.WorkedLook.{nested, somewhere}
-use Rattle.wf_eval.proofs.WorkedExpressions.{int, word, truth, untruth, nothing, two_items, five, that, items_of, members_of, by_zero, rest_by_zero, here, tree_here, truth_here}
+use Rattle.wf_eval.proofs.WorkedExpressions.{int, word, truth, untruth, nothing, two_items, five, that, items_of, members_of, by_zero}
+use Rattle.wf_eval.proofs.WorkedExpressions.{rest_by_zero, here, tree_here, truth_here}
 
 -- ---- accesses: hard and by `?`, by names and by places, from left to right
 

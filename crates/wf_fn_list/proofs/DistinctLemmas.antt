@@ -1,5 +1,6 @@
 -- The first of the items that are equal, as a stable sort leaves them in front, and back at their places.
-use Rattle.std.proofs.Common.{◌≡◌, ℕ, suc, ◌+◌, ◌<◌, ◌≤◌, List, [], ◌∷◌, length, map, get_or, refl, sym, ◌∙◌, ap, arith, cond, Bool, true, false, ◌||◌, not, ◌&&◌, subst, true≢false}
+use Rattle.std.proofs.Common.{◌≡◌, ℕ, suc, ◌+◌, ◌<◌, ◌≤◌, List, [], ◌∷◌, length, map, get_or, refl, sym, ◌∙◌, ap, arith, cond, Bool, true}
+use Rattle.std.proofs.Common.{false, ◌||◌, not, ◌&&◌, subst, true≢false}
 use Rattle.std.proofs.lemmas.Bool.Decides.{nat_tests}
 use Rattle.std.proofs.lemmas.Cmp.{on_total, nat_cmp_total, tied_itself}
 use Rattle.std.proofs.lemmas.List.Elements.{All-from_recursion, recursion_from_All}

@@ -1,5 +1,6 @@
 -- What lists taken together have, and how often, and in which order.
-use Rattle.std.proofs.Common.{◌≡◌, ℕ, zero, suc, ◌<◌, List, [], ◌∷◌, ◌++◌, length, refl, sym, ◌∙◌, ap, arith, cond, Bool, true, false, ◌||◌, ◌&&◌, get_or, ◌↔◌}
+use Rattle.std.proofs.Common.{◌≡◌, ℕ, zero, suc, ◌<◌, List, [], ◌∷◌, ◌++◌, length, refl, sym, ◌∙◌, ap, arith, cond, Bool, true, false, ◌||◌}
+use Rattle.std.proofs.Common.{◌&&◌, get_or, ◌↔◌}
 use Rattle.std.proofs.lemmas.List.Elements.{Contains-append_right}
 use Rattle.std.specs.List.{AllByRecursion, Contains, IsDistinct, filter, flat_map, list_all, list_any}
 use Rattle.std.specs.Ordering.{is_eq, ordering_reverse}

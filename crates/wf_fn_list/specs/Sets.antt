@@ -1,5 +1,6 @@
 -- Lists and objects taken together (Workflow Definition Language, collection functions union and intersection).
-use Rattle.std.specs.Prelude.{ℕ, suc, Bool, List, [], ◌∷◌, ◌-◌, length, Option, Some, Result, Ok, Err, is_some, slice_get, unwrap_or, if◌then◌else◌}
+use Rattle.std.specs.Prelude.{ℕ, suc, Bool, List, [], ◌∷◌, ◌-◌, length, Option, Some, Result, Ok, Err, is_some, slice_get, unwrap_or}
+use Rattle.std.specs.Prelude.{if◌then◌else◌}
 use Rattle.std.specs.List.{list_all, filter, fold, flat_map}
 use Rattle.wf_val.specs.Arguments.{Answer, given, list_of, object_of, wrong_type, bounded}
 use Rattle.wf_val.specs.Get.{name_of, value_of}

@@ -8,7 +8,8 @@ use Rattle.wf_template.proofs.ChainLemmas.{key_count, base_le_built}
 use Rattle.wf_look.specs.Args.{args_tree}
 use Rattle.wf_eval.specs.Value.{runs}
 use Rattle.wf_eval.proofs.Grow.{value-grows, handed_draw}
-use Rattle.wf_eval.proofs.Chains.{fault_of_start, fault_of_access, start_value, access_value, through, keys_count, keys_count-snoc, keys_le_built}
+use Rattle.wf_eval.proofs.Chains.{fault_of_start, fault_of_access, start_value, access_value, through, keys_count, keys_count-snoc}
+use Rattle.wf_eval.proofs.Chains.{keys_le_built}
 use Rattle.wf_eval.proofs.JoinedLemmas.{fault_texts, memory_texts, texts_end, some-argument}
 use Rattle.wf_eval.proofs.Loops.{count-item, fault_all, memory_all, early_stops, early_goes_on, early_ends, fault_if, if-few}
 use Rattle.wf_eval.proofs.Meeting.{of_memory, of_fault}
