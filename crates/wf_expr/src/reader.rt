@@ -7,10 +7,12 @@ ghost use Rattle.wf_expr.specs.Reading.{whole_of};
 ghost use Rattle.wf_expr.specs.StackSeen.{stack_seen};
 ghost use Rattle.wf_expr.specs.WordTests.{word_of};
 
+use crate::character::Character;
 use crate::draft::Draft;
 use crate::fault::{ParseFault, cut};
 use crate::front::Front;
 use crate::in_place::take_in_place;
+use crate::kind::kind_of;
 use crate::mode::Mode;
 use crate::stack::Stack;
 use crate::step::next;
@@ -99,10 +101,15 @@ pub(crate) fn read_text(alloc: Global, text: &[char]) -> Result<Read, ParseFault
     let mut mode = Mode::Start;
     let mut stack = Stack::whole(alloc);
     for (at, c) in text.iter().enumerate() {
-        if take_in_place(&mut mode, *c)? {
+        let character = Character {
+            value: *c,
+            kind: kind_of(*c),
+            at: at as u64,
+        };
+        if take_in_place(&mut mode, &stack, character)? {
             continue;
         }
-        match next(alloc, mode, &mut stack, *c, at as u64)? {
+        match next(alloc, mode, &mut stack, character)? {
             Some(then) => {
                 mode = then;
             }

@@ -1,6 +1,6 @@
 //! What reading the next character does: where the reader stands then.
 ghost use Rattle.std.specs.Prelude.{◌≡◌, IfOk};
-ghost use Rattle.wf_expr.specs.Machine.{step};
+ghost use Rattle.wf_expr.specs.Machine.{step_at};
 ghost use Rattle.wf_expr.specs.ModeSeen.{mode_seen, state_seen};
 ghost use Rattle.wf_expr.specs.StackSeen.{stack_seen};
 
@@ -10,25 +10,20 @@ use crate::expression_step::{
     in_function_name, in_member_name, in_number, in_quotes,
 };
 use crate::follow::after_base;
-use crate::kind::kind_of;
 use crate::mode::Mode;
 use crate::stack::Stack;
 use crate::text_step::{after_at, after_sign, after_two, at_text_start, in_text};
 use std::alloc::{AllocError, Global};
 
-/// Where the reader stands after the character `c`, which `at` characters stand before; `None` where no text that can
-/// be read goes on so.
+/// Where the reader stands after the character; `None` where no text that can be read goes on so.
 pub(crate) fn next(
     alloc: Global,
     mode: Mode,
     stack: &mut Stack,
-    c: char,
-    at: u64,
+    next: Character,
 ) -> Result<Option<Mode>, AllocError>
-    ensures { IfOk result (λ m. state_seen m stack.new ≡ step (mode_seen mode, stack_seen stack.old) c at) }
+    ensures { IfOk result (λ m. state_seen m stack.new ≡ step_at (mode_seen mode) (stack_seen stack.old) next.value next.kind next.at) }
 {
-    let kind = kind_of(c);
-    let next = Character { value: c, kind, at };
     match mode {
         Mode::Start => at_text_start(alloc, stack, next),
         Mode::Sign { sign } => after_sign(alloc, sign, stack, next),
@@ -48,7 +43,7 @@ pub(crate) fn next(
         Mode::Name { name } => in_function_name(alloc, name, stack, next),
         Mode::Named { name } => after_function_name(alloc, name, stack, next),
         Mode::After { base } => after_base(alloc, base, stack, next),
-        Mode::Soft { base } => after_soft(base, stack, kind),
+        Mode::Soft { base } => after_soft(base, stack, next.kind),
         Mode::Dot { base, soft } => after_dot(alloc, base, soft, stack, next),
         Mode::Member { base, soft, name } => in_member_name(alloc, base, soft, name, stack, next),
     }
