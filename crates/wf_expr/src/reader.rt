@@ -87,7 +87,7 @@ fn end(alloc: Global, mode: Mode, stack: &Stack) -> Result<Option<Read>, AllocEr
 pub(crate) fn characters_of(alloc: Global, text: &str) -> Result<Vec<char>, AllocError>
     ensures { IfOk result (λ v. v.items ≡ chars text.now) }
 {
-    let mut characters = Vec::new(alloc);
+    let mut characters = Vec::with_capacity(alloc, text.len())?;
     for c in text.chars() {
         characters.push(c)?;
     }
