@@ -102,8 +102,5 @@ fn take_in_member(name: &mut String, next: Character) -> Result<bool, AllocError
 fn is_blank(next: Character) -> bool
     ensures { IsTakenAsBlank result next }
 {
-    match next.kind {
-        Kind::Blank => true,
-        _ => false,
-    }
+    matches!(next.kind, Kind::Blank)
 }
