@@ -10,12 +10,13 @@ use Rattle.wf_look.specs.Told.{Told}
 use Rattle.wf_look.specs.Meets.{MeetsFault}
 use Rattle.wf_look.specs.Outcomes.{Outcome, turned}
 use Rattle.wf_look.specs.Early.{stop}
-use Rattle.wf_eval.specs.Value.{early, or_go_on}
+use Rattle.wf_eval_expr.specs.Value.{early, or_go_on}
 use Rattle.wf_eval.specs.TreeValue.{tree_value}
 use Rattle.wf_eval.specs.Truth.{compared, truth_of, truths_of, cond_count, conds_count}
-use Rattle.wf_eval.proofs.Grow.{AreGrowing, then_run-grows, handed, or_go_on-grows, early-grows}
-use Rattle.wf_eval.proofs.Loops.{drop-item}
-use Rattle.wf_eval.proofs.TreeLoops.{template-grows, tree-grows}
+use Rattle.wf_eval_expr.proofs.Grow.{AreGrowing, then_run-grows, handed, or_go_on-grows, early-grows}
+use Rattle.wf_eval_expr.proofs.Loops.{drop-item}
+use Rattle.wf_eval.proofs.PieceLoops.{template-grows}
+use Rattle.wf_eval.proofs.TreeLoops.{tree-grows}
 
 mutual
   pub truth-grows : (l : Told) (c : CondTree) (n : ℕ) → n ≤ (truth_of l c n).1

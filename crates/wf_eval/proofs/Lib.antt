@@ -1,15 +1,6 @@
-mod Meeting
-mod Grow
-mod Loops
-mod Chains
-mod MeasuredLemmas
-mod JoinedLemmas
+mod PieceLoops
 mod TreeLoops
 mod CondLoops
 mod Fitting
 mod Local
-mod MomentsAndWords
-mod WorkedExpressions
-mod WorkedFunctions
-mod WorkedCalls
 mod Worked

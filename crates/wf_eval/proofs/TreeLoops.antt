@@ -5,37 +5,17 @@ use Rattle.wf_val.specs.Get.{name_of}
 use Rattle.wf_val.specs.NameOrder.{put_named}
 use Rattle.wf_val.specs.ValueTree.{ValueTree, Member}
 use Rattle.wf_val.specs.declared.fault.EvalFault.{EvalFault}
-use Rattle.wf_template.specs.TemplateTree.{PieceTree, letters, part, TemplateTree, plain, whole, parts}
 use Rattle.wf_template.specs.DataTree as inputs
 use Rattle.wf_template.specs.DataSeen.{data_tree, data_member}
 use Rattle.wf_template.specs.declared.tree.Tree.{Tree}
-use Rattle.wf_json.specs.Json as json_text
 use Rattle.wf_look.specs.Told.{Told}
 use Rattle.wf_look.specs.Meets.{MeetsFault}
 use Rattle.wf_look.specs.Outcomes.{Run, all_after}
-use Rattle.wf_eval.specs.TemplateValue.{piece_value, piece_runs, joined, template_value}
+use Rattle.wf_eval_expr.proofs.Grow.{IsGrowing, AreGrowing, then_run-grows, all_after-grows, handed}
+use Rattle.wf_eval_expr.proofs.Meeting.{of_memory}
+use Rattle.wf_eval_expr.proofs.Loops.{drop-item}
 use Rattle.wf_eval.specs.TreeValue.{members_after, tree_value, tree_runs, member_runs}
-use Rattle.wf_eval.proofs.Grow.{IsGrowing, AreGrowing, then_run-grows, all_after-grows, value-grows, handed}
-use Rattle.wf_eval.proofs.Meeting.{of_memory}
-use Rattle.wf_eval.proofs.Loops.{drop-item}
-
-piece-grows : (l : Told) (p : PieceTree) → IsGrowing (piece_value l p)
-piece-grows l (letters s) n = le_refl n
-piece-grows l (part e) n = value-grows l e n
-
-pub pieces-grow : (l : Told) (ps : List PieceTree) → AreGrowing (piece_runs l ps)
-pieces-grow l [] = tt
-pieces-grow l (p ∷ ps) = (piece-grows l p, pieces-grow l ps)
-
-joined-grows : (rs : List Run) → AreGrowing rs → (done : List ℕ) (n : ℕ) → n ≤ (joined rs done n).1
-joined-grows [] grow done n = le_refl n
-joined-grows (r ∷ rs) grow done n = then_run-grows n (r n) (λ t m. joined rs (done ++ json_text.text t) m) (grow.0 n)
-    (λ t m. joined-grows rs grow.1 (done ++ json_text.text t) m)
-
-pub template-grows : (l : Told) (t : TemplateTree) → IsGrowing (template_value l t)
-template-grows l (plain s) n = le_refl n
-template-grows l (whole e) n = value-grows l e n
-template-grows l (parts ps) n = joined-grows (piece_runs l ps) (pieces-grow l ps) [] n
+use Rattle.wf_eval.proofs.PieceLoops.{template-grows}
 
 -- members, with their names
 abbrev AreGrowingMembers : List (List ℕ × Run) → Type 0

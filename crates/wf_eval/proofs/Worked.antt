@@ -1,54 +1,36 @@
--- Values of accesses, literals, templates, trees and conditions, where a reader can work them out: each fault with its function and place,
--- and each edge.
-use Rattle.std.proofs.Common.{◌≡◌, refl, [], ◌∷◌, Ok, Err, true, false}
-use Rattle.std.specs.Prelude.{pos, negsuc, codes}
-use Rattle.wf_val.specs.ValueTree.{null, boolean, number, text, object, members}
+-- Values of templates, trees and conditions, where a reader can work them out: each fault with its function and place, and each edge.
+use Rattle.std.proofs.Common.{◌≡◌, refl, List, [], ◌∷◌, Ok, Err, true, false}
+use Rattle.std.specs.Prelude.{pos, codes}
+use Rattle.wf_val.specs.ValueTree.{null, boolean, text, object, members}
 use Rattle.wf_val.specs.declared.fault.EvalFault.{EvalFault}
 use Rattle.wf_val.specs.declared.function.Fun.{Fun}
-use Rattle.wf_template.specs.ExprTree.{literal, member, index}
+use Rattle.wf_template.specs.ExprTree.{ExprTree, literal}
 use Rattle.wf_template.specs.TemplateTree.{letters, part, plain, whole, parts}
 use Rattle.wf_template.specs.DataTree as inputs
-use Rattle.wf_template.specs.CondTree.{holds, all_of, any_of, not_of, compare_by, cond_trees}
-use Rattle.wf_eval.specs.TemplateValue.{template_value}
+use Rattle.wf_template.specs.CondTree.{CondTree, holds, all_of, any_of, not_of, compare_by, cond_trees}
+use Rattle.wf_look.specs.Outcomes.{Outcome}
 use Rattle.wf_look.proofs.WorkedLook.{nested, somewhere}
-use Rattle.wf_eval.proofs.WorkedExpressions.{int, word, truth, untruth, nothing, two_items, five, that, items_of, members_of, by_zero}
-use Rattle.wf_eval.proofs.WorkedExpressions.{rest_by_zero, here, tree_here, truth_here}
+use Rattle.wf_eval_expr.proofs.WorkedExpressions.{word, truth, untruth, nothing, by_zero, rest_by_zero}
+use Rattle.wf_eval.specs.TemplateValue.{template_value}
+use Rattle.wf_eval.specs.TreeValue.{tree_value}
+use Rattle.wf_eval.specs.Truth.{truth_of}
 
--- ---- accesses: hard and by `?`, by names and by places, from left to right
+abbrev that : ExprTree → inputs.DataTree
+that e = inputs.text (whole e)
 
-member-there : here (member five (codes "a") false) ≡ (Ok (number (pos 5)), 7)
-member-there = refl
+abbrev items_of : List inputs.DataTree → inputs.DataTree
+items_of ts = inputs.list (inputs.data_trees ts)
 
-member-absent_soft : here (member five (codes "A") true) ≡ (Ok null, 7)
-member-absent_soft = refl
+abbrev members_of : List inputs.DataMember → inputs.DataTree
+members_of ms = inputs.object (inputs.data_members ms)
 
-member-of_fault : here (member by_zero (codes "x") true) ≡ (Err (EvalFault.Range Fun.Div), 7)
-member-of_fault = refl
+abbrev tree_here : inputs.DataTree → Outcome
+tree_here t = tree_value somewhere t 7
 
-index-name : here (index five (word (codes "a")) false) ≡ (Ok (number (pos 5)), 7)
-index-name = refl
+abbrev truth_here : CondTree → Outcome
+truth_here c = truth_of somewhere c 7
 
-index-below_soft : here (index two_items (literal (number (negsuc 0))) true) ≡ (Ok null, 7)
-index-below_soft = refl
-
-index-of_text_soft : here (index (word (codes "abc")) (int 0) true) ≡ (Ok null, 7)
-index-of_text_soft = refl
-
-index-base_first : here (index by_zero (rest_by_zero) true) ≡ (Err (EvalFault.Range Fun.Div), 7)
-index-base_first = refl
-
-index-key_next : here (index nothing (rest_by_zero) true) ≡ (Err (EvalFault.Range Fun.Mod), 7)
-index-key_next = refl
-
--- ---- a literal has to fit
-
-literal-deep : here (literal (nested 64)) ≡ (Ok (nested 64), 7)
-literal-deep = refl
-
-literal-too_deep : here (literal (nested 65)) ≡ (Err (EvalFault.TooBig 65 66), 7)
-literal-too_deep = refl
-
--- ---- templates, trees and conditions
+-- ---- templates
 
 plain-text : template_value somewhere (plain (codes "@")) 7 ≡ (Ok (text (codes "@")), 7)
 plain-text = refl
@@ -68,6 +50,8 @@ parts-leftmost :
     template_value somewhere (parts (part rest_by_zero ∷ part by_zero ∷ [])) 7
     ≡ (Err (EvalFault.Range Fun.Mod), 7)
 parts-leftmost = refl
+
+-- ---- trees
 
 tree-object :
     tree_here (members_of ((codes "a", inputs.null) ∷ (codes "b", that truth) ∷ []))
@@ -91,6 +75,8 @@ tree-fault_before_size :
     tree_here (items_of (that (literal (nested 64)) ∷ that by_zero ∷ []))
     ≡ (Err (EvalFault.Range Fun.Div), 7)
 tree-fault_before_size = refl
+
+-- ---- conditions
 
 holds-truth : truth_here (holds (whole truth)) ≡ (Ok (boolean true), 7)
 holds-truth = refl

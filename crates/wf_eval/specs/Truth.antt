@@ -9,7 +9,7 @@ use Rattle.wf_functions.specs.Rows.{strict_row}
 use Rattle.wf_eval.specs.TemplateValue.{template_value}
 use Rattle.wf_look.specs.Told.{Told}
 use Rattle.wf_eval.specs.TreeValue.{tree_value}
-use Rattle.wf_eval.specs.Value.{early}
+use Rattle.wf_eval_expr.specs.Value.{early}
 
 -- a condition's own value has to be a truth value
 abbrev pub truth : ValueTree → Answer

@@ -8,7 +8,7 @@ ghost use Rattle.wf_template.specs.DataSeen.{data_tree};
 ghost use Rattle.wf_look.specs.Meets.{Meets, truth_seen};
 ghost use Rattle.wf_functions.specs.Rows.{strict_row as row_in};
 ghost use Rattle.wf_eval.specs.Truth.{compared, truth, truth_of, truths_of};
-ghost use Rattle.wf_eval.specs.Value.{early};
+ghost use Rattle.wf_eval_expr.specs.Value.{early};
 
 use crate::template::eval;
 use crate::tree::eval_tree;
@@ -76,7 +76,7 @@ fn any_holds<L: Look>(alloc: Global, conditions: &[Cond], look: &mut L) -> Resul
 }
 
 // A comparison of two values, the left one first.
-#[tactic(auto, using(crate::proofs::Meeting::meets))]
+#[tactic(auto, using(wf_eval_expr::proofs::Meeting::meets))]
 fn compare<L: Look>(
     alloc: Global,
     function: Fun,

@@ -4,10 +4,11 @@ ghost use Rattle.wf_val.specs.Arguments.{seen};
 ghost use Rattle.wf_template.specs.TemplateSeen.{piece_tree, template_tree};
 ghost use Rattle.wf_look.specs.Meets.{Meets};
 ghost use Rattle.wf_look.specs.Outcomes.{turned};
-ghost use Rattle.wf_eval.specs.TemplateValue.{piece_value, piece_runs, joined, text_answer, template_value};
+ghost use Rattle.wf_eval_expr.specs.Joined.{joined, text_answer};
+ghost use Rattle.wf_eval.specs.TemplateValue.{piece_value, piece_runs, template_value};
 
-use crate::expression::eval_expr;
 use std::alloc::Global;
+use wf_eval_expr::eval_expr;
 use wf_look::{Look, Measured, as_text};
 use wf_template::{Piece, Template};
 use wf_val::{EvalFault, Val, bounded};

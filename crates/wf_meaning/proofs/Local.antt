@@ -8,7 +8,8 @@ use Rattle.wf_layers.specs.Address.{Table, address, SeenIn}
 use Rattle.wf_layers.specs.Source.{Sound, Agrees}
 use Rattle.wf_layers.specs.Laws.{IsInstance}
 use Rattle.wf_layers.proofs.Basics.{two, same_self, and_in}
-use Rattle.wf_eval.specs.Uses.{Use, names, asks, asks_moment, asks_words, tree_uses, Agree, AgreeAt}
+use Rattle.wf_eval_expr.specs.Uses.{Use, names, asks, asks_moment, asks_words, Agree, AgreeAt}
+use Rattle.wf_eval.specs.Uses.{tree_uses}
 use Rattle.wf_look.specs.Told.{Told}
 use Rattle.wf_eval.specs.TreeValue.{tree_value}
 use Rattle.wf_template.specs.DataTree.{DataTree}

@@ -8,7 +8,8 @@ use Rattle.std.proofs.lemmas.Bool.{eq-eqb}
 use Rattle.wf_val.specs.NameOrder.{bytes_cmp}
 use Rattle.wf_val.specs.declared.function.Fun.{Fun}
 use Rattle.wf_layers.specs.Definition.{Graph, IsBefore, Names, Need, needs_of, next, more}
-use Rattle.wf_eval.specs.Uses.{Use, names, tree_uses}
+use Rattle.wf_eval_expr.specs.Uses.{Use, names}
+use Rattle.wf_eval.specs.Uses.{tree_uses}
 use Rattle.wf_def.specs.ActionTree.{ActionTree, action, action_kind, action_number}
 use Rattle.wf_paths.proofs.PathLemmas.{or_left, or_right, or_split}
 use Rattle.wf_meaning.specs.Definition as meaning

@@ -6,7 +6,8 @@ use Rattle.std.specs.Prelude.{◌||◌, ◌&&◌, ◌↔◌, if◌then◌else◌
 use Rattle.std.specs.List.{AllByRecursion, find, list_any}
 use Rattle.std.proofs.lemmas.Bool.{eq-eqb}
 use Rattle.wf_layers.specs.Definition.{IsBefore, has}
-use Rattle.wf_eval.specs.Uses.{Use, tree_uses}
+use Rattle.wf_eval_expr.specs.Uses.{Use}
+use Rattle.wf_eval.specs.Uses.{tree_uses}
 use Rattle.wf_def.specs.ActionTree.{ActionTree, action, action_kind, action_name, action_number, KindTree, ActionTrees, no_actions}
 use Rattle.wf_def.specs.ActionTree.{action_then, actions_in}
 use Rattle.wf_def.specs.DefTree.{DefTree}

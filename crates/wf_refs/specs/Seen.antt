@@ -3,7 +3,7 @@ use Rattle.std.specs.Prelude.{ℕ, Bool, true, false, List, [], Option, Some, No
 use Rattle.std.specs.Option.{option_and_then}
 use Rattle.wf_template.specs.ExprSeen.{expr_tree}
 use Rattle.wf_template.specs.declared.chain.Access.{Access}
-use Rattle.wf_eval.specs.Uses.{Use, uses}
+use Rattle.wf_eval_expr.specs.Uses.{Use, uses}
 use Rattle.wf_uses.specs.Seen.{uses_seen}
 use Rattle.wf_uses.specs.UsesTree.{UsesTree}
 use Rattle.wf_refs.specs.Sites.{ActionUsesTree}

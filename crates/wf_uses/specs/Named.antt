@@ -1,7 +1,7 @@
 -- What a use names, and what else it asks for (Workflow Definition Language, reference of the functions in expressions).
 use Rattle.std.specs.Prelude.{ℕ, Bool, true, false, cond, List, [], ◌∷◌, ◌++◌}
 use Rattle.wf_val.specs.declared.function.Fun.{Fun}
-use Rattle.wf_eval.specs.Uses.{Use, names, asks, asks_moment, asks_words}
+use Rattle.wf_eval_expr.specs.Uses.{Use, names, asks, asks_moment, asks_words}
 use Rattle.wf_uses.specs.declared.named.Named.{Named}
 use Rattle.wf_uses.specs.declared.named.Asked.{Asked}
 

@@ -1,6 +1,6 @@
 -- What is found and what is kept of it, as contracts see them.
 use Rattle.std.specs.Prelude.{List, map}
-use Rattle.wf_eval.specs.Uses.{Use, names, asks, asks_moment, asks_words}
+use Rattle.wf_eval_expr.specs.Uses.{Use, names, asks, asks_moment, asks_words}
 use Rattle.wf_uses.specs.UsesTree.{UsesTree}
 use Rattle.wf_uses.specs.declared.found.Found.{Found}
 use Rattle.wf_uses.specs.declared.uses.Uses.{Uses}

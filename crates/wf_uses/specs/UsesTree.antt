@@ -3,7 +3,7 @@ use Rattle.std.specs.Prelude.{ℕ, Bool, List, [], ◌∷◌}
 use Rattle.std.specs.BTreeSet.{insert_key}
 use Rattle.std.specs.List.{list_any}
 use Rattle.wf_val.specs.NameOrder.{bytes_cmp}
-use Rattle.wf_eval.specs.Uses.{Use}
+use Rattle.wf_eval_expr.specs.Uses.{Use}
 use Rattle.wf_uses.specs.Named.{asks_for, names_by}
 use Rattle.wf_uses.specs.declared.named.Named.{Named}
 use Rattle.wf_uses.specs.declared.named.Asked.{Asked}

@@ -2,7 +2,7 @@ use Rattle.std.proofs.Common.{◌≡◌, ◌+◌, ◌*◌, map, drop}
 use Rattle.wf_val.specs.declared.function.Fun.{Fun}
 use Rattle.wf_template.specs.CondTree.{cond_trees}
 use Rattle.wf_template.specs.CondSeen.{cond_tree}
-use Rattle.wf_eval.specs.Value.{early}
+use Rattle.wf_eval_expr.specs.Value.{early}
 use Rattle.wf_eval.specs.Truth.{truths_of, cond_count, conds_count}
 use Rattle.wf_eval.proofs.cond.+eval_cond.Given as goal
 

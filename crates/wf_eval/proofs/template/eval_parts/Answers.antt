@@ -5,7 +5,7 @@ use Rattle.wf_template.specs.declared.template.Piece.{Piece}
 use Rattle.wf_look.specs.Outcomes.{Run}
 use Rattle.wf_eval.specs.TemplateValue.{piece_runs}
 use Rattle.wf_look.specs.Told.{Told}
-use Rattle.wf_eval.proofs.MeasuredLemmas.{fault_pieces, memory_pieces, measured_ends, parts_fault, parts_answer}
+use Rattle.wf_eval.proofs.PieceLoops.{fault_pieces, memory_pieces, measured_ends, parts_fault, parts_answer}
 use Rattle.wf_eval.proofs.template.eval_parts.Goals as goal
 
 abbrev runs_of : Told → List Piece → List Run

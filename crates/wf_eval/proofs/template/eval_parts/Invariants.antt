@@ -1,6 +1,6 @@
 use Rattle.std.proofs.Common.{◌≡◌, map, drop, []}
 use Rattle.wf_template.specs.TemplateSeen.{piece_tree}
-use Rattle.wf_eval.specs.MeasuredRuns.{measured}
+use Rattle.wf_eval_expr.specs.MeasuredRuns.{measured}
 use Rattle.wf_eval.specs.TemplateValue.{piece_runs}
 use Rattle.wf_eval.proofs.template.eval_parts.Given as goal
 

@@ -9,16 +9,16 @@ use Rattle.wf_val.specs.declared.function.Fun.{Fun}
 use Rattle.wf_val.specs.declared.fault.EvalFault.{EvalFault}
 use Rattle.wf_template.specs.ExprTree.{ExprTree, ExprTrees, literal, call, member, index, no_exprs, expr_then}
 use Rattle.wf_functions.specs.declared.draw.Draw.{Draw}
-use Rattle.wf_eval.specs.declared.way.Way.{Way}
+use Rattle.wf_eval_expr.specs.declared.way.Way.{Way}
 use Rattle.wf_functions.specs.Draws.{draw_of}
 use Rattle.wf_look.specs.Told.{Told, raised}
-use Rattle.wf_eval.specs.Ways.{way_of}
+use Rattle.wf_eval_expr.specs.Ways.{way_of}
 use Rattle.wf_look.specs.Accesses.{index_row}
 use Rattle.wf_look.specs.Meets.{MeetsFault}
 use Rattle.wf_look.specs.Outcomes.{Outcome, Run, go_on, then_run, turned, all_after}
 use Rattle.wf_look.specs.Early.{stop}
 use Rattle.wf_look.specs.Drawn.{drawn}
-use Rattle.wf_eval.specs.Value.{chosen, if_run, or_go_on, early, drawn_run, called, called_by, value, runs}
+use Rattle.wf_eval_expr.specs.Value.{chosen, if_run, or_go_on, early, drawn_run, called, called_by, value, runs}
 
 abbrev pub IsGrowing : Run → Type 0
 IsGrowing r = (n : ℕ) → n ≤ (r n).1

@@ -5,12 +5,12 @@ use Rattle.wf_template.specs.ExprSeen.{expr_tree}
 use Rattle.wf_template.specs.ChainSeen.{start_tree}
 use Rattle.wf_template.proofs.ChainLemmas.{key_count}
 use Rattle.wf_look.specs.Args.{args_tree}
-use Rattle.wf_eval.specs.Seen.{chained}
-use Rattle.wf_eval.specs.MeasuredRuns.{measured}
+use Rattle.wf_eval_expr.specs.Seen.{chained}
+use Rattle.wf_eval_expr.specs.MeasuredRuns.{measured}
 use Rattle.wf_look.specs.Outcomes.{all_after}
-use Rattle.wf_eval.specs.Value.{value, runs, early}
-use Rattle.wf_eval.proofs.Chains.{keys_count}
-use Rattle.wf_eval.proofs.expression.+eval.Given as goal
+use Rattle.wf_eval_expr.specs.Value.{value, runs, early}
+use Rattle.wf_eval_expr.proofs.Chains.{keys_count}
+use Rattle.wf_eval_expr.proofs.expression.+eval.Given as goal
 
 -- what the accesses that are left make of the value so far is the whole
 abbrev pub invariant-eval_expr-loop-access : goal.invariant-eval_expr-loop-access

@@ -1,25 +1,20 @@
 -- A text that is measured as it is put together is the text, where it fits.
-use Rattle.std.proofs.Common.{◌≡◌, ℕ, suc, ◌+◌, ◌<◌, ◌≤◌, ◌^◌, List, [], ◌∷◌, ◌++◌, Result, Ok, Err, map, length, drop, get_or, refl, sym}
-use Rattle.std.proofs.Common.{◌∙◌, ap, subst, arith, le_refl, ◌⊎◌, inl, inr}
+use Rattle.std.proofs.Common.{◌≡◌, ℕ, suc, ◌+◌, ◌<◌, ◌≤◌, ◌^◌, List, [], ◌∷◌, ◌++◌, Ok, Err, length, refl, sym, ◌∙◌, ap, subst}
+use Rattle.std.proofs.Common.{arith, le_refl, ◌⊎◌, inl, inr}
 use Rattle.std.proofs.lemmas.Bool.{lt-ltb, le-leb, le-ltb, lt-leb, cases_lt}
-use Rattle.std.proofs.lemmas.List.{length-append, drop_all}
+use Rattle.std.proofs.lemmas.List.{length-append}
 use Rattle.wf_val.specs.Arguments.{Answer}
 use Rattle.wf_val.specs.Cut.{cut_u64}
 use Rattle.wf_val.specs.ValueTree.{ValueTree, text}
 use Rattle.wf_val.specs.declared.fault.EvalFault.{EvalFault}
 use Rattle.wf_json.specs.Json as json_text
-use Rattle.wf_template.specs.TemplateSeen.{piece_tree}
-use Rattle.wf_template.specs.declared.template.Piece.{Piece}
 use Rattle.wf_look.specs.Measured.{Measured, with_more, measured_answer}
-use Rattle.wf_eval.specs.MeasuredRuns.{measured}
+use Rattle.wf_eval_expr.specs.MeasuredRuns.{measured}
 use Rattle.wf_look.specs.Meets.{Meets, MeetsFault}
 use Rattle.wf_look.specs.Outcomes.{Outcome, Run, go_on, turned}
-use Rattle.wf_eval.specs.TemplateValue.{piece_value, piece_runs, joined, text_answer}
-use Rattle.wf_look.specs.Told.{Told}
-use Rattle.wf_eval.proofs.Grow.{AreGrowing, then_run-grows, handed, turned_fault}
-use Rattle.wf_eval.proofs.Loops.{drop-item}
-use Rattle.wf_eval.proofs.Meeting.{of_memory, meets}
-use Rattle.wf_eval.proofs.TreeLoops.{pieces-grow}
+use Rattle.wf_eval_expr.specs.Joined.{joined, text_answer}
+use Rattle.wf_eval_expr.proofs.Grow.{AreGrowing, then_run-grows, turned_fault}
+use Rattle.wf_eval_expr.proofs.Meeting.{meets}
 
 -- the length is the text's, and as long as that fits all of the text is kept
 pub record IsOf (m : Measured) (s : List ℕ) : Type 0 where
@@ -70,34 +65,6 @@ measured-grows [] grow m n = le_refl n
 measured-grows (r ∷ rs) grow m n = then_run-grows n (r n) (λ t k. measured rs (with_more (json_text.text t) m) k) (grow.0 n)
     (λ t k. measured-grows rs grow.1 (with_more (json_text.text t) m) k)
 
--- ---- the loop over pieces
-
--- a fault of a piece is the whole's
-pub fault_pieces : (l m : Told) (xs : List Piece) (i : ℕ) (x : Piece) (so_far : Measured) (n : ℕ) (f : EvalFault) (k : ℕ)
-    (all : Result Measured EvalFault × ℕ) →
-    i < length xs → x ≡ get_or xs i x → m ≡ l → measured (piece_runs l (map piece_tree (drop i xs))) so_far n ≡ all →
-    MeetsFault f (piece_value m (piece_tree x) n) k → MeetsFault f all k
-fault_pieces l m xs i x so_far n f k all lt e same rest_is met =
-    let rest = piece_runs l (map piece_tree (drop (suc i) xs)) in
-    subst (λ o. MeetsFault f o k) rest_is
-    (subst (λ ys. MeetsFault f (measured (piece_runs l (map piece_tree ys)) so_far n) k) (sym (drop-item xs i x lt e))
-    (handed (piece_value l (piece_tree x) n) (λ t q. measured rest (with_more (json_text.text t) so_far) q)
-    (λ t q. measured-grows rest (pieces-grow l (map piece_tree (drop (suc i) xs))) (with_more (json_text.text t) so_far) q) f k
-    (subst (λ t. MeetsFault f (piece_value t (piece_tree x) n) k) same met)))
-
-pub memory_pieces : (l m : Told) (xs : List Piece) (i : ℕ) (x : Piece) (so_far : Measured) (n k : ℕ) (all : Result Measured EvalFault × ℕ) →
-    i < length xs → x ≡ get_or xs i x → m ≡ l → measured (piece_runs l (map piece_tree (drop i xs))) so_far n ≡ all →
-    (piece_value m (piece_tree x) n).1 ≡ k → MeetsFault EvalFault.Memory all k
-memory_pieces l m xs i x so_far n k all lt e same rest_is words =
-    fault_pieces l m xs i x so_far n EvalFault.Memory k all lt e same rest_is
-    (of_memory (piece_value m (piece_tree x) n) k (rw words (le_refl k)))
-
--- no piece is left
-pub measured_ends : (l : Told) (xs : List Piece) (i : ℕ) (so_far : Measured) (n : ℕ) (all : Result Measured EvalFault × ℕ) →
-    length xs ≤ i → measured (piece_runs l (map piece_tree (drop i xs))) so_far n ≡ all → all ≡ (Ok so_far, n)
-measured_ends l xs i so_far n all le rest_is = sym rest_is
-    ∙ ap (λ ys. measured (piece_runs l (map piece_tree ys)) so_far n) (drop_all i xs le)
-
 -- ---- where what is measured is an outcome
 
 -- a fault of what is measured is the outcome's
@@ -106,17 +73,8 @@ pub of_measured : (rs : List Run) (n : ℕ) (o : Outcome) (f : EvalFault) (k : �
 of_measured rs n o f k is met = subst (λ p. MeetsFault f p k) is (turned_fault measured_answer (measured rs ([], 0) n) f k met)
 
 -- and the answer of what is measured at the end is its value
-pub of_answer : (rs : List Run) (n : ℕ) (o : Outcome) (m : Measured) (r : Answer) (k : ℕ) → turned measured_answer (measured rs ([], 0) n) ≡ o →
-    measured rs ([], 0) n ≡ (Ok m, k) → r ≡ measured_answer m → Meets r o k
+pub of_answer : (rs : List Run) (n : ℕ) (o : Outcome) (m : Measured) (r : Answer) (k : ℕ) →
+    turned measured_answer (measured rs ([], 0) n) ≡ o → measured rs ([], 0) n ≡ (Ok m, k) → r ≡ measured_answer m → Meets r o k
 of_answer rs n o m r k whole end is =
     subst (λ p. Meets r p k) (ap (turned measured_answer) (sym end) ∙ whole)
     (rw is (meets (measured_answer m) (measured_answer m, k) k (λ apart. refl) refl))
-
--- the same of a template's pieces
-pub parts_fault : (rs : List Run) (n : ℕ) (f : EvalFault) (k : ℕ) → MeetsFault f (measured rs ([], 0) n) k →
-    MeetsFault f (turned text_answer (joined rs [] n)) k
-parts_fault rs n f k met = of_measured rs n (turned text_answer (joined rs [] n)) f k (measured-whole rs n) met
-
-pub parts_answer : (rs : List Run) (n : ℕ) (m : Measured) (r : Answer) (k : ℕ) → measured rs ([], 0) n ≡ (Ok m, k) → r ≡ measured_answer m →
-    Meets r (turned text_answer (joined rs [] n)) k
-parts_answer rs n m r k end is = of_answer rs n (turned text_answer (joined rs [] n)) m r k (measured-whole rs n) end is

@@ -5,7 +5,7 @@ use Rattle.wf_template.specs.declared.chain.Access.{Access}
 use Rattle.wf_look.specs.Accesses.{member_row, index_row}
 use Rattle.wf_look.specs.Outcomes.{Outcome, then_run, turned}
 use Rattle.wf_look.specs.Told.{Told}
-use Rattle.wf_eval.specs.Value.{value}
+use Rattle.wf_eval_expr.specs.Value.{value}
 
 -- what an access makes of the outcome of what it stands on
 abbrev pub accessed_run : Told → Access → Outcome → Outcome

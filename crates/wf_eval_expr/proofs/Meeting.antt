@@ -1,7 +1,7 @@
 -- From what a call gives to what an outcome is.
-use Rattle.std.proofs.Common.{◌≡◌, ℕ, ◌≤◌, false, Result, Ok, Err, refl, sym, ap, le_refl}
+use Rattle.std.proofs.Common.{◌≡◌, ℕ, ◌≤◌, false, Result, Ok, Err, refl, sym, le_refl}
 use Rattle.std.specs.Prelude.{◌≢◌}
-use Rattle.wf_val.specs.Arguments.{Gives, given, is_memory}
+use Rattle.wf_val.specs.Arguments.{Gives, is_memory}
 use Rattle.wf_val.specs.declared.fault.EvalFault.{EvalFault}
 use Rattle.wf_look.specs.Meets.{Meets, MeetsFault}
 
@@ -27,8 +27,3 @@ meets (Err f) o n gives words = record {
   words = λ not. words;
   memory = λ yes. rw words (le_refl n);
 }
-
--- what is given a row after what a call gives
-pub gives_given : {X Y : Type 0} (r a : Result X EvalFault) (row : X → Result Y EvalFault) → Gives r a → Gives (given r row) (given a row)
-gives_given (Ok x) a row gives apart = ap (λ b. given b row) (gives (λ e. cc))
-gives_given (Err f) a row gives apart = ap (λ b. given b row) (gives (λ e. apart (ap (λ b. given b row) e)))

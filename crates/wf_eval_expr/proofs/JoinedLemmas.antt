@@ -15,18 +15,18 @@ use Rattle.wf_json.specs.Json as json_text
 use Rattle.wf_template.specs.ExprSeen.{expr_tree}
 use Rattle.wf_template.specs.declared.expr.Expr.{Expr}
 use Rattle.wf_look.specs.Measured.{Measured, with_more, measured_answer}
-use Rattle.wf_eval.specs.MeasuredRuns.{measured}
+use Rattle.wf_eval_expr.specs.MeasuredRuns.{measured}
 use Rattle.wf_look.specs.Meets.{Meets, MeetsFault}
 use Rattle.wf_look.specs.Outcomes.{Run, go_on, turned, strictly, all_after}
 use Rattle.wf_functions.specs.Rows.{fitted, as_text, joined_row}
 use Rattle.wf_look.specs.Args.{args_tree}
-use Rattle.wf_eval.specs.TemplateValue.{joined, text_answer}
+use Rattle.wf_eval_expr.specs.Joined.{joined, text_answer}
 use Rattle.wf_look.specs.Told.{Told}
-use Rattle.wf_eval.specs.Value.{value, runs}
-use Rattle.wf_eval.proofs.Grow.{handed, runs-grow}
-use Rattle.wf_eval.proofs.Loops.{from_on, from_on-item}
-use Rattle.wf_eval.proofs.MeasuredLemmas.{measured-whole, measured-grows, of_measured, of_answer}
-use Rattle.wf_eval.proofs.Meeting.{of_memory}
+use Rattle.wf_eval_expr.specs.Value.{value, runs}
+use Rattle.wf_eval_expr.proofs.Grow.{handed, runs-grow}
+use Rattle.wf_eval_expr.proofs.Loops.{from_on, from_on-item}
+use Rattle.wf_eval_expr.proofs.MeasuredLemmas.{measured-whole, measured-grows, of_measured, of_answer}
+use Rattle.wf_eval_expr.proofs.Meeting.{of_memory}
 
 abbrev texts_of : List ValueTree → List ℕ
 texts_of ts = flat_map json_text.text ts
@@ -59,16 +59,17 @@ joined-is : (rs : List Run) (done : List ValueTree) (n : ℕ) → 1 ≤ length d
 joined-is [] [] n le = absurd (omega arith)
 joined-is [] (t ∷ ts) n le = ap (λ a. (a, n)) (sym (row-is t ts))
 joined-is (r ∷ rs) done n le =
-    go (λ t k. ap (λ s. turned text_answer (joined rs s k)) (sym (texts-snoc done t)) ∙ joined-is rs (done ++ t ∷ []) k (omega (arith, length-snoc done t)))
-    (r n).0 (r n).1
+    go (λ t k. ap (λ s. turned text_answer (joined rs s k)) (sym (texts-snoc done t))
+    ∙ joined-is rs (done ++ t ∷ []) k (omega (arith, length-snoc done t))) (r n).0 (r n).1
   where
     length-snoc : (us : List ValueTree) (u : ValueTree) → length (us ++ u ∷ []) ≡ suc (length us)
     length-snoc [] u = refl
     length-snoc (x ∷ us) u = ap suc (length-snoc us u)
 
-    go : ((t : ValueTree) (k : ℕ) → turned text_answer (joined rs (texts_of done ++ json_text.text t) k) ≡ turned joined_row (all_after rs (done ++ t ∷ []) k)) →
-        (a : Answer) (k : ℕ) →
-        turned text_answer (go_on a k (λ t q. joined rs (texts_of done ++ json_text.text t) q)) ≡ turned joined_row (go_on a k (λ t q. all_after rs (done ++ t ∷ []) q))
+    go : ((t : ValueTree) (k : ℕ) → turned text_answer (joined rs (texts_of done ++ json_text.text t) k)
+        ≡ turned joined_row (all_after rs (done ++ t ∷ []) k)) → (a : Answer) (k : ℕ) →
+        turned text_answer (go_on a k (λ t q. joined rs (texts_of done ++ json_text.text t) q))
+        ≡ turned joined_row (go_on a k (λ t q. all_after rs (done ++ t ∷ []) q))
     go rest (Ok t) k = rest t k
     go rest (Err f) k = refl
 

@@ -7,9 +7,9 @@ use Rattle.wf_val.specs.declared.fault.EvalFault.{EvalFault}
 use Rattle.wf_val.specs.declared.function.Fun.{Fun}
 use Rattle.wf_template.specs.ExprTree.{literal}
 use Rattle.wf_look.specs.Told.{over}
-use Rattle.wf_eval.specs.Value.{value}
+use Rattle.wf_eval_expr.specs.Value.{value}
 use Rattle.wf_look.proofs.WorkedLook.{nested, one_member, with_body, somewhere, named_workflow}
-use Rattle.wf_eval.proofs.WorkedExpressions.{int, word, truth, untruth, nothing, of, by_zero, rest_by_zero, here, there}
+use Rattle.wf_eval_expr.proofs.WorkedExpressions.{int, word, truth, untruth, nothing, of, by_zero, rest_by_zero, here, there}
 
 -- ---- `if`: only the chosen arm
 

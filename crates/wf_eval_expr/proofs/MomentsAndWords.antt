@@ -13,7 +13,7 @@ use Rattle.wf_functions.specs.Rows.{fitted}
 use Rattle.wf_functions.specs.Timed.{timed_row}
 use Rattle.wf_functions.specs.Words.{word_of}
 use Rattle.wf_look.specs.Told.{Told}
-use Rattle.wf_eval.specs.Value.{value}
+use Rattle.wf_eval_expr.specs.Value.{value}
 
 -- a look at a moment
 abbrev at_moment : ℤ → Told

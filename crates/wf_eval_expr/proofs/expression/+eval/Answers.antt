@@ -6,14 +6,14 @@ use Rattle.wf_template.specs.ExprCounts.{expr_count}
 use Rattle.wf_template.specs.ExprSeen.{expr_tree}
 use Rattle.wf_template.proofs.ChainLemmas.{key_count, base_le_built}
 use Rattle.wf_look.specs.Args.{args_tree}
-use Rattle.wf_eval.specs.Value.{runs}
-use Rattle.wf_eval.proofs.Grow.{value-grows, handed_draw}
-use Rattle.wf_eval.proofs.Chains.{fault_of_start, fault_of_access, start_value, access_value, through, keys_count, keys_count-snoc}
-use Rattle.wf_eval.proofs.Chains.{keys_le_built}
-use Rattle.wf_eval.proofs.JoinedLemmas.{fault_texts, memory_texts, texts_end, some-argument}
-use Rattle.wf_eval.proofs.Loops.{count-item, fault_all, memory_all, early_stops, early_goes_on, early_ends, fault_if, if-few}
-use Rattle.wf_eval.proofs.Meeting.{of_memory, of_fault}
-use Rattle.wf_eval.proofs.expression.+eval.Goals as goal
+use Rattle.wf_eval_expr.specs.Value.{runs}
+use Rattle.wf_eval_expr.proofs.Grow.{value-grows, handed_draw}
+use Rattle.wf_eval_expr.proofs.Chains.{fault_of_start, fault_of_access, start_value, access_value, through, keys_count, keys_count-snoc}
+use Rattle.wf_eval_expr.proofs.Chains.{keys_le_built}
+use Rattle.wf_eval_expr.proofs.JoinedLemmas.{fault_texts, memory_texts, texts_end, some-argument}
+use Rattle.wf_eval_expr.proofs.Loops.{count-item, fault_all, memory_all, early_stops, early_goes_on, early_ends, fault_if, if-few}
+use Rattle.wf_eval_expr.proofs.Meeting.{of_memory, of_fault}
+use Rattle.wf_eval_expr.proofs.expression.+eval.Goals as goal
 
 pub eval_all-eval_expr-requires : goal.eval_all-eval_expr-requires
 eval_all-eval_expr-requires g t c = let le = count-item _ _ _ c.loop-arg-test.true c.arg-item.is in search (rules, arith)

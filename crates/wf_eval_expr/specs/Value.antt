@@ -7,7 +7,7 @@ use Rattle.wf_val.specs.ValueTree.{ValueTree, boolean}
 use Rattle.wf_val.specs.declared.fault.EvalFault.{EvalFault}
 use Rattle.wf_val.specs.declared.function.Fun.{Fun}
 use Rattle.wf_template.specs.ExprTree.{ExprTree, ExprTrees, literal, call, member, index, no_exprs, expr_then}
-use Rattle.wf_eval.specs.declared.way.Way.{Way}
+use Rattle.wf_eval_expr.specs.declared.way.Way.{Way}
 use Rattle.wf_look.specs.Accesses.{member_row, index_row}
 use Rattle.wf_functions.specs.Draws.{draw_of}
 use Rattle.wf_look.specs.Args.{literal_name}
@@ -18,7 +18,7 @@ use Rattle.wf_look.specs.Outcomes.{Run, then_run, turned, all_after, strictly}
 use Rattle.wf_functions.specs.Rows.{fitted, strict_row, joined_row}
 use Rattle.wf_functions.specs.Timed.{timed_row}
 use Rattle.wf_look.specs.Told.{Told}
-use Rattle.wf_eval.specs.Ways.{way_of}
+use Rattle.wf_eval_expr.specs.Ways.{way_of}
 
 -- ---- functions that leave an argument without a value
 

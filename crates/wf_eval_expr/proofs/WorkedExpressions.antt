@@ -3,14 +3,9 @@ use Rattle.std.proofs.Common.{ℕ, List, [], ◌∷◌, true, false}
 use Rattle.std.specs.Prelude.{pos, codes}
 use Rattle.wf_val.specs.ValueTree.{null, boolean, number, text, list, trees}
 use Rattle.wf_template.specs.ExprTree.{ExprTree, literal, call, expr_trees}
-use Rattle.wf_template.specs.TemplateTree.{whole}
-use Rattle.wf_template.specs.DataTree as inputs
-use Rattle.wf_template.specs.CondTree.{CondTree}
 use Rattle.wf_look.proofs.WorkedLook.{one_member, somewhere, nowhere}
 use Rattle.wf_look.specs.Outcomes.{Outcome}
-use Rattle.wf_eval.specs.TreeValue.{tree_value}
-use Rattle.wf_eval.specs.Truth.{truth_of}
-use Rattle.wf_eval.specs.Value.{value}
+use Rattle.wf_eval_expr.specs.Value.{value}
 
 abbrev pub int : ℕ → ExprTree
 int n = literal (number (pos n))
@@ -36,16 +31,6 @@ five = literal (one_member (codes "a") (number (pos 5)))
 abbrev pub of : List ℕ → List ExprTree → ExprTree
 of name es = call name (expr_trees es)
 
--- trees
-abbrev pub that : ExprTree → inputs.DataTree
-that e = inputs.text (whole e)
-
-abbrev pub items_of : List inputs.DataTree → inputs.DataTree
-items_of ts = inputs.list (inputs.data_trees ts)
-
-abbrev pub members_of : List inputs.DataMember → inputs.DataTree
-members_of ms = inputs.object (inputs.data_members ms)
-
 -- two that fault
 abbrev pub by_zero : ExprTree
 by_zero = of (codes "div") (int 1 ∷ int 0 ∷ [])
@@ -58,9 +43,3 @@ here e = value somewhere e 7
 
 abbrev pub there : ExprTree → Outcome
 there e = value nowhere e 7
-
-abbrev pub tree_here : inputs.DataTree → Outcome
-tree_here t = tree_value somewhere t 7
-
-abbrev pub truth_here : CondTree → Outcome
-truth_here c = truth_of somewhere c 7

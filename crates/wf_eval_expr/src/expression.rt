@@ -1,6 +1,6 @@
 //! The value of an expression.
 ghost use Rattle.std.specs.Prelude.{◌≡◌, [], Ok};
-ghost use Rattle.wf_val.specs.Arguments.{Gives, seen};
+ghost use Rattle.wf_val.specs.Arguments.{seen};
 ghost use Rattle.wf_val.specs.Function.{function_of};
 ghost use Rattle.wf_val.specs.Seen.{tree};
 ghost use Rattle.wf_template.specs.ChainSeen.{start_tree};
@@ -9,9 +9,9 @@ ghost use Rattle.wf_look.specs.Meets.{Meets};
 ghost use Rattle.wf_look.specs.Outcomes.{all_after, strictly};
 ghost use Rattle.wf_functions.specs.Rows.{fitted, joined_row};
 ghost use Rattle.wf_look.specs.Args.{args_tree};
-ghost use Rattle.wf_eval.specs.Seen.{accessed_run};
-ghost use Rattle.wf_eval.specs.Value.{value, runs, called, called_by, if_run, early, drawn_run};
-ghost use Rattle.wf_eval.specs.Ways.{way_of};
+ghost use Rattle.wf_eval_expr.specs.Seen.{accessed_run};
+ghost use Rattle.wf_eval_expr.specs.Value.{value, runs, called, called_by, if_run, early, drawn_run};
+ghost use Rattle.wf_eval_expr.specs.Ways.{way_of};
 
 use crate::way::{Way, way_of};
 use std::alloc::Global;
@@ -23,9 +23,11 @@ use wf_look::{
 use wf_template::{Access, Expr, Start, chain_of};
 use wf_val::{EvalFault, Fun, Text, Val, Vals, bounded, wrong_type};
 
-/// The value of the expression in the look. Accesses are gone through by a loop, however many they are.
+/// The value of an expression in a look: its value, or the first fault from left to right. After a fault the look has
+/// drawn the words that the definition counts up to it, and after want of memory at most as many as for the whole.
+/// Accesses are gone through by a loop, however many they are.
 #[cycle(eval)]
-pub(crate) fn eval_expr<L: Look>(alloc: Global, e: &Expr, look: &mut L) -> Result<Val, EvalFault>
+pub fn eval_expr<L: Look>(alloc: Global, e: &Expr, look: &mut L) -> Result<Val, EvalFault>
     ensures value { Meets (seen result) (value (L.told look.old) (expr_tree e.now) (L.drawn look.old)) (L.drawn look.new) }
     ensures same { L.told look.new ≡ L.told look.old }
     ensures held { L.held look.new ≡ L.held look.old }

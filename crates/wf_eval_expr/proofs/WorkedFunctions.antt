@@ -7,7 +7,7 @@ use Rattle.wf_val.specs.declared.fault.EvalFault.{EvalFault}
 use Rattle.wf_val.specs.declared.function.Fun.{Fun}
 use Rattle.wf_template.specs.ExprTree.{literal}
 use Rattle.wf_look.proofs.WorkedLook.{nested}
-use Rattle.wf_eval.proofs.WorkedExpressions.{int, word, truth, nothing, of, by_zero, rest_by_zero, here}
+use Rattle.wf_eval_expr.proofs.WorkedExpressions.{int, word, truth, nothing, of, by_zero, rest_by_zero, here}
 
 -- ---- functions of values: names without letter case, all arguments before any is judged
 

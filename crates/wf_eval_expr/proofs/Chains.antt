@@ -9,13 +9,13 @@ use Rattle.wf_template.specs.ExprCounts.{expr_count}
 use Rattle.wf_template.specs.ExprSeen.{expr_tree}
 use Rattle.wf_template.specs.declared.chain.Access.{Access}
 use Rattle.wf_template.proofs.ChainLemmas.{key_count}
-use Rattle.wf_eval.specs.Seen.{accessed_run, chained}
+use Rattle.wf_eval_expr.specs.Seen.{accessed_run, chained}
 use Rattle.wf_look.specs.Meets.{MeetsFault}
 use Rattle.wf_look.specs.Outcomes.{Outcome, turned}
 use Rattle.wf_look.specs.Accesses.{member_row, index_row}
 use Rattle.wf_look.specs.Told.{Told}
-use Rattle.wf_eval.specs.Value.{value}
-use Rattle.wf_eval.proofs.Grow.{then_run-grows, value-grows, handed, turned_fault}
+use Rattle.wf_eval_expr.specs.Value.{value}
+use Rattle.wf_eval_expr.proofs.Grow.{then_run-grows, value-grows, handed, turned_fault}
 
 accessed_is : (l : Told) (b : ExprTree) (a : Access) (n : ℕ) → value l (accessed b a) n ≡ accessed_run l a (value l b n)
 accessed_is l b (Access.Member name soft) n = refl

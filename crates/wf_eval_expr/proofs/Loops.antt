@@ -15,9 +15,9 @@ use Rattle.wf_look.specs.Meets.{Meets, MeetsFault}
 use Rattle.wf_look.specs.Outcomes.{Outcome, Run, then_run, all_after}
 use Rattle.wf_look.specs.Args.{args_tree}
 use Rattle.wf_look.specs.Early.{stop_at, stop, at_end}
-use Rattle.wf_eval.specs.Value.{if_run, or_go_on, early, value, runs}
-use Rattle.wf_eval.proofs.Meeting.{of_memory, meets}
-use Rattle.wf_eval.proofs.Grow.{handed_all, handed_early, handed_if}
+use Rattle.wf_eval_expr.specs.Value.{if_run, or_go_on, early, value, runs}
+use Rattle.wf_eval_expr.proofs.Meeting.{of_memory, meets}
+use Rattle.wf_eval_expr.proofs.Grow.{handed_all, handed_early, handed_if}
 
 -- the rest of a list from an item on
 pub drop-item : {X : Type 0} (xs : List X) (i : ℕ) (x : X) → i < length xs → x ≡ get_or xs i x → drop i xs ≡ x ∷ drop (suc i) xs

@@ -1,0 +1,13 @@
+pub mod Meeting
+pub mod Grow
+pub mod Loops
+mod Chains
+pub mod MeasuredLemmas
+mod JoinedLemmas
+pub mod Fitting
+pub mod Local
+mod MomentsAndWords
+pub mod WorkedExpressions
+mod WorkedFunctions
+mod WorkedCalls
+mod Worked

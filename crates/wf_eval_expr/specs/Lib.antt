@@ -1,0 +1,6 @@
+pub mod Ways
+pub mod Value
+pub mod Seen
+pub mod Joined
+pub mod MeasuredRuns
+pub mod Uses
