@@ -4,7 +4,8 @@
 # name much, with how the time grows from a half of them on; then `wflow run` on large inputs beside it on these; then `wflow trace` beside
 # `wflow run`, and how its time grows. Then times the parsing of texts as templates, which no command does yet, beside reading their bytes
 # alone, with the ratio of these two, and beside `jq -c .` on the same text as JSON. Then times functions on long texts beside Python's own,
-# and what templates come to, in the looks of rows, beside `jq -c .` on the same rows.
+# functions on lists and objects beside jq's, once by what a call costs and once by whole runs on both sides, and what templates come to, in
+# the looks of rows, beside `jq -c .` on the same rows.
 #
 #   bench/bench.sh
 #
@@ -310,6 +311,29 @@ for (name, function, arguments, query, wanted), small in zip(of_items(10**5), of
     ours, theirs = time_of(function, arguments, wanted), least(["jq", "-c", query, file("arguments.json", arguments)])
     growth = ours / time_of(function, small[2], small[4])
     print("%-37s %6d %9.4f %9.4f %7.1f %7.1f" % (name, 10**5, ours, theirs, ours / theirs, growth))
+
+# The same by whole runs on both sides: a definition with one action that calls the function on parameters, beside jq on a file of the
+# arguments. Both read what they are given and write what they make; the growth is that from a tenth of the items on.
+def whole_runs(function, arguments, query, wanted):
+    kinds = {list: "Array", dict: "Object", int: "Int"}
+    given = {"p%d" % place: argument for place, argument in enumerate(arguments)}
+    called = "@%s(%s)" % (function, ",".join("parameters('%s')" % name for name in given))
+    definition = file("definition.json", {
+        "parameters": {name: {"type": kinds[type(value)]} for name, value in given.items()},
+        "actions": {"A": {"type": "Compose", "inputs": called}},
+    })
+    run = [os.environ["wflow"], "run", definition, file("given.json", handed(parameters=given))]
+    said = subprocess.run(run, stdout=subprocess.PIPE, text=True, check=True).stdout
+    assert json.dumps(wanted, separators=(",", ":")) in said, called
+    return least(run), least(["jq", "-c", query, file("arguments.json", arguments)])
+
+
+print()
+print("%-37s %6s %9s %9s %7s %7s %9s" % ("function, by whole runs", "items", "wflow s", "jq s", "ratio", "growth", "jq growth"))
+for many, few in zip(of_items(10**5), of_items(10**4)):
+    small, large = whole_runs(*few[1:]), whole_runs(*many[1:])
+    for count, (ours, theirs), growths in (10**4, small, ("-", "-")), (10**5, large, ["%.1f" % (b / a) for a, b in zip(small, large)]):
+        print("%-37s %6d %9.4f %9.4f %7.1f %7s %9s" % (many[0], count, ours, theirs, ours / theirs, *growths))
 
 # The functions on time are timed on 100,000 rows, beside Python's datetime with the same JSON read and written.
 def written(args):

@@ -3,10 +3,10 @@ ghost use Rattle.std.specs.Prelude.{◌≡◌, ◌≤◌, length};
 
 use std::alloc::Global;
 use wf_fn_list::{
-    f_add_property, f_array, f_chunk, f_contains, f_create_array, f_empty, f_first, f_intersection,
-    f_join, f_last, f_length, f_range, f_remove_property, f_reverse, f_set_property, f_skip,
-    f_sort, f_take, f_union,
+    f_add_property, f_array, f_chunk, f_contains, f_create_array, f_empty, f_first, f_join, f_last,
+    f_length, f_range, f_remove_property, f_reverse, f_set_property, f_skip, f_take,
 };
+use wf_fn_sets::{f_intersection, f_sort, f_union};
 use wf_val::{EvalFault, Fun, Val, Vals};
 
 // What a function of these gives, where it takes so many arguments.

@@ -1,15 +1,6 @@
 pub mod PartLemmas
 pub mod ChunkLemmas
 pub mod RangeLemmas
-pub mod SetLemmas
-pub mod Ascending
-pub mod SearchLemmas
-pub mod DistinctLemmas
-pub mod SortLemmas
-pub mod SortLaws
-pub mod SetLaws
-pub mod MemberLaws
+pub mod MembershipLemmas
 pub mod TextLemmas
-pub mod EachLemmas
-pub mod MemberLemmas
 pub mod WorkedRows

@@ -5,6 +5,7 @@ use Rattle.std.proofs.lemmas.Slice.Eq.{starts_is}
 use Rattle.std.specs.List.{starts_with}
 use Rattle.std.specs.Str.Iter.{HasSubslice}
 use Rattle.wf_fn_list.specs.Membership.{stands_in}
+use Rattle.wf_fn_list.proofs.MembershipLemmas.{or-left, or-true}
 
 starts-has : (part rest : List ℕ) → starts_with nat_eq (part ++ rest) part ≡ true
 starts-has part rest = (starts_is Decides-eqb (part ++ rest) part (starts_with nat_eq (part ++ rest) part) refl).1 rest refl
@@ -12,22 +13,14 @@ starts-has part rest = (starts_is Decides-eqb (part ++ rest) part (starts_with n
 starts-cut : (part bs : List ℕ) → starts_with nat_eq bs part ≡ true → HasSubslice bs part
 starts-cut part bs starts = ([], drop (length part) bs, (starts_is Decides-eqb bs part (starts_with nat_eq bs part) refl).0 starts)
 
-or-first : (a b : Bool) → a ≡ true → a || b ≡ true
-or-first true b is = refl
-or-first false b is = absurd (cc)
-
-or-second : (a b : Bool) → b ≡ true → a || b ≡ true
-or-second true b is = refl
-or-second false b is = is
-
 stands-front : (part bs : List ℕ) → starts_with nat_eq bs part ≡ true → stands_in part bs ≡ true
 stands-front part [] starts = starts
-stands-front part (b ∷ bs) starts = or-first (starts_with nat_eq (b ∷ bs) part) (stands_in part bs) starts
+stands-front part (b ∷ bs) starts = or-left (starts_with nat_eq (b ∷ bs) part) (stands_in part bs) starts
 
 stands-behind : (part before behind : List ℕ) → stands_in part (before ++ (part ++ behind)) ≡ true
 stands-behind part [] behind = stands-front part (part ++ behind) (starts-has part behind)
 stands-behind part (b ∷ before) behind =
-    or-second (starts_with nat_eq (b ∷ (before ++ (part ++ behind))) part) (stands_in part (before ++ (part ++ behind)))
+    or-true (starts_with nat_eq (b ∷ (before ++ (part ++ behind))) part) (stands_in part (before ++ (part ++ behind)))
     (stands-behind part before behind)
 
 cut-at : (part : List ℕ) (b : ℕ) (bs : List ℕ) (starts : Bool) → starts ≡ starts_with nat_eq (b ∷ bs) part

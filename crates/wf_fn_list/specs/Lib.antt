@@ -3,9 +3,4 @@ pub mod Chunks
 pub mod Membership
 pub mod Making
 pub mod Ranges
-pub mod Sets
 pub mod Members
-pub mod Sorting
-pub mod Keys
-pub mod Places
-pub mod SortKeys

@@ -15,12 +15,12 @@ use Rattle.wf_fn_list.specs.Members.{add_property_row, set_property_row, remove_
 use Rattle.wf_fn_list.specs.Membership.{contains_row, empty_row}
 use Rattle.wf_fn_list.specs.Parts.{length_row, first_row, last_row, take_row, skip_row, reverse_row, join_row}
 use Rattle.wf_fn_list.specs.Ranges.{range_row}
-use Rattle.wf_fn_list.specs.Sets.{union_row, intersection_row}
-use Rattle.wf_fn_list.specs.Sorting.{sort_row}
 use Rattle.wf_fn_math.specs.Arithmetic.{add_row, sub_row, mul_row, div_row, mod_row}
 use Rattle.wf_fn_math.specs.Comparison.{equals_row, greater_row, greater_or_equals_row, less_row, less_or_equals_row, not_row}
 use Rattle.wf_fn_math.specs.Conversion.{int_row, bool_row, is_int_row}
 use Rattle.wf_fn_math.specs.Extremes.{min_row, max_row}
+use Rattle.wf_fn_sets.specs.Sets.{union_row, intersection_row}
+use Rattle.wf_fn_sets.specs.Sorting.{sort_row}
 use Rattle.wf_fn_text.specs.Cases.{to_lower_row, to_upper_row, trim_row}
 use Rattle.wf_fn_text.specs.Joining.{concat_row}
 use Rattle.wf_fn_text.specs.Parts.{substring_row, slice_row}

@@ -6,14 +6,14 @@ ghost use Rattle.wf_functions.specs.Rows.{strict_row, string_row, json_row, as_t
 
 use std::alloc::{AllocError, Global};
 use wf_fn_list::{
-    f_add_property, f_array, f_chunk, f_contains, f_create_array, f_empty, f_first, f_intersection,
-    f_join, f_last, f_length, f_range, f_remove_property, f_reverse, f_set_property, f_skip,
-    f_sort, f_take, f_union,
+    f_add_property, f_array, f_chunk, f_contains, f_create_array, f_empty, f_first, f_join, f_last,
+    f_length, f_range, f_remove_property, f_reverse, f_set_property, f_skip, f_take,
 };
 use wf_fn_math::{
     f_add, f_bool, f_div, f_equals, f_greater, f_greater_or_equals, f_int, f_is_int, f_less,
     f_less_or_equals, f_max, f_min, f_mod, f_mul, f_not, f_sub,
 };
+use wf_fn_sets::{f_intersection, f_sort, f_union};
 use wf_fn_text::{
     f_concat, f_ends_with, f_index_of, f_last_index_of, f_replace, f_slice, f_split, f_starts_with,
     f_substring, f_to_lower, f_to_upper, f_trim,

@@ -4,7 +4,7 @@ use Rattle.std.proofs.lemmas.Iterator.Search.{any_from_yields_List}
 use Rattle.std.specs.Ordering.{is_eq}
 use Rattle.wf_val.specs.Seen.{tree}
 use Rattle.wf_val.specs.ValueOrder.{order}
-use Rattle.wf_fn_list.proofs.SetLemmas.{among-mapped}
+use Rattle.wf_fn_list.proofs.MembershipLemmas.{among-mapped}
 use Rattle.wf_fn_list.proofs.membership.is_among.Goals as goal
 
 pub returns : goal.returns

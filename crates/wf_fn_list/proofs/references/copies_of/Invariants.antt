@@ -1,7 +1,0 @@
-use Rattle.std.proofs.Common.{◌≡◌, map, take}
-use Rattle.wf_fn_list.specs.Keys.{key_tree}
-use Rattle.wf_fn_list.proofs.references.copies_of.Given as goal
-
--- what is copied so far
-abbrev pub invariant-loop-value : goal.invariant-loop-value
-invariant-loop-value l = l.copies ≡ map key_tree (take l.value-index l.values)

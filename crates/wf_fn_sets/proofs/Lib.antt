@@ -1,0 +1,12 @@
+pub mod RestLemmas
+pub mod SetLemmas
+pub mod Ascending
+pub mod SearchLemmas
+pub mod DistinctLemmas
+pub mod SortLemmas
+pub mod SortLaws
+pub mod SetLaws
+pub mod MemberLaws
+pub mod EachLemmas
+pub mod MemberLemmas
+pub mod WorkedRows
