@@ -3,6 +3,7 @@ use Rattle.std.proofs.Common.{◌≡◌, ℕ, zero, suc, ◌+◌, ◌-◌, ◌<�
 use Rattle.std.proofs.Common.{cond, Bool, true, false, get_or, Some, option_map, append_assoc}
 use Rattle.std.proofs.lemmas.List.{get_or-map, length-map}
 use Rattle.std.proofs.lemmas.List.Elements.{filter_more}
+use Rattle.std.proofs.lemmas.List.Sums.{fold-append}
 use Rattle.std.proofs.lemmas.Option.{slice_get-map}
 use Rattle.std.specs.Prelude.{slice_get, unwrap_or}
 use Rattle.std.specs.BTreeMap.{insert_entry}
@@ -14,6 +15,7 @@ use Rattle.std.proofs.lemmas.Map.Lookups.{exact_bytes}
 use Rattle.wf_val.specs.Get.{name_of}
 use Rattle.wf_val.specs.NameOrder.{bytes_cmp, put_named, IsInNameOrder, IsAboveAll}
 use Rattle.wf_val.specs.ValueTree.{ValueTree, Member}
+use Rattle.wf_fn_sets.specs.Sets.{put_all}
 
 -- entries, by the names and the values that they stand for
 module _ {K V : Type 0} (name : K → List ℕ) (value : V → ValueTree) where
@@ -45,6 +47,10 @@ module _ {K V : Type 0} (name : K → List ℕ) (value : V → ValueTree) where
   pub none-below : (es : List (K × V)) → AreBelow [] es
   none-below [] = tt
   none-below (e ∷ es) = (tt, none-below es)
+
+-- members put in turn, and others after them
+pub put-joined : (all ms more : List Member) → put_all all (ms ++ more) ≡ put_all (put_all all ms) more
+put-joined all ms more = fold-append (λ others m. put_named name_of m others) all ms more
 
 above-more : (k : List ℕ) (ms : List Member) (m : Member) → IsAboveAll name_of k ms → bytes_cmp m.0 k ≡ Less
     → IsAboveAll name_of k (ms ++ m ∷ [])

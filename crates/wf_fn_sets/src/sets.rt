@@ -1,9 +1,9 @@
 //! Lists and objects taken together.
-ghost use Rattle.std.specs.Prelude.{◌≡◌, ◌≤◌, [], IfOk, length, map};
+ghost use Rattle.std.specs.Prelude.{◌≡◌, ◌≤◌, [], IfOk, OnOk, length, map};
 ghost use Rattle.std.specs.List.{filter, flat_map, list_all};
 ghost use Rattle.std.specs.List.Sorted.{IsSorted};
 ghost use Rattle.wf_val.specs.Arguments.{seen, given, Gives, list_of, object_of};
-ghost use Rattle.wf_val.specs.Seen.{tree, member};
+ghost use Rattle.wf_val.specs.Seen.{tree};
 ghost use Rattle.wf_val.specs.ValueTree.{ValueTree};
 ghost use Rattle.wf_fn_sets.specs.Keys.{key_tree, key_cmp};
 ghost use Rattle.wf_fn_list.specs.Membership.{is_among};
@@ -12,7 +12,7 @@ ghost use Rattle.wf_fn_sets.specs.Sets.{union_row, intersection_row, lists_toget
 ghost use Rattle.wf_fn_sets.specs.Sets.{union_items, union_members, common_items, common_members, distinct, put_all, all_have};
 
 use crate::key::Key;
-use crate::references::{copies_of, items_of, members_of, push_items};
+use crate::references::{copies_of, items_of, push_items};
 use std::alloc::{AllocError, Global};
 use std::collections::BTreeMap;
 use wf_val::{EvalFault, Fields, Fun, Text, Val, Vals, bounded, list_at, object_at, wrong_type};
@@ -58,8 +58,7 @@ fn union_of_objects(alloc: Global, args: &Vals) -> Result<Val, EvalFault>
     ensures { Gives (seen result) (objects_together Fun.Union union_members args.now) }
 {
     let objects = objects_at(alloc, Fun::Union, args)?;
-    let members = members_of(alloc, objects.as_slice())?;
-    let by_name = by_name(alloc, members.as_slice())?;
+    let by_name = by_name(alloc, objects.as_slice())?;
     bounded(Val::Obj(object_of_entries(alloc, by_name)?))
 }
 
@@ -212,18 +211,32 @@ fn has(values: &[Key<'_>], value: &Key<'_>) -> bool
     values.binary_search(value).is_ok()
 }
 
-// Members by their names; of two of one name the later stands.
+// The members of several objects by their names; of two of one name the later stands.
 fn by_name<'a>(
     alloc: Global,
-    members: &[&'a (Text, Val)],
+    objects: &[&'a Fields],
 ) -> Result<BTreeMap<&'a str, &'a Val>, AllocError>
-    ensures { IfOk result (λ m. map (λ e. (e.0.now, tree e.1.now)) m.entries ≡ put_all [] (map (λ m. member m.now) members.now)) }
+    ensures { IfOk result (λ m. map (λ e. (e.0.now, tree e.1.now)) m.entries ≡ put_all [] (flat_map (λ o. o.now) objects.now)) }
 {
     let mut by_name = BTreeMap::new(alloc);
-    for member in members {
-        let _earlier = by_name.insert(member.0.as_str(), &member.1)?;
+    for object in objects {
+        put_members(&mut by_name, object)?;
     }
     Ok(by_name)
+}
+
+// The members of an object put to others, in place of those of their names.
+fn put_members<'a>(
+    by_name: &mut BTreeMap<&'a str, &'a Val>,
+    object: &'a Fields,
+) -> Result<(), AllocError>
+    ensures { OnOk result (map (λ e. (e.0.now, tree e.1.now)) by_name.new.entries
+        ≡ put_all (map (λ e. (e.0.now, tree e.1.now)) by_name.old.entries) object.now) }
+{
+    for member in object.as_slice() {
+        let _earlier = by_name.insert(member.0.as_str(), &member.1)?;
+    }
+    Ok(())
 }
 
 // Names and values as the members of an object.

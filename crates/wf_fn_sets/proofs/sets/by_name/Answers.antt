@@ -1,21 +1,17 @@
 use Rattle.std.proofs.Common.{◌∙◌, sym, ap, map, drop, ◌+◌}
-use Rattle.wf_val.specs.Get.{name_of}
-use Rattle.wf_val.specs.NameOrder.{put_named}
-use Rattle.wf_val.specs.Seen.{tree, member}
+use Rattle.std.specs.List.{flat_map}
+use Rattle.wf_val.specs.Seen.{tree}
 use Rattle.wf_fn_sets.specs.Sets.{put_all}
-use Rattle.wf_fn_sets.proofs.MemberLemmas.{entry-put}
+use Rattle.wf_fn_sets.proofs.MemberLemmas.{put-joined}
 use Rattle.wf_fn_sets.proofs.RestLemmas.{rest-from}
 use Rattle.wf_fn_sets.proofs.sets.by_name.Goals as goal
 
-pub loop-member-preserved : goal.loop-member-preserved
-loop-member-preserved c =
-    let seen = map (λ e. (e.0.now, tree e.1.now)) c.loop-member.by_name.entries in
-    let rest = map (λ m. member m.now) (drop (c.loop-member.member-index + 1) c.args.members.now) in
-    ap (λ l. put_all l rest) (
-    ap (map (λ e. (e.0.now, tree e.1.now))) c.in_ok-_earlier.ensures.entries
-    ∙ entry-put (λ k. k.now) (λ v. tree v.now) c.loop-member.by_name.entries _ _
-    ∙ ap (λ n. put_named name_of (n, tree c.member-item.result.now.1) seen) c.as_str.ensures
-    )
-    ∙ sym (rest-from (λ l. put_all seen (map (λ m. member m.now) l)) c.args.members.now c.loop-member.member-index c.member-item.result
-    c.loop-member-test.true c.member-item.is)
-    ∙ c.loop-member.invariant
+pub loop-object-preserved : goal.loop-object-preserved
+loop-object-preserved c =
+    let seen = map (λ e. (e.0.now, tree e.1.now)) c.loop-object.by_name.entries in
+    let rest = flat_map (λ o. o.now) (drop (c.loop-object.object-index + 1) c.args.objects.now) in
+    ap (λ l. put_all l rest) c.in_ok-put_members.ensures
+    ∙ sym (put-joined seen c.object-item.result.now rest)
+    ∙ sym (rest-from (λ l. put_all seen (flat_map (λ o. o.now) l)) c.args.objects.now c.loop-object.object-index c.object-item.result
+    c.loop-object-test.true c.object-item.is)
+    ∙ c.loop-object.invariant
