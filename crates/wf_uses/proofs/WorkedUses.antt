@@ -1,5 +1,5 @@
 -- Uses of worked expressions, texts, values and conditions, where a reader can work them out: each function that is asked of.
-use Rattle.std.proofs.Common.{◌≡◌, List, [], ◌∷◌, true, false, refl}
+use Rattle.std.proofs.Common.{◌≡◌, [], ◌∷◌, true, false, refl}
 use Rattle.std.specs.Prelude.{codes, pos}
 use Rattle.wf_val.specs.ValueTree as value
 use Rattle.wf_val.specs.declared.function.Fun.{Fun}
