@@ -2,8 +2,8 @@
 # Times `wflow run` beside `jq -c .` on the same definition, and prints the ratio of the two, on definitions that run and on ones that
 # are refused after all rules were looked at, or that were made to be dear for one rule; then `wflow check` beside it, on definitions that
 # name much, with how the time grows from a half of them on; then `wflow run` on large inputs beside it on these; then `wflow trace` beside
-# `wflow run`, and how its time grows. Then times the parsing of texts as templates, which no command does yet, beside reading their bytes
-# alone, with the ratio of these two, and beside `jq -c .` on the same text as JSON. Then times functions on long texts beside Python's own,
+# `wflow run`, and how its time grows. Then times the parsing of texts as templates by itself, beside reading their bytes alone, with the
+# ratio of these two, and beside `jq -c .` on the same text as JSON. Then times functions on long texts beside Python's own,
 # functions on lists and objects beside jq's, once by what a call costs and once by whole runs on both sides, and what templates come to, in
 # the looks of rows, beside `jq -c .` on the same rows.
 #
