@@ -9,11 +9,16 @@
 #
 #   bench/bench.sh
 #
-# It takes the programs that `rt ci` built, and builds those of rows that aren't there; makes its files in a folder of its own; installs jq
-# from Debian's packages where it is missing; and takes the least of five runs of each.
+# It takes the programs that `rt ci` built, and builds those of rows that aren't there; makes its files in a folder of its own; and takes the
+# least of five runs of each. It asks for python3 and jq.
 set -eu
 top=$(CDPATH='' cd -P -- "$(dirname -- "$0")/.." && pwd -P)
-command -v jq >/dev/null || { apt-get update -qq && apt-get install -y -qq jq; } >&2
+for tool in python3 jq; do
+    command -v "$tool" >/dev/null || {
+        echo "bench: $tool is missing" >&2
+        exit 1
+    }
+done
 folder=$(mktemp -d)
 trap 'rm -rf "$folder"' EXIT
 wflow=$("$top/bin/program")
