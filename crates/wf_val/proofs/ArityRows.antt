@@ -1,6 +1,7 @@
 -- How many arguments each function takes, the other way round: for each number, the functions that take so many.
-use Rattle.std.proofs.Common.{◌≡◌, List, [], ◌∷◌, refl}
-use Rattle.std.specs.List.{filter}
+use Rattle.std.proofs.Common.{◌≡◌, ℕ, List, [], ◌∷◌, refl}
+use Rattle.std.specs.List.{filter, list_any}
+use Rattle.std.specs.Prelude.{not}
 use Rattle.wf_val.specs.Arity.{takes}
 use Rattle.wf_val.specs.Function.{functions}
 use Rattle.wf_val.specs.declared.function.Fun.{Fun}
@@ -47,6 +48,14 @@ takes-five : filter (λ f. takes f 5) functions ≡
     Fun.Concat ∷ Fun.Union ∷ Fun.Intersection ∷ Fun.CreateArray ∷ Fun.Min ∷ Fun.Max ∷ Fun.And ∷ Fun.Or ∷
     Fun.Coalesce ∷ []
 takes-five = refl
+
+-- the numbers of arguments that tell functions apart: one that takes five takes any more
+abbrev counts : List ℕ
+counts = 0 ∷ 1 ∷ 2 ∷ 3 ∷ 4 ∷ 5 ∷ []
+
+-- there is no function that no call may have, and none takes so many and so many more but no number between
+all-take_some : filter (λ f. not (list_any (takes f) counts)) functions ≡ []
+all-take_some = refl
 
 -- what no expression can call takes none, not even none at all
 abbrev parts : List Fun

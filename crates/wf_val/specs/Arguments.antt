@@ -26,7 +26,7 @@ given (Err f) next = Err f
 abbrev pub wrong_type : Fun → ℕ → EvalFault
 wrong_type f i = EvalFault.WrongType f (cut_u32 (suc i))
 
--- the number, the text, the truth value that an argument is
+-- the number, the text, the Boolean that an argument is
 abbrev pub number_of : Fun → ℕ → Option ValueTree → Result ℤ EvalFault
 number_of f i (Some (number n)) = Ok n
 number_of f i t = Err (wrong_type f i)

@@ -43,7 +43,7 @@ pub fn text_at<'a>(function: Fun, args: &'a Vals, place: u64) -> Result<&'a Text
     }
 }
 
-/// The truth value at a place, counted from 0; an argument of another type, or none, is `WrongType`.
+/// The Boolean at a place, counted from 0; an argument of another type, or none, is `WrongType`.
 pub fn truth_at(function: Fun, args: &Vals, place: u64) -> Result<bool, EvalFault>
     ensures { result ≡ truth_at function args.now place }
 {

@@ -103,7 +103,16 @@ impl Fun {
             Fun::Union | Fun::Intersection => from(2, count),
             Fun::Replace | Fun::AddProperty | Fun::SetProperty | Fun::If => between(3, 3, count),
             Fun::AddToTime | Fun::SubtractFromTime => between(3, 4, count),
-            _ => false,
+            Fun::Condition
+            | Fun::Index
+            | Fun::From
+            | Fun::JoinWith
+            | Fun::Foreach
+            | Fun::Switch
+            | Fun::Query
+            | Fun::ParseJson
+            | Fun::Variable
+            | Fun::Terminate => false,
         }
     }
 }

@@ -146,7 +146,7 @@ impl Val {
         }
     }
 
-    /// By kind (null, truth values, numbers, texts, lists, objects), and within a kind by what the values hold.
+    /// By kind (null, Booleans, numbers, texts, lists, objects), and within a kind by what the values hold.
     #[cycle(order)]
     pub fn order(&self, other: &Val) -> Ordering
         ensures { result ≡ order (tree self.now) (tree other.now) }
