@@ -3,7 +3,7 @@ use Rattle.std.proofs.Common.{◌≡◌, refl, [], ◌∷◌, Ok, Err}
 use Rattle.std.specs.Prelude.{ℤ}
 use Rattle.wf_val.specs.Arguments.{bounded}
 use Rattle.wf_fn_math.specs.Arithmetic.{add_row, sub_row, mul_row, div_row, mod_row}
-use Rattle.wf_fn_math.proofs.RowValues.{yes, no, plus, minus, greatest, least, word, items, fields}
+use Rattle.wf_val.proofs.RowValues.{yes, no, plus, minus, greatest, least, word, items, fields}
 use Rattle.wf_val.specs.ValueTree.{null, number}
 use Rattle.wf_val.specs.declared.fault.EvalFault.{EvalFault}
 use Rattle.wf_val.specs.declared.function.Fun.{Fun}

@@ -3,7 +3,7 @@ use Rattle.std.proofs.Common.{◌≡◌, refl, [], ◌∷◌, Ok, Err}
 use Rattle.std.specs.Prelude.{Bool, codes}
 use Rattle.wf_val.specs.Arguments.{bounded}
 use Rattle.wf_fn_math.specs.Comparison.{equals_row, greater_row, greater_or_equals_row, less_row, less_or_equals_row, not_row}
-use Rattle.wf_fn_math.proofs.RowValues.{yes, no, plus, minus, greatest, least, word, items, fields}
+use Rattle.wf_val.proofs.RowValues.{yes, no, plus, minus, greatest, least, word, items, fields}
 use Rattle.wf_val.specs.ValueTree.{null, boolean, text}
 use Rattle.wf_val.specs.declared.fault.EvalFault.{EvalFault}
 use Rattle.wf_val.specs.declared.function.Fun.{Fun}

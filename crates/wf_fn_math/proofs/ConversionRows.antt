@@ -1,7 +1,7 @@
 -- Rows of the functions int, bool and isInt.
 use Rattle.std.proofs.Common.{◌≡◌, refl, [], ◌∷◌, Ok, Err}
 use Rattle.wf_fn_math.specs.Conversion.{int_row, bool_row, is_int_row}
-use Rattle.wf_fn_math.proofs.RowValues.{yes, no, plus, minus, greatest, least, word, items, fields}
+use Rattle.wf_val.proofs.RowValues.{yes, no, plus, minus, greatest, least, word, items, fields}
 use Rattle.wf_val.specs.ValueTree.{null, text}
 use Rattle.wf_val.specs.declared.fault.EvalFault.{EvalFault}
 use Rattle.wf_val.specs.declared.function.Fun.{Fun}

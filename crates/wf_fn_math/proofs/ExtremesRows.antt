@@ -1,7 +1,7 @@
 -- Rows of the functions min and max.
 use Rattle.std.proofs.Common.{◌≡◌, refl, [], ◌∷◌, Ok, Err}
 use Rattle.wf_fn_math.specs.Extremes.{min_row, max_row}
-use Rattle.wf_fn_math.proofs.RowValues.{yes, plus, minus, greatest, least, word, items, fields}
+use Rattle.wf_val.proofs.RowValues.{yes, plus, minus, greatest, least, word, items, fields}
 use Rattle.wf_val.specs.ValueTree.{null}
 use Rattle.wf_val.specs.declared.fault.EvalFault.{EvalFault}
 use Rattle.wf_val.specs.declared.function.Fun.{Fun}

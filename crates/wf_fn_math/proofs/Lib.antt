@@ -2,7 +2,6 @@ pub mod ExtremesLemmas
 pub mod ComparisonLemmas
 pub mod ConversionLemmas
 pub mod LawLemmas
-pub mod RowValues
 pub mod ArithmeticRows
 pub mod ExtremesRows
 pub mod ComparisonRows

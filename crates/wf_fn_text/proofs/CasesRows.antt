@@ -3,7 +3,7 @@ use lib.Utf8.{encode}
 use Rattle.std.proofs.Common.{◌≡◌, refl, [], ◌∷◌, Ok, Err}
 use Rattle.std.specs.Str.{chars, trim_start, trim_end}
 use Rattle.wf_fn_text.specs.Cases.{to_lower_row, to_upper_row, trim_row}
-use Rattle.wf_fn_text.proofs.RowValues.{yes, plus, word, items}
+use Rattle.wf_val.proofs.RowValues.{yes, plus, word, items}
 use Rattle.wf_val.specs.ValueTree.{null, text}
 use Rattle.wf_val.specs.declared.fault.EvalFault.{EvalFault}
 use Rattle.wf_val.specs.declared.function.Fun.{Fun}

@@ -1,7 +1,7 @@
 -- Rows of the function concat.
 use Rattle.std.proofs.Common.{◌≡◌, refl, [], ◌∷◌, Ok}
 use Rattle.wf_fn_text.specs.Joining.{concat_row}
-use Rattle.wf_fn_text.proofs.RowValues.{word}
+use Rattle.wf_val.proofs.RowValues.{word}
 use Rattle.wf_val.specs.ValueTree.{text}
 
 -- concat

@@ -2,7 +2,6 @@ pub mod PieceLemmas
 pub mod PlaceLemmas
 pub mod LawLemmas
 pub mod ReplaceLemmas
-pub mod RowValues
 pub mod CasesRows
 pub mod JoiningRows
 pub mod PartsRows

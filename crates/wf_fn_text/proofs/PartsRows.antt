@@ -3,7 +3,7 @@ use lib.Utf8.{encode}
 use Rattle.std.proofs.Common.{◌≡◌, refl, [], ◌∷◌, Ok, Err}
 use Rattle.std.specs.Str.{chars}
 use Rattle.wf_fn_text.specs.Parts.{substring_row, slice_row}
-use Rattle.wf_fn_text.proofs.RowValues.{yes, plus, minus, greatest, least, word}
+use Rattle.wf_val.proofs.RowValues.{yes, plus, minus, greatest, least, word}
 use Rattle.wf_val.specs.ValueTree.{null, text}
 use Rattle.wf_val.specs.declared.fault.EvalFault.{EvalFault}
 use Rattle.wf_val.specs.declared.function.Fun.{Fun}

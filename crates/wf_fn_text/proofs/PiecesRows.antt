@@ -1,7 +1,7 @@
 -- Rows of the functions split and replace.
 use Rattle.std.proofs.Common.{◌≡◌, refl, [], ◌∷◌, Ok, Err}
 use Rattle.wf_fn_text.specs.Pieces.{split_row, replace_row}
-use Rattle.wf_fn_text.proofs.RowValues.{plus, word, items}
+use Rattle.wf_val.proofs.RowValues.{plus, word, items}
 use Rattle.wf_val.specs.ValueTree.{null, text}
 use Rattle.wf_val.specs.declared.fault.EvalFault.{EvalFault}
 use Rattle.wf_val.specs.declared.function.Fun.{Fun}

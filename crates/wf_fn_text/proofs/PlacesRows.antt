@@ -3,7 +3,7 @@ use lib.Utf8.{encode}
 use Rattle.std.proofs.Common.{◌≡◌, refl, [], ◌∷◌, Ok, Err}
 use Rattle.std.specs.Str.{chars}
 use Rattle.wf_fn_text.specs.Places.{starts_with_row, ends_with_row, index_of_row, last_index_of_row}
-use Rattle.wf_fn_text.proofs.RowValues.{yes, no, plus, minus, word}
+use Rattle.wf_val.proofs.RowValues.{yes, no, plus, minus, word}
 use Rattle.wf_val.specs.ValueTree.{null, text}
 use Rattle.wf_val.specs.declared.fault.EvalFault.{EvalFault}
 use Rattle.wf_val.specs.declared.function.Fun.{Fun}

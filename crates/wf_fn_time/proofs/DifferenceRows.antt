@@ -6,7 +6,7 @@ use Rattle.jiff_core.specs.Calendar.{days_of_months}
 use Rattle.wf_fn_time.specs.Calendar.{day_at, days_of_first_years}
 use Rattle.std.specs.Fmt.{digits}
 use Rattle.wf_fn_time.specs.Difference.{date_difference_row}
-use Rattle.wf_fn_time.proofs.RowValues.{plus, word}
+use Rattle.wf_val.proofs.RowValues.{plus, word}
 use Rattle.wf_val.specs.ValueTree.{null}
 use Rattle.wf_val.specs.declared.fault.EvalFault.{EvalFault}
 use Rattle.wf_val.specs.declared.function.Fun.{Fun}

@@ -5,7 +5,7 @@ use Rattle.std.specs.Str.{chars}
 use Rattle.jiff_core.specs.Calendar.{days_of_months}
 use Rattle.wf_fn_time.specs.Calendar.{day_at, days_of_first_years}
 use Rattle.wf_fn_time.specs.Formatting.{format_date_time_row, start_of_day_row, start_of_hour_row, start_of_month_row}
-use Rattle.wf_fn_time.proofs.RowValues.{plus, word}
+use Rattle.wf_val.proofs.RowValues.{plus, word}
 use Rattle.wf_val.specs.ValueTree.{null, boolean}
 use Rattle.wf_val.specs.declared.fault.EvalFault.{EvalFault}
 use Rattle.wf_val.specs.declared.function.Fun.{Fun}

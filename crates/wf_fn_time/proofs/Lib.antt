@@ -3,7 +3,6 @@ pub mod ReadingLemmas
 pub mod PatternLemmas
 pub mod LawLemmas
 pub mod RoundTripLemmas
-pub mod RowValues
 pub mod NamesRows
 pub mod ReadingRows
 pub mod PatternRows

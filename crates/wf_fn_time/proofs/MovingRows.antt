@@ -5,7 +5,7 @@ use Rattle.std.specs.Str.{chars}
 use Rattle.jiff_core.specs.Calendar.{days_of_months}
 use Rattle.wf_fn_time.specs.Calendar.{day_at, days_of_first_years}
 use Rattle.wf_fn_time.specs.Moving.{add_days_row, add_hours_row, add_minutes_row, add_seconds_row, add_to_time_row, subtract_from_time_row}
-use Rattle.wf_fn_time.proofs.RowValues.{plus, minus, greatest, least, word}
+use Rattle.wf_val.proofs.RowValues.{plus, minus, greatest, least, word}
 use Rattle.wf_val.specs.ValueTree.{null, boolean}
 use Rattle.wf_val.specs.declared.fault.EvalFault.{EvalFault}
 use Rattle.wf_val.specs.declared.function.Fun.{Fun}

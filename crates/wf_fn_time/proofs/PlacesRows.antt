@@ -5,7 +5,7 @@ use Rattle.std.specs.Str.{chars}
 use Rattle.jiff_core.specs.Calendar.{days_of_months}
 use Rattle.wf_fn_time.specs.Calendar.{day_at, days_of_first_years}
 use Rattle.wf_fn_time.specs.Places.{day_of_month_row, day_of_year_row, day_of_week_row, ticks_row}
-use Rattle.wf_fn_time.proofs.RowValues.{plus, word}
+use Rattle.wf_val.proofs.RowValues.{plus, word}
 use Rattle.wf_val.specs.ValueTree.{null}
 use Rattle.wf_val.specs.declared.fault.EvalFault.{EvalFault}
 use Rattle.wf_val.specs.declared.function.Fun.{Fun}

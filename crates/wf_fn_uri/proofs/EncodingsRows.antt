@@ -4,7 +4,7 @@ use Rattle.base64.proofs.OnLiterals.{base64_on_literals}
 use Rattle.std.proofs.Common.{◌≡◌, refl, [], ◌∷◌, Ok, Err}
 use Rattle.std.specs.Str.{chars, is_utf8}
 use Rattle.wf_fn_uri.specs.Encodings.{base64_row, from_base64_row, data_uri_row, from_data_uri_row}
-use Rattle.wf_fn_uri.proofs.RowValues.{yes, plus, word, items}
+use Rattle.wf_val.proofs.RowValues.{yes, plus, word, items}
 use Rattle.wf_val.specs.ValueTree.{null, text}
 use Rattle.wf_val.specs.declared.fault.EvalFault.{EvalFault}
 use Rattle.wf_val.specs.declared.function.Fun.{Fun}

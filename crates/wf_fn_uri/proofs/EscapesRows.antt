@@ -4,7 +4,7 @@ use Rattle.percent_encoding.proofs.OnLiterals.{percent_encoding_on_literals}
 use Rattle.std.proofs.Common.{◌≡◌, refl, [], ◌∷◌, Ok, Err}
 use Rattle.std.specs.Str.{chars, is_utf8}
 use Rattle.wf_fn_uri.specs.Escapes.{escaped_row, unescaped_row}
-use Rattle.wf_fn_uri.proofs.RowValues.{plus, word}
+use Rattle.wf_val.proofs.RowValues.{plus, word}
 use Rattle.wf_val.specs.ValueTree.{null, text}
 use Rattle.wf_val.specs.declared.fault.EvalFault.{EvalFault}
 use Rattle.wf_val.specs.declared.function.Fun.{Fun}

@@ -1,7 +1,6 @@
 pub mod EscapeLemmas
 pub mod DataUriLemmas
 pub mod LawLemmas
-pub mod RowValues
 pub mod EscapesRows
 pub mod EncodingsRows
 pub mod PartsRows

@@ -2,7 +2,7 @@
 use Rattle.url.proofs.OnLiterals.{url_on_literals}
 use Rattle.std.proofs.Common.{◌≡◌, refl, [], ◌∷◌, Ok, Err}
 use Rattle.wf_fn_uri.specs.Parts.{of_url, scheme_of, host_of, path_of, query_of, path_and_query_of, port_of}
-use Rattle.wf_fn_uri.proofs.RowValues.{plus, minus, word}
+use Rattle.wf_val.proofs.RowValues.{plus, minus, word}
 use Rattle.wf_val.specs.ValueTree.{null}
 use Rattle.wf_val.specs.declared.fault.EvalFault.{EvalFault}
 use Rattle.wf_val.specs.declared.function.Fun.{Fun}

@@ -10,3 +10,4 @@ pub mod CharacterLemmas
 pub mod ArityRows
 pub mod NameRows
 pub mod ValueRows
+pub mod RowValues
