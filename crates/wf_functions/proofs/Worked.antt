@@ -14,7 +14,7 @@ use Rattle.wf_val.specs.declared.function.Fun.{Fun}
 use Rattle.wf_fn_time.specs.Calendar.{day_at, days_of_first_years}
 use Rattle.wf_functions.specs.declared.draw.Draw.{Draw}
 use Rattle.wf_functions.specs.declared.draw.GuidForm.{GuidForm}
-use Rattle.wf_functions.specs.Draws.{made}
+use Rattle.wf_functions.specs.Draws.{draw_of, made}
 use Rattle.wf_functions.specs.Rows.{strict_row}
 use Rattle.wf_functions.specs.Timed.{timed_row}
 use Rattle.wf_functions.specs.Words.{word_of}
@@ -87,6 +87,21 @@ getFutureTime-pattern_first :
 unfolding chars encode day_at days_of_first_years days_of_months
 getFutureTime-pattern_first = refl
 
+-- the types are judged from left to right, so a unit that is no text comes before such a pattern
+getFutureTime-unit_is_no_text : at_one Fun.GetFutureTime (int (pos 1) ∷ int (pos 2) ∷ int (pos 3) ∷ []) ≡ Err (EvalFault.WrongType Fun.GetFutureTime 2)
+getFutureTime-unit_is_no_text = refl
+
+getPastTime-unit_is_no_text : at_one Fun.GetPastTime (int (pos 1) ∷ int (pos 2) ∷ int (pos 3) ∷ []) ≡ Err (EvalFault.WrongType Fun.GetPastTime 2)
+getPastTime-unit_is_no_text = refl
+
+getFutureTime-number_is_none : at_one Fun.GetFutureTime (word (codes "1") ∷ int (pos 2) ∷ []) ≡ Err (EvalFault.WrongType Fun.GetFutureTime 1)
+getFutureTime-number_is_none = refl
+
+getFutureTime-pattern_is_no_text :
+    at_one Fun.GetFutureTime (int (pos 1) ∷ word (codes "Days") ∷ int (pos 3) ∷ [])
+    ≡ Err (EvalFault.WrongType Fun.GetFutureTime 3)
+getFutureTime-pattern_is_no_text = refl
+
 getPastTime-earlier : at_one Fun.GetPastTime (int (pos 30) ∷ word (codes "Minute") ∷ []) ≡ Ok (text (codes "0001-01-01T00:30:00.0000000Z"))
 unfolding chars encode day_at days_of_first_years days_of_months
 getPastTime-earlier = refl
@@ -102,6 +117,17 @@ getPastTime-before_year_1 = refl
 getPastTime-farthest : at_one Fun.GetPastTime (int (negsuc (2 ^ 63 - 1)) ∷ word (codes "Year") ∷ []) ≡ Err (EvalFault.Range Fun.GetPastTime)
 unfolding chars encode day_at days_of_first_years days_of_months
 getPastTime-farthest = refl
+
+-- ---- what is to be made of a word: the bounds of `rand` are judged from left to right
+
+rand-neither_is_a_number : draw_of Fun.Rand (word (codes "x") ∷ word (codes "y") ∷ []) ≡ Err (EvalFault.WrongType Fun.Rand 1)
+rand-neither_is_a_number = refl
+
+rand-least_is_no_number : draw_of Fun.Rand (word (codes "x") ∷ int (pos 1) ∷ []) ≡ Err (EvalFault.WrongType Fun.Rand 1)
+rand-least_is_no_number = refl
+
+rand-end_is_no_number : draw_of Fun.Rand (int (pos 1) ∷ word (codes "y") ∷ []) ≡ Err (EvalFault.WrongType Fun.Rand 2)
+rand-end_is_no_number = refl
 
 -- ---- a word: of the seed, the place and the number itself, with a zero byte between
 
