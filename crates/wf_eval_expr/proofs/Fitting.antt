@@ -183,6 +183,8 @@ called-fits l f es rs fit Way.Chosen n = if_run-fits rs fit n
 called-fits l f es rs fit Way.Early n = early-fits f rs fit 0 n
 called-fits l f es rs fit Way.Joined n =
     given-good (all_after rs [] n).0 joined_row (λ ts. fitted-good (strict_row Fun.Concat (map as_text ts)))
+called-fits l f es rs fit Way.Collected n =
+    given-good (all_after rs [] n).0 (λ ts. fitted (strict_row Fun.CreateArray ts)) (λ ts. fitted-good (strict_row Fun.CreateArray ts))
 called-fits l f es rs fit Way.Named n = fitted-good (named_by l f (literal_name es))
 called-fits l f es rs fit Way.Told n = fitted-good (told_row l f)
 called-fits l f es rs fit Way.Timed n =

@@ -83,6 +83,7 @@ pub called-grows : (l : Told) (f : Fun) (es : ExprTrees) (rs : List Run) → Are
 called-grows l f es rs grow Way.Chosen n = if_run-grows rs grow n
 called-grows l f es rs grow Way.Early n = early-grows f rs grow 0 n
 called-grows l f es rs grow Way.Joined n = all_after-grows rs grow [] n
+called-grows l f es rs grow Way.Collected n = all_after-grows rs grow [] n
 called-grows l f es rs grow Way.Named n = le_refl n
 called-grows l f es rs grow Way.Told n = le_refl n
 called-grows l f es rs grow Way.Timed n = all_after-grows rs grow [] n

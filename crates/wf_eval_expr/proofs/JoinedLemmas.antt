@@ -35,7 +35,7 @@ texts-snoc : (done : List ValueTree) (t : ValueTree) → texts_of (done ++ t ∷
 texts-snoc done t = flat_map-append json_text.text done (t ∷ []) ∙ ap (λ x. texts_of done ++ x) (append-nil (json_text.text t))
 
 -- what was tested passes the test again
-fitted-again : (t : ValueTree) → fitted (bounded t) ≡ bounded t
+pub fitted-again : (t : ValueTree) → fitted (bounded t) ≡ bounded t
 fitted-again t = go (fits t) refl
   where
     go : (b : Bool) → fits t ≡ b →

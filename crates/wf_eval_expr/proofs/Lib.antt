@@ -4,6 +4,8 @@ pub mod Loops
 mod Chains
 pub mod MeasuredLemmas
 mod JoinedLemmas
+mod FoldLemmas
+mod CollectedLemmas
 pub mod Fitting
 pub mod Local
 mod MomentsAndWords

@@ -3,4 +3,5 @@ pub mod Value
 pub mod Seen
 pub mod Joined
 pub mod MeasuredRuns
+pub mod Folded
 pub mod Uses

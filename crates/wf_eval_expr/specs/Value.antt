@@ -55,6 +55,7 @@ abbrev pub called : Told → Fun → ExprTrees → List Run → Way → Run
 called l f es rs Way.Chosen n = if_run rs n
 called l f es rs Way.Early n = early f rs 0 n
 called l f es rs Way.Joined n = strictly joined_row rs n
+called l f es rs Way.Collected n = strictly (λ ts. fitted (strict_row Fun.CreateArray ts)) rs n
 called l f es rs Way.Named n = (fitted (named_by l f (literal_name es)), n)
 called l f es rs Way.Told n = (fitted (told_row l f), n)
 called l f es rs Way.Timed n = strictly (λ ts. fitted (timed_row f l.moment ts)) rs n

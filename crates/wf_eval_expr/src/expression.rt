@@ -7,7 +7,8 @@ ghost use Rattle.wf_template.specs.ChainSeen.{start_tree};
 ghost use Rattle.wf_template.specs.ExprSeen.{expr_tree};
 ghost use Rattle.wf_look.specs.Meets.{Meets};
 ghost use Rattle.wf_look.specs.Outcomes.{all_after, strictly};
-ghost use Rattle.wf_functions.specs.Rows.{fitted, joined_row};
+ghost use Rattle.wf_functions.specs.Rows.{fitted, strict_row, joined_row};
+ghost use Rattle.wf_val.specs.declared.function.Fun.{Fun};
 ghost use Rattle.wf_look.specs.Args.{args_tree};
 ghost use Rattle.wf_eval_expr.specs.Seen.{accessed_run};
 ghost use Rattle.wf_eval_expr.specs.Value.{value, runs, called, called_by, if_run, early, drawn_run};
@@ -16,7 +17,7 @@ ghost use Rattle.wf_eval_expr.specs.Ways.{way_of};
 use crate::way::{Way, way_of};
 use std::alloc::Global;
 use wf_calls::function_named;
-use wf_functions::{strict_row, timed_row};
+use wf_functions::{Collected, strict_row, timed_row};
 use wf_look::{
     Look, Measured, as_text, at_end, drawn_by, index_of, member_of, named_by, stop, told_row,
 };
@@ -125,6 +126,7 @@ fn eval_known<L: Look>(
         Way::Chosen => eval_if(alloc, args, look),
         Way::Early => eval_early(alloc, function, args, look),
         Way::Joined => eval_joined(alloc, args, look),
+        Way::Collected => eval_collected(alloc, args, look),
         Way::Named => fitted(named_by(alloc, look, function, args)),
         Way::Told => fitted(told_row(alloc, look, function)),
         Way::Timed => {
@@ -203,6 +205,22 @@ fn eval_joined<L: Look>(alloc: Global, args: &[Expr], look: &mut L) -> Result<Va
         text.push(part.as_str())?;
     }
     text.answer()
+}
+
+// The values of all as a list, which is `createArray`. No more of them are kept than fit.
+#[cycle(eval)]
+fn eval_collected<L: Look>(alloc: Global, args: &[Expr], look: &mut L) -> Result<Val, EvalFault>
+    ensures value { Meets (seen result)
+        (strictly (λ ts. fitted (strict_row Fun.CreateArray ts)) (runs (L.told look.old) (args_tree args.now)) (L.drawn look.old))
+        (L.drawn look.new) }
+    ensures same { L.told look.new ≡ L.told look.old }
+    ensures held { L.held look.new ≡ L.held look.old }
+{
+    let mut items = Collected::new(alloc);
+    for arg in args {
+        items.push(eval_expr(alloc, arg, look)?)?;
+    }
+    items.answer()
 }
 
 // Only the chosen arm.

@@ -2,3 +2,4 @@ pub mod Words
 pub mod Rows
 pub mod Timed
 pub mod Draws
+pub mod Collected

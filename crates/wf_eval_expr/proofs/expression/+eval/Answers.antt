@@ -5,11 +5,14 @@ use Rattle.wf_template.specs.ChainSeen.{start_tree, chain_tree}
 use Rattle.wf_template.specs.ExprCounts.{expr_count}
 use Rattle.wf_template.specs.ExprSeen.{expr_tree}
 use Rattle.wf_template.proofs.ChainLemmas.{key_count, base_le_built}
+use Rattle.wf_functions.specs.Collected.{nothing, with_item, collected_answer}
 use Rattle.wf_look.specs.Args.{args_tree}
 use Rattle.wf_eval_expr.specs.Value.{runs}
 use Rattle.wf_eval_expr.proofs.Grow.{value-grows, handed_draw}
 use Rattle.wf_eval_expr.proofs.Chains.{fault_of_start, fault_of_access, start_value, access_value, through, keys_count, keys_count-snoc}
 use Rattle.wf_eval_expr.proofs.Chains.{keys_le_built}
+use Rattle.wf_eval_expr.proofs.CollectedLemmas.{collected-whole}
+use Rattle.wf_eval_expr.proofs.FoldLemmas.{fault_folded, memory_folded, folded_end}
 use Rattle.wf_eval_expr.proofs.JoinedLemmas.{fault_texts, memory_texts, texts_end, some-argument}
 use Rattle.wf_eval_expr.proofs.Loops.{count-item, fault_all, memory_all, early_stops, early_goes_on, early_ends, fault_if, if-few}
 use Rattle.wf_eval_expr.proofs.Meeting.{of_memory, of_fault}
@@ -45,6 +48,26 @@ eval_joined-returns-in_err-push-clause-value g t c =
 pub eval_joined-returns-clause-value : goal.eval_joined-returns-clause-value
 eval_joined-returns-clause-value g t c =
     texts_end _ _ _ _ _ _ _ (some-argument c.args.args.now (sym c.is_empty.ensures ∙ c.if-is_empty.false)) c.loop-arg-test.false
+    c.loop-arg.invariant.so_far c.answer.ensures
+
+pub eval_collected-eval_expr-requires : goal.eval_collected-eval_expr-requires
+eval_collected-eval_expr-requires g t c = let le = count-item _ _ _ c.loop-arg-test.true c.arg-item.is in search (rules, arith)
+
+pub eval_collected-returns-in_err-eval_expr-clause-value : goal.eval_collected-returns-in_err-eval_expr-clause-value
+eval_collected-returns-in_err-eval_expr-clause-value g t c =
+    let p = err_from_is_err_and c.from_residual.result c.from_residual.ensures.1 in
+    rw (p.1, p.2) (fault_folded with_item collected_answer nothing _ _ _ _ _ _ _ _ _ _ _ (collected-whole _ _ _)
+    c.loop-arg-test.true c.arg-item.is c.loop-arg.invariant.same c.loop-arg.invariant.so_far c.in_err-eval_expr.ensures.value)
+
+pub eval_collected-returns-in_err-push-clause-value : goal.eval_collected-returns-in_err-push-clause-value
+eval_collected-returns-in_err-push-clause-value g t c =
+    let p = err_from_is_err_and c.from_residual-in_err-push.result c.from_residual-in_err-push.ensures.1 in
+    rw (p.1, p.2) (memory_folded with_item collected_answer nothing _ _ _ _ _ _ _ _ _ _ (collected-whole _ _ _)
+    c.loop-arg-test.true c.arg-item.is c.loop-arg.invariant.same c.loop-arg.invariant.so_far c.in_ok-eval_expr.ensures.value.1)
+
+pub eval_collected-returns-clause-value : goal.eval_collected-returns-clause-value
+eval_collected-returns-clause-value g t c =
+    folded_end with_item collected_answer nothing _ _ _ _ _ _ _ _ (collected-whole _ _ _) c.loop-arg-test.false
     c.loop-arg.invariant.so_far c.answer.ensures
 
 pub eval_all-returns-in_err-eval_expr-clause-values : goal.eval_all-returns-in_err-eval_expr-clause-values

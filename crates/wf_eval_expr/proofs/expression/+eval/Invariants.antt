@@ -6,6 +6,8 @@ use Rattle.wf_template.specs.ChainSeen.{start_tree}
 use Rattle.wf_template.proofs.ChainLemmas.{key_count}
 use Rattle.wf_look.specs.Args.{args_tree}
 use Rattle.wf_eval_expr.specs.Seen.{chained}
+use Rattle.wf_functions.specs.Collected.{nothing, with_item}
+use Rattle.wf_eval_expr.specs.Folded.{folded}
 use Rattle.wf_eval_expr.specs.MeasuredRuns.{measured}
 use Rattle.wf_look.specs.Outcomes.{all_after}
 use Rattle.wf_eval_expr.specs.Value.{value, runs, early}
@@ -45,6 +47,16 @@ invariant-eval_joined-loop-arg g l = record {
   held : g.L.Look.held l.look ≡ g.L.Look.held l.initial.look;
 }
 
+-- what the arguments that are left make behind the items so far is the whole
+abbrev pub invariant-eval_collected-loop-arg : goal.invariant-eval_collected-loop-arg
+invariant-eval_collected-loop-arg g l = record {
+  so_far :
+      folded with_item (runs (g.L.Look.told l.initial.look) (args_tree (drop l.arg-index l.args))) l.items (g.L.Look.drawn l.look)
+      ≡ folded with_item (runs (g.L.Look.told l.initial.look) (args_tree l.args)) nothing (g.L.Look.drawn l.initial.look);
+  same : g.L.Look.told l.look ≡ g.L.Look.told l.initial.look;
+  held : g.L.Look.held l.look ≡ g.L.Look.held l.initial.look;
+}
+
 abbrev pub invariant-eval_early-loop-arg : goal.invariant-eval_early-loop-arg
 invariant-eval_early-loop-arg g l = record {
   so_far :
@@ -78,6 +90,9 @@ decreases-eval_all g l = 8 * exprs_count (args_tree l.args.now) + 1
 
 abbrev pub decreases-eval_joined : goal.decreases-eval_joined
 decreases-eval_joined g l = 8 * exprs_count (args_tree l.args.now) + 1
+
+abbrev pub decreases-eval_collected : goal.decreases-eval_collected
+decreases-eval_collected g l = 8 * exprs_count (args_tree l.args.now) + 1
 
 abbrev pub decreases-eval_if : goal.decreases-eval_if
 decreases-eval_if g l = 8 * exprs_count (args_tree l.args.now) + 1
