@@ -236,6 +236,11 @@ wrong-outputs_65 : IsWrongAt (with (codes "outputs") (nested 65)) (codes "/outpu
 unfolding computed
 wrong-outputs_65 = refl
 
+-- outputs fit as a whole, and not each of their members
+wrong-outputs_member_64 : IsWrongAt (with (codes "outputs") (of ((codes "a", nested 64) ∷ []))) (codes "/outputs")
+unfolding computed
+wrong-outputs_member_64 = refl
+
 wrong-parameters_null : IsWrongAt (with (codes "parameters") (null)) (codes "/parameters")
 unfolding computed
 wrong-parameters_null = refl
@@ -255,6 +260,10 @@ right-parameter_64 = refl
 wrong-parameter_65 : IsWrongAt (with (codes "parameters") (of ((codes "p", nested 65) ∷ []))) (codes "/parameters/p")
 unfolding computed
 wrong-parameter_65 = refl
+
+wrong-parameter_member_64 : IsWrongAt (with (codes "parameters") (of ((codes "p", of ((codes "a", nested 64) ∷ [])) ∷ []))) (codes "/parameters/p")
+unfolding computed
+wrong-parameter_member_64 = refl
 
 wrong-parameters_two :
     IsWrongAt (with (codes "parameters") (of ((codes "a/b~c", nested 65) ∷ (codes "p", nested 65) ∷ []))) (codes "/parameters/a~1b~0c")
@@ -426,6 +435,10 @@ right-body_64 = refl
 wrong-body_65 : IsWrongAt (answer_with (codes "body") (nested 65)) (codes "/answers/0/body")
 unfolding computed
 wrong-body_65 = refl
+
+wrong-body_member_64 : IsWrongAt (answer_with (codes "body") (of ((codes "a", nested 64) ∷ []))) (codes "/answers/0/body")
+unfolding computed
+wrong-body_member_64 = refl
 
 -- ---- which of several places is named: the least by bytes
 

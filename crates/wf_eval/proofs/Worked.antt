@@ -1,5 +1,5 @@
 -- Values of templates, trees and conditions, where a reader can work them out: each fault with its function and place, and each edge.
-use Rattle.std.proofs.Common.{◌≡◌, refl, List, [], ◌∷◌, Ok, Err, true, false}
+use Rattle.std.proofs.Common.{◌≡◌, ℕ, refl, List, [], ◌∷◌, Ok, Err, true, false}
 use Rattle.std.specs.Prelude.{pos, codes}
 use Rattle.wf_val.specs.ValueTree.{null, boolean, text, object, members}
 use Rattle.wf_val.specs.declared.fault.EvalFault.{EvalFault}
@@ -51,6 +51,10 @@ parts-leftmost :
     ≡ (Err (EvalFault.Range Fun.Mod), 7)
 parts-leftmost = refl
 
+-- no text in between is tested: any literal text, however long, goes on to the fault behind it
+parts-literal_untested : (s : List ℕ) → template_value somewhere (parts (letters s ∷ part by_zero ∷ [])) 7 ≡ (Err (EvalFault.Range Fun.Div), 7)
+parts-literal_untested s = refl
+
 -- ---- trees
 
 tree-object :
@@ -75,6 +79,18 @@ tree-fault_before_size :
     tree_here (items_of (that (literal (nested 64)) ∷ that by_zero ∷ []))
     ≡ (Err (EvalFault.Range Fun.Div), 7)
 tree-fault_before_size = refl
+
+-- an object is tested once all its members have values, and not with each of them
+tree-object_tested_last :
+    tree_here (members_of ((codes "a", that (literal (nested 64))) ∷ (codes "b", that by_zero) ∷ []))
+    ≡ (Err (EvalFault.Range Fun.Div), 7)
+tree-object_tested_last = refl
+
+tree-object_fits : tree_here (members_of ((codes "a", that (literal (nested 63))) ∷ [])) ≡ (Ok (object (members ((codes "a", nested 63) ∷ []))), 7)
+tree-object_fits = refl
+
+tree-object_too_deep : tree_here (members_of ((codes "a", that (literal (nested 64))) ∷ [])) ≡ (Err (EvalFault.TooBig 65 68), 7)
+tree-object_too_deep = refl
 
 -- ---- conditions
 
