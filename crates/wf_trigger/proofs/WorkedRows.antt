@@ -1,6 +1,7 @@
 -- The definitions at worked triggers, parameters and inputs.
-use Rattle.std.proofs.Common.{◌≡◌, ℕ, List, [], ◌∷◌, true, false, Some, None, Option, Ok, Err, Result, pos, refl, bytes_eq}
+use Rattle.std.proofs.Common.{◌≡◌, ℕ, List, [], ◌∷◌, length, map, true, false, Some, None, Option, Ok, Err, Result, pos, refl, bytes_eq}
 use Rattle.std.specs.Fmt.{digits}
+use Rattle.std.specs.List.{filter}
 use Rattle.std.specs.Prelude.{codes, if◌then◌else◌}
 use Rattle.wf_answers.specs.Inputs.{InputsTree}
 use Rattle.wf_def.specs.DefTree.{ParamTree, TriggerTree}
@@ -8,12 +9,13 @@ use Rattle.wf_def.specs.declared.sort.Sort.{Sort}
 use Rattle.wf_template.specs.ExprTree.{ExprTree, literal, call, expr_trees}
 use Rattle.wf_template.specs.TemplateTree.{TemplateTree, plain, whole}
 use Rattle.wf_trigger.specs.Choosing.{chosen}
-use Rattle.wf_trigger.specs.Parameters.{parameters_of}
+use Rattle.wf_trigger.specs.Parameters.{is_of, parameters_of}
 use Rattle.wf_trigger.specs.Runs.{runs_of, started, value_in}
+use Rattle.wf_trigger.specs.Splitting.{items_in}
 use Rattle.wf_trigger.specs.Starts.{StartTree}
 use Rattle.wf_trigger.specs.declared.fault.TriggerFault.{TriggerFault}
 use Rattle.wf_val.specs.Arguments.{Answer, wrong_type}
-use Rattle.wf_val.specs.ValueTree.{ValueTree, null, boolean, number, text, list, object, trees, members, Member}
+use Rattle.wf_val.specs.ValueTree.{ValueTree, ValueTrees, null, boolean, number, text, list, object, trees, items, members, Member}
 use Rattle.wf_val.specs.declared.fault.EvalFault.{EvalFault}
 use Rattle.wf_val.specs.declared.function.Fun.{Fun}
 
@@ -253,3 +255,25 @@ value-unequal = refl
 
 value-no_variable : called (codes "variables") (literal (text (codes "v")) ∷ []) ≡ Err (EvalFault.NoValue (codes "v"))
 value-no_variable = refl
+
+-- the run's name is that of the inputs, before any split
+value-run_name : called (codes "workflow") [] ≡ Ok (of ((codes "name", text (codes "workflow")) ∷
+    (codes "run", of ((codes "name", text (codes "r1")) ∷ [])) ∷ []))
+value-run_name = refl
+
+-- ---- each type has values of one kind alone
+
+abbrev one_of_each_kind : List ValueTree
+one_of_each_kind = null ∷ boolean false ∷ n 1 ∷ text (codes "true") ∷ list (trees (n 1 ∷ [])) ∷ of ((codes "a", n 1) ∷ []) ∷ []
+
+of_type : map (λ sort. filter (is_of sort) one_of_each_kind) (Sort.Bool ∷ Sort.Int ∷ Sort.Text ∷ Sort.List ∷ Sort.Obj ∷ []) ≡
+    (boolean false ∷ []) ∷ (n 1 ∷ []) ∷ (text (codes "true") ∷ []) ∷ (list (trees (n 1 ∷ [])) ∷ []) ∷ (of ((codes "a", n 1) ∷ []) ∷ []) ∷ []
+of_type = refl
+
+-- ---- a split has at most 100,000 items
+
+split-most : (ts : ValueTrees) → length (items ts) ≡ 100000 → items_in (list ts) ≡ Ok (items ts)
+split-most ts is = rw is refl
+
+split-one_too_many : (ts : ValueTrees) → length (items ts) ≡ 100001 → items_in (list ts) ≡ Err (TriggerFault.SplitTooLong 100001)
+split-one_too_many ts is = rw is refl
