@@ -1,0 +1,5 @@
+pub mod SchemaForm
+pub mod Keywords
+pub mod Reading
+pub mod Asked
+pub mod Fails
