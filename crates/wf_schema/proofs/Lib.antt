@@ -1,3 +1,4 @@
 pub mod OwnLemmas
 pub mod FlawLemmas
-mod WorkedRows
+mod FormRows
+mod FailRows
