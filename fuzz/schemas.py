@@ -5,8 +5,9 @@
   fuzz/schemas.py --owed <crates/schema_rows/stdin >crates/schema_rows/stdout
 
 The first makes rows and runs crates/schema_rows/out/schema_rows, or the program of PATH, once on all of them. The second writes what the
-rows owe. What a row means stands at the head of crates/schema_rows/src/main.rt. The judge lists all places by docs/DEFINITIONS.md and takes the
-least at the end. It fails where fewer than one row in ten each is no schema, fails and passes. The last line is 'N passed, M failed'."""
+rows owe. What a row means stands at the head of crates/schema_rows/src/main.rt. The judge, which is apart from the program, lists all places
+by docs/DEFINITIONS.md and takes the least at the end. It fails too where of one row in ten or fewer the first is no schema, or the value
+fails, or passes. The last line is 'N passed, M failed'."""
 import argparse
 import collections
 import os
