@@ -1,4 +1,5 @@
 pub mod OwnLemmas
 pub mod FlawLemmas
+pub mod MismatchLemmas
 mod FormRows
 mod FailRows

@@ -3,3 +3,4 @@ pub mod Keywords
 pub mod Reading
 pub mod Asked
 pub mod Fails
+pub mod Mismatch

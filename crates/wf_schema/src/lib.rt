@@ -9,6 +9,8 @@
 //! and takes no memory. `mismatch` tells the least place at which a value isn't as a schema asks. Places are pointers
 //! (RFC 6901), and the least is that of their order by bytes.
 //!
+//! `places_are_where_a_value_fails` is a law, with no code: what a mismatch is, cause by cause.
+//!
 //! No schema is fetched, and none is named from inside another: `$ref`, `format`, patterns, and bounds of numbers and
 //! lengths are among the members that are ignored.
 #![tactic(auto)]
@@ -16,11 +18,13 @@
 mod asked;
 mod fault;
 mod keywords;
+mod laws;
 mod part;
 mod schema;
 mod walk;
 
 pub use fault::SchemaFault;
 pub use keywords::is_schema;
+pub use laws::places_are_where_a_value_fails;
 pub use schema::Schema;
 pub use walk::mismatch;
