@@ -185,7 +185,7 @@ def ordered(actions):
 
 
 def row_of(name, status, code, inputs, error):
-    return {"at": [], "attempts": 0, "code": code, "error": error, "inputs": inputs, "name": name, "outputs": inputs, "status": status,
+    return {"at": [], "attempts": [], "code": code, "error": error, "inputs": inputs, "name": name, "outputs": inputs, "status": status,
             "tracked": {}}
 
 
@@ -233,7 +233,7 @@ def record(definition, digest, run):
     rows, view = rows_of(actions, run)
     outputs, fault = outputs_of(definition, run, view)
     made = {
-        "definition": digest, "error": None if fault is None else {"code": "InvalidTemplate", "message": fault}, "form": 1,
+        "definition": digest, "error": None if fault is None else {"code": "InvalidTemplate", "message": fault}, "form": 2,
         "outputs": outputs, "parameters": run["parameters"], "response": None,
         "rows": [rows[name] for name in sorted(rows, key=str.encode)],
         "run": run["run"], "status": status_of(actions, rows) if fault is None else "Failed", "trigger": run["trigger"],

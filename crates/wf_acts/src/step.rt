@@ -15,7 +15,7 @@ use crate::flat_look::FlatLook;
 use crate::value::value_in;
 use std::alloc::{AllocError, Global};
 use wf_json::fault_text;
-use wf_record::{Row, Status};
+use wf_record::{Row, Status, Tries};
 use wf_val::{Address, EvalFault, Fields, Indexes, Name, Text, Val};
 
 /// Whether the status is one of these.
@@ -52,7 +52,7 @@ pub fn skipped(alloc: Global, name: &Text) -> Result<Row, AllocError>
         outputs: Val::Null,
         error: Val::Null,
         tracked: Val::Obj(Fields::new(alloc)),
-        attempts: 0,
+        attempts: Tries::new(alloc),
     })
 }
 
@@ -68,7 +68,7 @@ fn composed(alloc: Global, name: &Text, inputs: Val) -> Result<Row, AllocError>
         inputs,
         error: Val::Null,
         tracked: Val::Obj(Fields::new(alloc)),
-        attempts: 0,
+        attempts: Tries::new(alloc),
     })
 }
 
@@ -84,7 +84,7 @@ fn faulted(alloc: Global, name: &Text, fault: &EvalFault) -> Result<Row, AllocEr
         outputs: Val::Null,
         error: Val::Text(fault_text(alloc, fault)?),
         tracked: Val::Obj(Fields::new(alloc)),
-        attempts: 0,
+        attempts: Tries::new(alloc),
     })
 }
 

@@ -5,6 +5,7 @@ use Rattle.wf_val.specs.ValueTree.{null, boolean, number, text, list, object, tr
 use Rattle.wf_val.specs.declared.fault.EvalFault.{EvalFault}
 use Rattle.wf_val.specs.declared.function.Fun.{Fun}
 use Rattle.wf_json.specs.FaultText.{fault_text}
+use Rattle.wf_record.specs.Worked.{called}
 use Rattle.wf_record.specs.declared.status.Status.TheVariants.{Succeeded, Failed, Skipped, TimedOut, Cancelled}
 use Rattle.wf_record.specs.declared.status.RunStatus.{RunStatus}
 use Rattle.wf_functions.specs.Draws.{number_in}
@@ -125,7 +126,7 @@ row-composed : composed (text (codes "hi")) ≡ record {
   outputs = text (codes "hi");
   error = null;
   tracked = object no_members;
-  attempts = 0;
+  attempts = [];
 }
 row-composed = refl
 
@@ -136,7 +137,7 @@ row-skipped : skipped ≡ record {
   outputs = null;
   error = null;
   tracked = object no_members;
-  attempts = 0;
+  attempts = [];
 }
 row-skipped = refl
 
@@ -170,7 +171,7 @@ row-faulted : faulted (EvalFault.WrongType Fun.Not 1) ≡ record {
   outputs = null;
   error = text (fault_text (EvalFault.WrongType Fun.Not 1));
   tracked = object no_members;
-  attempts = 0;
+  attempts = [];
 }
 row-faulted = refl
 
@@ -201,6 +202,16 @@ view-skipped : view_of (codes "A") skipped ≡ object (members (
     ∷ ((codes "inputs", null)
     ∷ ((codes "name", text (codes "A")) ∷ ((codes "outputs", null) ∷ ((codes "status", text (codes "Skipped")) ∷ [])))))))
 view-skipped = refl
+
+-- of a row whose members all differ, each at its own name; its address, its tracked properties and its attempts aren't seen
+view-called : view_of (codes "Send") called.row ≡ object (members (
+    (codes "code", text (codes "504"))
+    ∷ ((codes "error", text (codes "by hand"))
+    ∷ ((codes "inputs", text (codes "i"))
+    ∷ ((codes "name", text (codes "Send"))
+    ∷ ((codes "outputs", list (trees (boolean true ∷ (boolean false ∷ (null ∷ [])))))
+    ∷ ((codes "status", text (codes "TimedOut")) ∷ [])))))))
+view-called = refl
 
 -- ---- which names are before
 

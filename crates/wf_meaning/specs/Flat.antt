@@ -35,7 +35,7 @@ composed inputs = record {
   outputs = inputs;
   error = null;
   tracked = empty_object;
-  attempts = 0;
+  attempts = [];
 }
 
 -- the row of an action whose inputs have no value
@@ -47,7 +47,7 @@ faulted f = record {
   outputs = null;
   error = text (fault_text f);
   tracked = empty_object;
-  attempts = 0;
+  attempts = [];
 }
 
 -- the row of an action that doesn't run
@@ -59,7 +59,7 @@ skipped = record {
   outputs = null;
   error = null;
   tracked = empty_object;
-  attempts = 0;
+  attempts = [];
 }
 
 abbrev pub ended : Answer → Row

@@ -53,7 +53,7 @@ missed = action (codes "B") [] ∷ (action (codes "D") (need 0 (Succeeded ∷ []
 
 -- a row with a status
 abbrev pub ended : Status → Row
-ended status = record { status = status; code = []; inputs = null; outputs = null; error = null; tracked = null; attempts = 0 }
+ended status = record { status = status; code = []; inputs = null; outputs = null; error = null; tracked = null; attempts = [] }
 
 -- the first action has this row, and each other one that
 abbrev pub first_and_others : Status → Status → ℕ → Option Row

@@ -6,11 +6,12 @@ use Rattle.wf_lists.specs.KeyOrder.{find_key}
 use Rattle.wf_val.specs.Address.{address_cmp}
 use Rattle.wf_val.specs.ValueTree.{ValueTree, number, text, list, object, trees, members, Member}
 use Rattle.wf_val.specs.declared.address.Address.{Address}
+use Rattle.wf_record.specs.declared.attempt.Try.{Try}
 use Rattle.wf_record.specs.declared.status.Status.{Status}
 use Rattle.wf_record.specs.declared.status.RunStatus.{RunStatus}
 
 -- What is known of an action that has ended: its status and code, what it took in and gave out, the fault if there was
--- one, its tracked properties and the number of its attempts.
+-- one, its tracked properties and what its attempts came to.
 pub record Row : Type 0 where
   pub status : Status
   pub code : List ℕ
@@ -18,7 +19,7 @@ pub record Row : Type 0 where
   pub outputs : ValueTree
   pub error : ValueTree
   pub tracked : ValueTree
-  pub attempts : ℕ
+  pub attempts : List Try
 
 -- A row at its address: the action's name, and one iteration number for each loop round it.
 pub record RowTree : Type 0 where
@@ -66,11 +67,22 @@ index_value n = number (pos (min n (2 ^ 63 - 1)))
 abbrev pub at_value : List ℕ → ValueTree
 at_value at' = list (trees (map index_value at'))
 
+-- what an attempt came to: a status code, or a word where there is none
+abbrev pub try_value : Try → ValueTree
+try_value (Try.Code n) = number (pos n)
+try_value Try.NoConnection = text (codes "noConnection")
+try_value Try.TimedOut = text (codes "timedOut")
+try_value Try.NoAnswer = text (codes "noAnswer")
+try_value Try.Unknown = text (codes "unknown")
+
+abbrev pub attempts_value : List Try → ValueTree
+attempts_value tries = list (trees (map try_value tries))
+
 -- a row as a value, its members in byte order of their names
 abbrev pub row_value : RowTree → ValueTree
 row_value r = object (members (
     (codes "at", at_value r.address.at)
-    ∷ (codes "attempts", number (pos r.row.attempts))
+    ∷ (codes "attempts", attempts_value r.row.attempts)
     ∷ (codes "code", text r.row.code)
     ∷ (codes "error", r.row.error)
     ∷ (codes "inputs", r.row.inputs)
@@ -85,7 +97,7 @@ abbrev pub record_value : RecordTree → ValueTree
 record_value r = object (members (
     (codes "definition", text (encode_lower r.digest))
     ∷ (codes "error", r.error)
-    ∷ (codes "form", number (pos 1))
+    ∷ (codes "form", number (pos 2))
     ∷ (codes "outputs", r.outputs)
     ∷ (codes "parameters", object (members r.parameters))
     ∷ (codes "response", r.response)

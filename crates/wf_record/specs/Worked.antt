@@ -2,6 +2,7 @@
 use Rattle.std.specs.Prelude.{ℕ, zero, suc, pos, negsuc, true, false, List, [], ◌∷◌, codes}
 use Rattle.wf_val.specs.ValueTree.{ValueTree, null, boolean, number, text, list, object, trees, members, Member}
 use Rattle.wf_val.specs.declared.address.Address.{Address}
+use Rattle.wf_record.specs.declared.attempt.Try.{Try}
 use Rattle.wf_record.specs.declared.status.Status.{Status}
 use Rattle.wf_record.specs.declared.status.RunStatus.{RunStatus}
 use Rattle.wf_record.specs.Record.{Row, RowTree, RecordTree}
@@ -33,7 +34,7 @@ row_of status code inputs outputs error = record {
   outputs = outputs;
   error = error;
   tracked = object_of [];
-  attempts = 0;
+  attempts = [];
 }
 
 -- A has a value, whose name wants escapes.
@@ -50,18 +51,19 @@ failed = record {
   row = row_of Status.Failed (codes "InvalidTemplate") null null (text (codes "NoValue \"x\""));
 }
 
--- Call stands in two loops, and was called three times.
+-- Call stands in two loops, and was called three times. No two of its members are the same, and no two of their weights add up to
+-- that of another.
 abbrev pub called : RowTree
 called = record {
   address = at_rounds (codes "Call") (0 ∷ 12 ∷ []);
   row = record {
     status = Status.TimedOut;
     code = codes "504";
-    inputs = null;
-    outputs = list_of (boolean true ∷ boolean false ∷ []);
-    error = null;
-    tracked = null;
-    attempts = 3;
+    inputs = text (codes "i");
+    outputs = list_of (boolean true ∷ boolean false ∷ null ∷ []);
+    error = text (codes "by hand");
+    tracked = object_of ((codes "k", text (codes "twelve bytes")) ∷ []);
+    attempts = Try.Code 503 ∷ Try.NoConnection ∷ Try.TimedOut ∷ [];
   };
 }
 
@@ -100,3 +102,13 @@ empty = record {
 -- the outputs of an Until that went round so often
 abbrev pub rounds_told : ℕ → ValueTree
 rounds_told n = object_of ((codes "iterations", number_of n) ∷ [])
+
+-- loops: one over three items, and one that went round five times
+abbrev pub foreach : RowTree
+foreach = record {
+  address = at_rounds (codes "Each") [];
+  row = row_of Status.Succeeded (codes "OK") (list_of (null ∷ null ∷ null ∷ [])) null null;
+}
+
+abbrev pub until : RowTree
+until = record { address = at_rounds (codes "Until") []; row = row_of Status.Succeeded (codes "OK") null (rounds_told 5) null }

@@ -23,6 +23,6 @@ pub fn a_line_is_its_pieces()
 /// A run costs 64 for itself, for each row, for each attempt and for each iteration, and the weights of what it holds.
 pub fn cost_by_counts()
     ensures { (r : RecordTree) → cost r ≡
-        64 * (1 + length r.rows + sum_by (λ row. row.row.attempts) r.rows + sum_by row_iterations r.rows)
+        64 * (1 + length r.rows + sum_by (λ row. length row.row.attempts) r.rows + sum_by row_iterations r.rows)
         + (weight r.trigger + weight (object (members r.parameters)) + weight r.outputs + sum_by row_weight r.rows) }
 {}

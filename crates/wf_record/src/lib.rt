@@ -2,7 +2,8 @@
 //!
 //! A `Record` has the name of its run, the digest of its definition, what the run was started with, how it ended, and a
 //! `Row` for each action in each iteration of the loops round it. Rows stand in the order of their addresses, each address
-//! once; their type `Rows` keeps that, so a record's fields are open and no caller tests them.
+//! once; their type `Rows` keeps that, so a record's fields are open and no caller tests them. A row of a connector tells what
+//! each of its attempts came to (`Try`).
 //!
 //! What a record is as a value is said once, in `specs/Record`, and its line is the JSON text of that value and a line feed. The
 //! line is written member by member into one buffer: neither the record nor a row is made as a value for it, and no text is copied.
@@ -12,6 +13,7 @@
 //! This crate runs nothing and reads no record back.
 #![tactic(auto)]
 
+mod attempt;
 mod cost;
 mod laws;
 mod line;
@@ -20,6 +22,7 @@ mod row;
 mod status;
 mod value;
 
+pub use attempt::{Tries, Try};
 pub use cost::row_cost;
 pub use laws::{a_line_is_its_pieces, a_row_is_found_by_its_address, cost_by_counts};
 pub use line::record_line;

@@ -1,6 +1,7 @@
 //! Rows: what is recorded of each action.
 ghost use Rattle.std.specs.Prelude.{◌≡◌};
 
+use crate::attempt::Tries;
 use crate::status::Status;
 use wf_lists::{Keyed, Sorted};
 use wf_val::{Address, Text, Val};
@@ -20,8 +21,8 @@ pub struct Row {
     pub error: Val,
     /// Its tracked properties as an object, or null where one of them has no value.
     pub tracked: Val,
-    /// How often a connector was called, 0 for an action that is none.
-    pub attempts: u32,
+    /// What each call of a connector came to, in order; none for an action that is none.
+    pub attempts: Tries,
 }
 
 impl Keyed for Row {

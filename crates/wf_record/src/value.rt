@@ -1,12 +1,12 @@
 //! A record as a value.
-ghost use Rattle.std.specs.Prelude.{◌≡◌, map, pos, IfOk};
+ghost use Rattle.std.specs.Prelude.{◌≡◌, map, IfOk};
 ghost use Rattle.wf_val.specs.Get.{name_of};
 ghost use Rattle.wf_val.specs.NameOrder.{put_named};
 ghost use Rattle.wf_val.specs.Seen.{tree};
-ghost use Rattle.wf_val.specs.ValueTree.{number};
-ghost use Rattle.wf_record.specs.Record.{at_value, index_value, record_value, row_value};
+ghost use Rattle.wf_record.specs.Record.{at_value, attempts_value, index_value, record_value, row_value, try_value};
 ghost use Rattle.wf_record.specs.Seen.{record_tree, row_tree};
 
+use crate::attempt::{Tries, Try};
 use crate::record::Record;
 use crate::row::Row;
 use std::alloc::{AllocError, Global};
@@ -30,11 +30,29 @@ pub fn at_value(alloc: Global, at: &Indexes) -> Result<Val, AllocError>
     Ok(Val::List(values))
 }
 
-/// A count of attempts as a number.
-pub fn attempts_value(attempts: u32) -> Val
-    ensures { tree result ≡ number (pos attempts) }
+// What an attempt came to as a number, or as a word where it has no code.
+fn try_value(alloc: Global, attempt: Try) -> Result<Val, AllocError>
+    ensures { IfOk result (λ v. tree v ≡ try_value attempt) }
 {
-    Val::Int(attempts as i64)
+    let word = match attempt {
+        Try::Code(code) => return Ok(Val::Int(code as i64)),
+        Try::NoConnection => "noConnection",
+        Try::TimedOut => "timedOut",
+        Try::NoAnswer => "noAnswer",
+        Try::Unknown => "unknown",
+    };
+    Ok(Val::Text(Text::of(alloc, word)?))
+}
+
+/// Attempts as a list.
+pub fn attempts_value(alloc: Global, attempts: &Tries) -> Result<Val, AllocError>
+    ensures { IfOk result (λ v. tree v ≡ attempts_value attempts.now) }
+{
+    let mut values = Vals::new(alloc);
+    for attempt in attempts.as_slice() {
+        values.push(try_value(alloc, *attempt)?)?;
+    }
+    Ok(Val::List(values))
 }
 
 // Fields with one more member, which replaces the one of its name.
@@ -51,7 +69,8 @@ fn row_value(alloc: Global, row: &Row) -> Result<Val, AllocError>
 {
     let fields = Fields::new(alloc);
     let fields = with(alloc, fields, "at", at_value(alloc, &row.address.at)?)?;
-    let fields = with(alloc, fields, "attempts", attempts_value(row.attempts))?;
+    let attempts = attempts_value(alloc, &row.attempts)?;
+    let fields = with(alloc, fields, "attempts", attempts)?;
     let fields = with(alloc, fields, "code", Val::Text(row.code.copy(alloc)?))?;
     let fields = with(alloc, fields, "error", row.error.copy(alloc)?)?;
     let fields = with(alloc, fields, "inputs", row.inputs.copy(alloc)?)?;
@@ -83,7 +102,7 @@ impl Record {
         let digest = Text::from_string(hex::encode(alloc, self.digest.bytes)?);
         let fields = with(alloc, fields, "definition", Val::Text(digest))?;
         let fields = with(alloc, fields, "error", self.error.copy(alloc)?)?;
-        let fields = with(alloc, fields, "form", Val::Int(1))?;
+        let fields = with(alloc, fields, "form", Val::Int(2))?;
         let fields = with(alloc, fields, "outputs", self.outputs.copy(alloc)?)?;
         let parameters = self.parameters.copy(alloc)?;
         let fields = with(alloc, fields, "parameters", Val::Obj(parameters))?;

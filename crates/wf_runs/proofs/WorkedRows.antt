@@ -1,5 +1,6 @@
 -- Worked values: what is written of runs, when they cost too much together, and which runs of a definition are made.
-use Rattle.std.proofs.Common.{◌≡◌, ℕ, Bool, true, false, List, [], ◌∷◌, ◌++◌, Some, None, Option, Ok, Err, replicate, refl}
+use Rattle.std.proofs.Common.{◌≡◌, ℕ, Bool, true, false, List, [], ◌∷◌, ◌++◌, Some, None, Option, Ok, Err, length, replicate, refl}
+use Rattle.std.proofs.lemmas.List.{length-replicate}
 use Rattle.std.specs.Fmt.{digits}
 use Rattle.std.specs.Prelude.{codes}
 use Rattle.wf_answers.specs.Inputs.{InputsTree}
@@ -12,6 +13,7 @@ use Rattle.wf_plain.specs.Plain.{PlainTree}
 use Rattle.wf_record.specs.Cost.{cost}
 use Rattle.wf_record.specs.Record.{RecordTree, RowTree, record_line}
 use Rattle.wf_record.specs.Worked.{at_rounds, empty, finished, object_of, number_of, list_of}
+use Rattle.wf_record.specs.declared.attempt.Try.{Try}
 use Rattle.wf_record.specs.declared.status.RunStatus.{RunStatus}
 use Rattle.wf_record.specs.declared.status.Status.{Status}
 use Rattle.wf_run.specs.Scheduled.{lines_under, peak_under, steps_under}
@@ -74,6 +76,14 @@ text-two = refl
 
 -- ---- the cost
 
+-- Attempts of which nothing is known but how many they are. The list isn't written out: of it the number alone counts.
+calls : ℕ → List Try
+calls count = replicate count Try.Unknown
+
+counted : (count : ℕ) → length (calls count) ≡ count
+unfolding calls
+counted count = length-replicate count Try.Unknown
+
 -- a run of one call with so many attempts, which took in a text of so many bytes
 abbrev costly : ℕ → ℕ → RecordTree
 costly attempts bytes = record {
@@ -94,17 +104,17 @@ costly attempts bytes = record {
       outputs = null;
       error = null;
       tracked = null;
-      attempts = attempts;
+      attempts = calls attempts;
     };
   } ∷ [];
 }
 
 -- 64 for the run and 3 for what it holds, 64 for the row, 64 for each attempt, and 4 and the bytes of the text
 cost-least : cost (costly 0 0) ≡ 135
-cost-least = refl
+cost-least = rw (counted 0) refl
 
 cost-more : cost (costly 2 5) ≡ 268
-cost-more = refl
+cost-more = rw (counted 2) refl
 
 -- runs that cost 2^26 and one more, 2^25 and one more, and 2^24
 abbrev most : Told
@@ -124,23 +134,23 @@ quarter = idle (costly 262141 57)
 
 -- 2^26 is not too much, and one more is
 within-most : within_cost (most ∷ []) ≡ Ok (most ∷ [])
-within-most = refl
+within-most = rw (counted 1048573) refl
 
 within-one_more : within_cost (past_most ∷ []) ≡ Err RunsFault.TooLarge
-within-one_more = refl
+within-one_more = rw (counted 1048573) refl
 
 -- it is the sum that counts, 2^25 and 2^25, and not the greatest
 within-two : within_cost (half ∷ half ∷ []) ≡ Ok (half ∷ half ∷ [])
-within-two = refl
+within-two = rw (counted 524285) refl
 
 within-two_more : within_cost (half ∷ past_half ∷ []) ≡ Err RunsFault.TooLarge
-within-two_more = refl
+within-two_more = rw (counted 524285) refl
 
 within-four : within_cost (quarter ∷ quarter ∷ quarter ∷ quarter ∷ []) ≡ Ok (quarter ∷ quarter ∷ quarter ∷ quarter ∷ [])
-within-four = refl
+within-four = rw (counted 262141) refl
 
 within-five : within_cost (quarter ∷ quarter ∷ quarter ∷ quarter ∷ idle empty ∷ []) ≡ Err RunsFault.TooLarge
-within-five = refl
+within-five = rw (counted 262141) refl
 
 within-none : text_told (within_cost []) ≡ Ok (codes "# no run\n")
 within-none = refl
@@ -148,7 +158,7 @@ within-none = refl
 -- what is told of events, and how many there were, costs nothing
 within-told : within_cost (told (codes "# 1 Skip A\n") (costly 1048573 57) 1000 500 ∷ [])
     ≡ Ok (told (codes "# 1 Skip A\n") (costly 1048573 57) 1000 500 ∷ [])
-within-told = refl
+within-told = rw (counted 1048573) refl
 
 -- ---- runs under a schedule
 
