@@ -12,7 +12,8 @@ from fuzz import wanted
 
 USAGE = (
     "usage: wflow check DEF | run DEF INPUTS [SCHEDULE] | trace DEF INPUTS SCHEDULE"
-    " | resubmit DEF HISTORY RUN ACTION INPUTS [SCHEDULE] | list HISTORY | drill N\n"
+    " | resubmit DEF HISTORY RUN ACTION INPUTS [SCHEDULE] | resubmit-set DEF HISTORY RUN INPUTS SCHEDULE ACTION..."
+    " | list HISTORY | drill N | session DEF INPUTS | fires DEF TRIGGER FROM N\n"
 )
 # How many words each command has; and what is read, with bytes that it can't be.
 COUNTS = {"check": (2,), "run": (3, 4), "trace": (4,)}

@@ -354,6 +354,19 @@ status-unread name = refl
 status-spent : served.status_of served.Spent ≡ 5
 status-spent = refl
 
+-- every command of the finished program with its words, also those that aren't built yet
+text-misused : served.text_of served.Misused
+    ≡ codes "usage: wflow check DEF"
+    ++ codes " | run DEF INPUTS [SCHEDULE]"
+    ++ codes " | trace DEF INPUTS SCHEDULE"
+    ++ codes " | resubmit DEF HISTORY RUN ACTION INPUTS [SCHEDULE]"
+    ++ codes " | resubmit-set DEF HISTORY RUN INPUTS SCHEDULE ACTION..."
+    ++ codes " | list HISTORY"
+    ++ codes " | drill N"
+    ++ codes " | session DEF INPUTS"
+    ++ codes " | fires DEF TRIGGER FROM N\n"
+text-misused = refl
+
 text-unread : (name : List ℕ) → served.text_of (served.Unread name) ≡ codes "cannot read " ++ (string name ++ codes "\n")
 text-unread name = refl
 

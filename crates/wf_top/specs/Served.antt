@@ -21,7 +21,7 @@ number TooLarge = 8
 
 abbrev pub usage : List ℕ
 usage =
-    codes "usage: wflow check DEF | run DEF INPUTS [SCHEDULE] | trace DEF INPUTS SCHEDULE | resubmit DEF HISTORY RUN ACTION INPUTS [SCHEDULE] | list HISTORY | drill N\n"
+    codes "usage: wflow check DEF | run DEF INPUTS [SCHEDULE] | trace DEF INPUTS SCHEDULE | resubmit DEF HISTORY RUN ACTION INPUTS [SCHEDULE] | resubmit-set DEF HISTORY RUN INPUTS SCHEDULE ACTION... | list HISTORY | drill N | session DEF INPUTS | fires DEF TRIGGER FROM N\n"
 
 -- the line of a file that couldn't be read
 abbrev pub cannot_read : List ℕ → List ℕ

@@ -17,7 +17,7 @@ use wf_outside::{Files, Sink, Source};
 use wf_val::Text;
 
 const USAGE: &[u8] =
-    b"usage: wflow check DEF | run DEF INPUTS [SCHEDULE] | trace DEF INPUTS SCHEDULE | resubmit DEF HISTORY RUN ACTION INPUTS [SCHEDULE] | list HISTORY | drill N\n";
+    b"usage: wflow check DEF | run DEF INPUTS [SCHEDULE] | trace DEF INPUTS SCHEDULE | resubmit DEF HISTORY RUN ACTION INPUTS [SCHEDULE] | resubmit-set DEF HISTORY RUN INPUTS SCHEDULE ACTION... | list HISTORY | drill N | session DEF INPUTS | fires DEF TRIGGER FROM N\n";
 
 const OUT_OF_MEMORY: &[u8] = b"out of memory\n";
 
