@@ -14,7 +14,7 @@ use Rattle.wf_record.specs.Seen.{row_tree}
 use Rattle.wf_record.specs.declared.row.Row.{Row}
 use Rattle.wf_meaning.specs.Definition.{ActionTree, action_name}
 use Rattle.wf_meaning.specs.Environment.{Environment}
-use Rattle.wf_meaning.specs.Flat.{begun, ended, graph_of, skipped, source}
+use Rattle.wf_meaning.specs.Flat.{begun, ended, skipped}
 use Rattle.wf_meaning.specs.Meaning.{instance, table_of}
 use Rattle.wf_meaning.specs.Names.{names_before}
 use Rattle.wf_meaning.specs.Rounds.{all_end}
@@ -26,6 +26,7 @@ use Rattle.wf_machine.specs.Kept.{ArePriced, IsKept, kept_state, leaf_at, leaves
 use Rattle.wf_machine.specs.Kept.{phases_of, there}
 use Rattle.wf_machine.specs.Listed.{listed_from}
 use Rattle.wf_machine.specs.Machine.{AreEnabled, Goes, IsEnabled, IsReached, State}
+use Rattle.wf_machine.specs.Shown.{taken_in}
 use Rattle.wf_machine.specs.declared.leaf.Leaf.{Leaf}
 use Rattle.wf_machine.specs.declared.phase.Phase.{Phase}
 use Rattle.wf_machine.specs.declared.phase.Phase.TheVariants.{Idle, Running as Runs, Ended}
@@ -51,6 +52,12 @@ get_seen see (y ∷ xs) (suc n) x is = get_seen see xs n x is
 pub there_some : {X : Type 0} (found : Option (Option X)) (x : X) → Some x ≡ there found → found ≡ Some (Some x)
 there_some None x is = absurd (none-some x (sym is))
 there_some (Some found) x is = ap (λ o. Some o) (sym is)
+
+-- what runs has a leaf
+leaf_there : (found : Option (Option Leaf)) (w : Running Answer) → running_tree_of found ≡ Some w → None ≡ there found → ⊥
+leaf_there None w is none = none-some w is
+leaf_there (Some None) w is none = none-some w is
+leaf_there (Some (Some l)) w is none = none-some l none
 
 -- a run that begins
 pub fresh_kept : (env : Environment) (actions : List ActionTree) (rows : List (Option Row)) (leaves : List (Option Leaf))
@@ -119,6 +126,11 @@ module _ (env : Environment) (actions : List ActionTree) (rows : List (Option Ro
   ends_within n may =
       let held = end_running env actions (kept_state rows leaves) (λ x. refl) n
       (may_happen (End n []) may) in running_within leaves n held.0 held.1
+
+  pub end_there : (n : ℕ) → IsEnabled env actions (seen_state actions rows leaves) (End n []) → None ≡ there (slice_get leaves n) → ⊥
+  end_there n may none =
+      let held = end_running env actions (kept_state rows leaves) (λ x. refl) n (may_happen (End n []) may) in
+      leaf_there (slice_get leaves n) held.0 held.1 none
 
   pub skips_within : (n : ℕ) → IsEnabled env actions (seen_state actions rows leaves) (Skip n []) → n < length actions
   skips_within n may = skip_within env actions (kept_state rows leaves) (λ x. refl) n (may_happen (Skip n []) may)
@@ -253,8 +265,23 @@ module _ (env : Environment) (actions : List ActionTree) (rows : List (Option Ro
       → n < length leaves
   running_within_actions n w is = running_within leaves n w (ap (λ (s : State). s.running (address n [])) (sym same_state) ∙ is)
 
+  -- so it is there
+  pub running_there : (n : ℕ) (w : Running Answer) → (seen_state actions rows leaves).running (address n []) ≡ Some w
+      → None ≡ there (slice_get leaves n) → ⊥
+  running_there n w is none =
+      leaf_there (slice_get leaves n) w (ap (λ (s : State). s.running (address n [])) (sym same_state) ∙ is) none
+
+  pub row_there : (n : ℕ) (r : record_of.Row) → (seen_state actions rows leaves).rows (address n []) ≡ Some r → None ≡ row_at rows n → ⊥
+  row_there n r is none = none-some r (none ∙ (ap (λ (s : State). s.rows (address n [])) (sym same_state) ∙ is))
+
   pub row_within_actions : (n : ℕ) (r : record_of.Row) → (seen_state actions rows leaves).rows (address n []) ≡ Some r → n < length rows
   row_within_actions n r is = row_within rows n r (ap (λ (s : State). s.rows (address n [])) (sym same_state) ∙ is)
+
+  -- a running action took in what its inputs come to in the rows that the definition means
+  pub running_taken : Instance env actions → (n : ℕ) (l : Leaf) → slice_get leaves n ≡ Some (Some l)
+      → seen l.begun ≡ taken_in env actions (address n [])
+  running_taken is n l found =
+      ((facts env actions is (kept_state rows leaves) kept.reached).running (address n []) (as_running l) (ap running_tree_of found)).0
 
   -- the row that the definition means for a running action is what its inputs came to
   pub running_row : Instance env actions → (n : ℕ) (l : Leaf) → slice_get leaves n ≡ Some (Some l)

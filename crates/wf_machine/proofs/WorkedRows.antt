@@ -1,16 +1,23 @@
 -- Worked rows: which events are enabled, which is picked, what running actions cost, and what is told of events.
 use Rattle.std.proofs.Common.{◌≡◌, ◌%◌, List, [], ◌∷◌, ◌++◌, length, Some, Ok, Err, codes, slice_get, refl}
+use Rattle.std.specs.Fmt.{digits}
+use Rattle.wf_val.specs.Arguments.{Answer}
 use Rattle.wf_val.specs.ValueTree.{null, text}
 use Rattle.wf_val.specs.declared.fault.EvalFault.{EvalFault}
+use Rattle.wf_val.specs.declared.val.Val.{Val}
+use Rattle.wf_layers.specs.Address as layered
 use Rattle.wf_layers.specs.Address.{Table}
 use Rattle.wf_layers.specs.Machine.{Event, Start, Try, End, Skip}
 use Rattle.wf_record.specs.Record.{Row}
-use Rattle.wf_meaning.specs.Flat.{composed, faulted, skipped}
-use Rattle.wf_meaning.specs.Worked.{action, apart, chain, joined}
+use Rattle.wf_record.specs.declared.row.Row as kept
+use Rattle.wf_meaning.specs.Flat.{faulted, skipped}
+use Rattle.wf_meaning.specs.Worked.{action, apart, chain, failing, inputs_for, joined, relay, told_of_start, triggered, untriggered}
+use Rattle.wf_trigger.specs.Starts.{StartTree, trigger_value}
 use Rattle.wf_record.specs.declared.status.Status.TheVariants.{Succeeded, Failed, Skipped, TimedOut, Cancelled}
-use Rattle.wf_machine.specs.Cost.{leaf_cost}
+use Rattle.wf_machine.specs.Cost.{cost, first_cost, leaf_cost, most_events, rows_cost}
+use Rattle.wf_machine.specs.Held.{Held, LeafAt}
 use Rattle.wf_machine.specs.Listed.{listed_from}
-use Rattle.wf_machine.specs.Shown.{shown}
+use Rattle.wf_machine.specs.Shown.{end_text, event_told, shown, start_text}
 use Rattle.wf_machine.specs.declared.phase.Phase.TheVariants.{Idle, Running, Ended}
 
 -- A and B wait for nothing.
@@ -89,46 +96,176 @@ fault_runs = refl
 tried_runs : leaf_cost (record { action = 0; at = []; begun = Ok null; tries = 2 }) ≡ 193
 tried_runs = refl
 
+-- A run with a trigger that weighs 20 and parameters that weigh 6: A has a row that weighs 17, and B runs with inputs that weigh 3.
+abbrev begun_with : StartTree
+begun_with = record {
+  run = codes "r";
+  seed = codes "s";
+  trigger = trigger_value (text (codes "t")) (text (codes "out"));
+  parameters = (codes "p", text (codes "hi")) ∷ [];
+}
+
+abbrev row_of_a : kept.Row
+row_of_a = record {
+  address = record { name = codes "A"; at = [] };
+  status = Failed;
+  code = codes "E";
+  inputs = Val.Text (codes "in");
+  outputs = Val.Text (codes "four");
+  error = Val.Text (codes "failing");
+  tracked = Val.Null;
+  attempts = 0;
+}
+
+abbrev leaf_of_b : LeafAt
+leaf_of_b = record { action = 1; at = []; begun = Ok (text (codes "hi")); tries = 0 }
+
+abbrev half_way : Held
+half_way = record {
+  actions = apart;
+  start = begun_with;
+  inputs = inputs_for (codes "r");
+  rows = row_of_a ∷ [];
+  running = leaf_of_b ∷ [];
+}
+
+cost-first : first_cost begun_with ≡ 90
+cost-first = refl
+
+cost-new : cost (record half_way { rows = []; running = [] }) ≡ 90
+cost-new = refl
+
+cost-of_row : cost (record half_way { running = [] }) ≡ 171
+cost-of_row = refl
+
+cost-of_leaf : cost (record half_way { rows = [] }) ≡ 157
+cost-of_leaf = refl
+
+cost-of_both : cost half_way ≡ 238
+cost-of_both = refl
+
+-- two leaves and two rows
+cost-of_two : cost (record half_way { rows = row_of_a ∷ row_of_a ∷ []; running = leaf_of_b ∷ leaf_of_b ∷ [] }) ≡ 386
+cost-of_two = refl
+
+-- a trigger that weighs 17, parameters that weigh 4, and two rows of 68
+cost-of_rows : rows_cost triggered told_of_start ≡ 221
+cost-of_rows = refl
+
+cost-of_no_rows : rows_cost triggered [] ≡ 85
+cost-of_no_rows = refl
+
+events-of_both : most_events half_way ≡ 3
+events-of_both = refl
+
 -- ---- what is told of events
 
 -- the row of each action by its number
 abbrev rows_by : List Row → Table Row
 rows_by rows x = slice_get rows x.name
 
-abbrev taken : Table Row
-taken = rows_by (composed (text (codes "hi")) ∷ [])
+-- the inputs of each action came to this
+abbrev took : Answer → layered.Address → Answer
+took answer x = answer
 
-abbrev fault : Table Row
-fault = rows_by (faulted (EvalFault.NoMember (codes "x\"")) ∷ [])
+abbrev hi : layered.Address → Answer
+hi = took (Ok (text (codes "hi")))
 
-start_with_inputs : shown apart taken (Start 0 []) ≡ codes "Start A \"hi\""
+abbrev no_member : EvalFault
+no_member = EvalFault.NoMember (codes "x\"")
+
+-- No two values of this row are the same, and it has an error though its inputs had a value.
+abbrev mixed : Row
+mixed = record {
+  status = TimedOut;
+  code = codes "code";
+  inputs = text (codes "inputs");
+  outputs = text (codes "outputs");
+  error = text (codes "error");
+  tracked = text (codes "tracked");
+  attempts = 0;
+}
+
+abbrev rows : Table Row
+rows = rows_by (mixed ∷ skipped ∷ [])
+
+text-started : start_text (Ok (text (codes "hi"))) ≡ codes "\"hi\""
+text-started = refl
+
+text-faulted : start_text (Err no_member) ≡ codes "!NoMember \"x\\\"\""
+text-faulted = refl
+
+text-ended : end_text mixed ≡ codes "TimedOut \"outputs\""
+text-ended = refl
+
+start_with_inputs : shown apart hi (rows_by []) (Start 0 []) ≡ codes "Start A \"hi\""
 start_with_inputs = refl
 
-start_with_fault : shown apart fault (Start 0 []) ≡ codes "Start A !NoMember \"x\\\"\""
+-- the row has another value as inputs, and an error
+start_whatever_the_row : shown apart hi rows (Start 0 []) ≡ codes "Start A \"hi\""
+start_whatever_the_row = refl
+
+start_with_fault : shown apart (took (Err no_member)) rows (Start 0 []) ≡ codes "Start A !NoMember \"x\\\"\""
 start_with_fault = refl
 
-start_with_null : shown apart (rows_by (composed null ∷ [])) (Start 0 []) ≡ codes "Start A null"
+start_with_null : shown apart (took (Ok null)) rows (Start 0 []) ≡ codes "Start A null"
 start_with_null = refl
 
-end_with_outputs : shown apart taken (End 0 []) ≡ codes "End A Succeeded \"hi\""
+end_with_outputs : shown apart hi rows (End 0 []) ≡ codes "End A TimedOut \"outputs\""
 end_with_outputs = refl
 
-end_with_fault : shown apart fault (End 0 []) ≡ codes "End A Failed null"
+end_with_fault : shown apart hi (rows_by (faulted no_member ∷ [])) (End 0 []) ≡ codes "End A Failed null"
 end_with_fault = refl
 
-skip_alone : shown apart (rows_by (composed null ∷ skipped ∷ [])) (Skip 1 []) ≡ codes "Skip B"
+skip_alone : shown apart hi rows (Skip 1 []) ≡ codes "Skip B"
 skip_alone = refl
 
-no_action_starts : shown apart taken (Start 2 []) ≡ []
+no_action_starts : shown apart hi rows (Start 2 []) ≡ []
 no_action_starts = refl
 
-no_action_is_skipped : shown apart taken (Skip 2 []) ≡ []
+no_action_is_skipped : shown apart hi rows (Skip 2 []) ≡ []
 no_action_is_skipped = refl
 
 -- What isn't built yet says nothing.
-no_attempt : shown apart taken (Try 0 []) ≡ []
+no_attempt : shown apart hi rows (Try 0 []) ≡ []
 no_attempt = refl
 
 -- Names are printed as they are: this one is e with an acute accent, a blank and a quotation mark.
-plain_name : shown (action (195 ∷ 169 ∷ 32 ∷ 34 ∷ []) [] ∷ []) taken (End 0 []) ≡ codes "End " ++ 195 ∷ 169 ∷ codes " \" Succeeded \"hi\""
+plain_name : shown (action (195 ∷ 169 ∷ 32 ∷ 34 ∷ []) [] ∷ []) hi rows (End 0 [])
+    ≡ codes "End " ++ 195 ∷ 169 ∷ codes " \" TimedOut \"outputs\""
 plain_name = refl
+
+-- In loops the indexes stand behind the name.
+start_in_a_loop : shown apart hi rows (Start 0 (3 ∷ [])) ≡ codes "Start A/3 \"hi\""
+unfolding digits
+start_in_a_loop = refl
+
+end_in_a_loop : shown apart hi rows (End 0 (3 ∷ 12 ∷ [])) ≡ codes "End A/3/12 TimedOut \"outputs\""
+unfolding digits
+end_in_a_loop = refl
+
+skip_in_a_loop : shown apart hi rows (Skip 1 (10 ∷ [])) ≡ codes "Skip B/10"
+unfolding digits
+skip_in_a_loop = refl
+
+-- ---- of a run
+
+-- B asks for what A gave out.
+told-handed_on : event_told (untriggered (codes "r")) relay (Start 1 []) ≡ codes "Start B true"
+told-handed_on = refl
+
+-- A has no value, and C waits for its success.
+told-faulted : event_told (untriggered (codes "r")) failing (Start 0 []) ≡ codes "Start A !WrongType not 1"
+unfolding digits
+told-faulted = refl
+
+told-failed : event_told (untriggered (codes "r")) failing (End 0 []) ≡ codes "End A Failed null"
+told-failed = refl
+
+told-passed_over : event_told (untriggered (codes "r")) failing (Skip 2 []) ≡ codes "Skip C"
+told-passed_over = refl
+
+-- A asks for a parameter.
+told-parameter : event_told triggered told_of_start (Start 0 []) ≡ codes "Start A 7"
+unfolding digits
+told-parameter = refl

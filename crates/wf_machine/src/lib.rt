@@ -12,8 +12,8 @@
 //! So far a definition is a flat graph of Compose actions. Rows and running actions are kept by the numbers of actions (`specs/Kept`), and
 //! the enabled events are made anew at each step, from how far each action is (`specs/Listed`). None of that shows in a contract.
 //!
-//! What is told of an event is read off the row that the definition means for its action (`specs/Shown`), so it is the same at every moment
-//! after the event, and whatever the schedule.
+//! What is told of a start is what the action's inputs come to in the rows that the definition means, and of an end the row that it means
+//! (`specs/Shown`), so it is the same at every moment after the event, and whatever the schedule.
 //!
 //! This crate chooses no event, reads no schedule and prints no record.
 #![tactic(auto)]

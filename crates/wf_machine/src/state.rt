@@ -23,7 +23,7 @@ ghost use Rattle.wf_machine.specs.Happened.{HasHappened};
 ghost use Rattle.wf_machine.specs.Held.{Ended, Follows, HasEnabled, IsNew, MayHappen, Picked, environment, leaf_key, state};
 ghost use Rattle.wf_machine.specs.Machine.{ArePartOfTheMeaning, IsReached, instance_cmp};
 ghost use Rattle.wf_machine.specs.Seen.{event_tree};
-ghost use Rattle.wf_machine.specs.Shown.{shown};
+ghost use Rattle.wf_machine.specs.Shown.{event_told};
 
 use crate::event::{Event, EventKind, Events};
 use crate::finished::{Finished, gather};
@@ -325,7 +325,7 @@ impl<'a> State<'a> {
     pub fn describe(&self, alloc: Global, event: Event) -> Result<Vec<u8>, AllocError>
         requires { HasHappened self.now (event_tree event) }
         ensures { IfOk result (λ line. line.items
-            ≡ shown self.now.actions (table_of (environment self.now) self.now.actions) (event_tree event)) }
+            ≡ event_told (environment self.now) self.now.actions (event_tree event)) }
     {
         match event.kind {
             EventKind::Start => self.describe_start(alloc, event.action),
@@ -399,7 +399,7 @@ impl<'a> State<'a> {
         let actions = self.actions;
         let entry = action_at(actions, action);
         let Some(leaf) = leaf_of(&self.running, action) else {
-            return Err(AllocError);
+            unreachable!()
         };
         let row = end(alloc, &entry.name, &leaf.begun)?;
         let phases = with_phase(alloc, &self.phases, action, Phase::Ended(row.status))?;
@@ -436,12 +436,12 @@ impl<'a> State<'a> {
     fn describe_start(&self, alloc: Global, action: usize) -> Result<Vec<u8>, AllocError>
         requires { HasHappened self.now (machine.Start action []) }
         ensures { IfOk result (λ line. line.items
-            ≡ shown self.now.actions (table_of (environment self.now) self.now.actions) (machine.Start action [])) }
+            ≡ event_told (environment self.now) self.now.actions (machine.Start action [])) }
     {
         a_graph_that_ends_is_an_instance();
         let entry = action_at(self.actions, action);
         let Some(leaf) = leaf_of(&self.running, action) else {
-            return Err(AllocError);
+            unreachable!()
         };
         start_line(alloc, &entry.name, &leaf.begun)
     }
@@ -450,12 +450,12 @@ impl<'a> State<'a> {
     fn describe_end(&self, alloc: Global, action: usize) -> Result<Vec<u8>, AllocError>
         requires { HasHappened self.now (machine.End action []) }
         ensures { IfOk result (λ line. line.items
-            ≡ shown self.now.actions (table_of (environment self.now) self.now.actions) (machine.End action [])) }
+            ≡ event_told (environment self.now) self.now.actions (machine.End action [])) }
     {
         a_graph_that_ends_is_an_instance();
         let entry = action_at(self.actions, action);
         let Some(row) = row_of(&self.rows, action) else {
-            return Err(AllocError);
+            unreachable!()
         };
         end_line(alloc, &entry.name, row)
     }
@@ -464,7 +464,7 @@ impl<'a> State<'a> {
     fn describe_skip(&self, alloc: Global, action: usize) -> Result<Vec<u8>, AllocError>
         requires { HasHappened self.now (machine.Skip action []) }
         ensures { IfOk result (λ line. line.items
-            ≡ shown self.now.actions (table_of (environment self.now) self.now.actions) (machine.Skip action [])) }
+            ≡ event_told (environment self.now) self.now.actions (machine.Skip action [])) }
     {
         let entry = action_at(self.actions, action);
         skip_line(alloc, &entry.name)

@@ -1,7 +1,6 @@
 //! What is told of an event.
 ghost use Rattle.std.specs.Prelude.{◌≡◌, ◌∷◌, ◌++◌, [], codes, IfOk};
 ghost use Rattle.wf_val.specs.Arguments.{seen};
-ghost use Rattle.wf_meaning.specs.Flat.{ended};
 ghost use Rattle.wf_meaning.specs.Meaning.{instance_of};
 ghost use Rattle.wf_acts.specs.Seen.{row_content};
 ghost use Rattle.wf_machine.specs.Shown.{end_text, line_at, start_text};
@@ -29,7 +28,7 @@ fn with_inputs(
     line: Vec<u8>,
     begun: &Result<Val, EvalFault>,
 ) -> Result<Vec<u8>, AllocError>
-    ensures { IfOk result (λ told. told.items ≡ line.items ++ 32 ∷ start_text (ended (seen begun.now))) }
+    ensures { IfOk result (λ told. told.items ≡ line.items ++ 32 ∷ start_text (seen begun.now)) }
 {
     let mut line = line;
     match begun {
@@ -65,7 +64,7 @@ pub fn start_line(
     name: &Text,
     begun: &Result<Val, EvalFault>,
 ) -> Result<Vec<u8>, AllocError>
-    ensures { IfOk result (λ line. line.items ≡ line_at (codes "Start") (instance_of name.now) (32 ∷ start_text (ended (seen begun.now)))) }
+    ensures { IfOk result (λ line. line.items ≡ line_at (codes "Start") (instance_of name.now) (32 ∷ start_text (seen begun.now))) }
 {
     let line = kind_and_name(alloc, "Start", name)?;
     with_inputs(alloc, line, begun)

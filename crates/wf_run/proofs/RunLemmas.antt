@@ -9,6 +9,7 @@ use Rattle.wf_meaning.specs.Environment.{Environment, fresh}
 use Rattle.wf_meaning.specs.Meaning.{ending_of, meaning, rows_of, table_of}
 use Rattle.wf_machine.specs.Cost.{rows_cost}
 use Rattle.wf_machine.specs.Held.{Held, environment}
+use Rattle.wf_machine.specs.Shown.{event_told}
 use Rattle.wf_run.specs.Scheduled.{all_idle, events_under, lines_from, lines_under, most_running, peak_under, steps_under}
 
 covered : (a b o s : ℕ) → 64 + a + b + s ≤ 64 + a + b + o + s
@@ -60,8 +61,8 @@ module _ (h : Held) (d : DefinitionTree) (start : StartTree) (inputs : InputsTre
       ap₂ (λ env actions. most_running (table_of env actions) (all_idle actions) (events_under env actions schedule)) goes_by actions_are
 
   pub lines_are : (schedule : List ℕ)
-      → lines_from h.actions (table_of (environment h) h.actions) 1 (events_under (environment h) h.actions schedule)
+      → lines_from (event_told (environment h) h.actions) 1 (events_under (environment h) h.actions schedule)
       ≡ lines_under d (fresh start inputs) schedule
   unfolding lines_under
   lines_are schedule =
-      ap₂ (λ env actions. lines_from actions (table_of env actions) 1 (events_under env actions schedule)) goes_by actions_are
+      ap₂ (λ env actions. lines_from (event_told env actions) 1 (events_under env actions schedule)) goes_by actions_are

@@ -4,10 +4,10 @@ use Rattle.wf_layers.specs.Machine.{Event}
 use Rattle.wf_record.specs.Cost.{row_cost}
 use Rattle.wf_record.specs.Seen.{row_tree}
 use Rattle.wf_meaning.specs.Environment.{fresh}
-use Rattle.wf_meaning.specs.Meaning.{rows_of, table_of}
+use Rattle.wf_meaning.specs.Meaning.{rows_of}
 use Rattle.wf_machine.specs.Cost.{cost, most_events, rows_cost}
 use Rattle.wf_machine.specs.Held.{Held, environment}
-use Rattle.wf_machine.specs.Shown.{shown}
+use Rattle.wf_machine.specs.Shown.{event_told}
 use Rattle.wf_machine.proofs.CostLemmas.{leaves_cost_much, rows_cost_much}
 use Rattle.wf_run.specs.Turns.{After, Turn, start, turn}
 
@@ -53,7 +53,7 @@ same_going schedule first k peak h turns = let r = same_run schedule first k pea
 
 -- and what is told of an event
 pub same_told : (schedule : List ℕ) (first : Held) (k peak : ℕ) (h : Held) (e : Event) → After schedule first k peak h
-    → shown h.actions (table_of (environment h) h.actions) e ≡ shown first.actions (table_of (environment first) first.actions) e
+    → event_told (environment h) h.actions e ≡ event_told (environment first) first.actions e
 same_told schedule first k peak h e turns =
-    ap₂ (λ env actions. shown actions (table_of env actions) e) (same_going schedule first k peak h turns)
+    ap₂ (λ env actions. event_told env actions e) (same_going schedule first k peak h turns)
     (same_run schedule first k peak h turns).0

@@ -36,6 +36,16 @@ first_bad_line = refl
 sign : schedule_of (codes "+1") ≡ Err (ScheduleFault.Line 1)
 sign = refl
 
+-- the characters before 0 and behind 9
+slash : schedule_of (codes "/") ≡ Err (ScheduleFault.Line 1)
+slash = refl
+
+colon : schedule_of (codes "1:") ≡ Err (ScheduleFault.Line 1)
+colon = refl
+
+each_digit : schedule_of (codes "0123456789") ≡ Ok (123456789 ∷ [])
+each_digit = refl
+
 blank : schedule_of (codes " 1") ≡ Err (ScheduleFault.Line 1)
 blank = refl
 

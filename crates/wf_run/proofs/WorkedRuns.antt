@@ -1,12 +1,13 @@
 -- Worked rows of runs under schedules: which events come, and how many actions are running at a time at most.
-use Rattle.std.proofs.Common.{◌≡◌, ℕ, ◌*◌, List, [], ◌∷◌, length, refl}
+use Rattle.std.proofs.Common.{◌≡◌, ℕ, ◌*◌, List, [], ◌∷◌, ◌++◌, codes, length, refl}
+use Rattle.std.specs.Fmt.{digits}
 use Rattle.wf_layers.specs.Address.{Table}
 use Rattle.wf_layers.specs.Machine.{Event, Start, End, Skip}
 use Rattle.wf_meaning.specs.Definition.{ActionTree}
-use Rattle.wf_meaning.specs.Worked.{apart, chain, failing, joined, single, statuses}
+use Rattle.wf_meaning.specs.Worked.{apart, chain, failing, joined, relay, single, statuses, untriggered}
 use Rattle.wf_record.specs.Record.{Row}
 use Rattle.wf_record.specs.declared.status.Status.TheVariants.{Succeeded, Failed, Skipped}
-use Rattle.wf_run.specs.Scheduled.{all_idle, events_from, most_running}
+use Rattle.wf_run.specs.Scheduled.{all_idle, event_line, events_from, lines_under, most_running}
 
 -- the events and the peak of actions whose rows these are
 abbrev events : List ActionTree → Table Row → List ℕ → List Event
@@ -66,6 +67,15 @@ no_event = refl
 
 none_running : peak [] both (1 ∷ []) ≡ 0
 none_running = refl
+
+-- ---- lines
+
+-- each has its number, from 1 on, and what is told of it
+six_lines : lines_under (record { digest = []; outputs = []; actions = relay }) (untriggered (codes "r")) []
+    ≡ codes "# 1 Start A true\n# 2 End A Succeeded true\n# 3 Start B true\n# 4 End B Succeeded true\n"
+    ++ codes "# 5 Start C true\n# 6 End C Succeeded true\n"
+unfolding digits event_line lines_under
+six_lines = refl
 
 -- ---- the inputs of A have no value: B waits for that, and C for the contrary
 

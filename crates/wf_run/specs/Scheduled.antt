@@ -9,7 +9,7 @@ use Rattle.wf_meaning.specs.Definition.{ActionTree, DefinitionTree}
 use Rattle.wf_meaning.specs.Environment.{Environment}
 use Rattle.wf_meaning.specs.Meaning.{table_of}
 use Rattle.wf_machine.specs.Listed.{listed_from}
-use Rattle.wf_machine.specs.Shown.{shown}
+use Rattle.wf_machine.specs.Shown.{event_told}
 use Rattle.wf_machine.specs.declared.phase.Phase.{Phase}
 use Rattle.wf_machine.specs.declared.phase.Phase.TheVariants.{Idle, Running, Ended}
 
@@ -72,10 +72,10 @@ most_running rows phases (e ∷ es) =
 unfoldable pub event_line : ℕ → List ℕ → List ℕ
 event_line k told = codes "# " ++ decimal k ++ 32 ∷ told ++ 10 ∷ []
 
--- the lines of events that are counted from k on
-abbrev pub lines_from : List ActionTree → Table Row → ℕ → List Event → List ℕ
-lines_from actions rows k [] = []
-lines_from actions rows k (e ∷ es) = event_line k (shown actions rows e) ++ lines_from actions rows (suc k) es
+-- the lines of events that are counted from k on, of each of which this is told
+abbrev pub lines_from : (Event → List ℕ) → ℕ → List Event → List ℕ
+lines_from told k [] = []
+lines_from told k (e ∷ es) = event_line k (told e) ++ lines_from told (suc k) es
 
 -- ---- of a definition
 
@@ -86,4 +86,4 @@ unfoldable pub peak_under : DefinitionTree → Environment → List ℕ → ℕ
 peak_under d env schedule = most_running (table_of env d.actions) (all_idle d.actions) (events_under env d.actions schedule)
 
 unfoldable pub lines_under : DefinitionTree → Environment → List ℕ → List ℕ
-lines_under d env schedule = lines_from d.actions (table_of env d.actions) 1 (events_under env d.actions schedule)
+lines_under d env schedule = lines_from (event_told env d.actions) 1 (events_under env d.actions schedule)

@@ -7,7 +7,7 @@ ghost use Rattle.wf_machine.specs.Cost.{cost, most_events, rows_cost};
 ghost use Rattle.wf_machine.specs.Happened.{HasHappened};
 ghost use Rattle.wf_machine.specs.Held.{Ended, IsNew, environment};
 ghost use Rattle.wf_machine.specs.Seen.{event_tree};
-ghost use Rattle.wf_machine.specs.Shown.{shown};
+ghost use Rattle.wf_machine.specs.Shown.{event_told};
 ghost use Rattle.wf_run.specs.Limit.{most_cost};
 ghost use Rattle.wf_run.specs.Scheduled.{all_idle, event_line, events_under, lines_from, most_running};
 ghost use Rattle.wf_run.specs.Turns.{After, Turn};
@@ -103,7 +103,7 @@ fn note(
 ) -> Result<(), AllocError>
     requires { HasHappened state.now (event_tree event) }
     ensures { OnOk result (trace.new.items ≡ trace.old.items ++ cond traced
-        (event_line number (shown state.now.actions (table_of (environment state.now) state.now.actions) (event_tree event))) []) }
+        (event_line number (event_told (environment state.now) state.now.actions (event_tree event))) []) }
 {
     if traced {
         let told = state.describe(alloc, event)?;
@@ -144,7 +144,7 @@ pub fn drive<'a>(
     ensures peak { IfOk result (λ d. d.peak ≡ most_running (table_of (environment state.entry) state.entry.actions)
         (all_idle state.entry.actions) (events_under (environment state.entry) state.entry.actions schedule.now)) }
     ensures trace { IfOk result (λ d. d.trace.items ≡ cond traced
-        (lines_from state.entry.actions (table_of (environment state.entry) state.entry.actions) 1
+        (lines_from (event_told (environment state.entry) state.entry.actions) 1
         (events_under (environment state.entry) state.entry.actions schedule.now)) []) }
     ensures few { IfOk result (λ d. 64 + 32 * d.steps ≤ cost d.state) }
     ensures paid { IfOk result (λ d. 64 + 32 * d.steps ≤ rows_cost (environment state.entry) state.entry.actions) }

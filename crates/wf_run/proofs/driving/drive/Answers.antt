@@ -1,8 +1,8 @@
 use Rattle.std.proofs.Common.{rules, ◌+◌, ◌≤◌, ◌<◌, ◌++◌, [], cond, arith, refl, ap, subst, ◌∙◌, max}
 use Rattle.std.proofs.lemmas.Result.{err_from_is_err_and}
-use Rattle.wf_meaning.specs.Meaning.{table_of}
 use Rattle.wf_machine.specs.Held.{Ended, environment}
 use Rattle.wf_machine.specs.Seen.{event_tree}
+use Rattle.wf_machine.specs.Shown.{event_told}
 use Rattle.wf_run.specs.Limit.{most_cost}
 use Rattle.wf_run.specs.Scheduled.{event_line, events_under}
 use Rattle.wf_run.specs.Turns.{Begins, start}
@@ -17,7 +17,7 @@ loop-alloc-init c =
       turns = start;
       few = omega arith;
       lines = c.new-trace.ensures.items
-          ∙ no_lines first.actions (table_of (environment first) first.actions) c.args.traced
+          ∙ no_lines (event_told (environment first) first.actions) c.args.traced
           (events_under (environment first) first.actions c.args.schedule.now);
     }
 
@@ -53,7 +53,7 @@ loop-alloc-preserved c =
     record {
       turns = turned;
       few = omega (arith, few, more);
-      lines = lines_more first.actions (table_of (environment first) first.actions) c.args.traced events c.loop-alloc.steps
+      lines = lines_more (event_told (environment first) first.actions) c.args.traced events c.loop-alloc.steps
           (c.loop-alloc.steps + 1) event c.loop-alloc.trace.items c.note.new.trace.items next refl c.loop-alloc.invariant.lines
           (c.in_ok-note.ensures
           ∙ ap (λ told. c.loop-alloc.trace.items ++ cond c.args.traced (event_line (c.loop-alloc.steps + 1) told) [])
@@ -111,7 +111,7 @@ returns-clause-trace c =
     let last = c.a_schedule_leads_one_run.ensures.steps c.args.schedule.now first c.loop-alloc.state c.loop-alloc.steps c.loop-alloc.peak
     (record { new = c.requires.new; ends = c.is_reached.ensures.ends; before = c.is_reached.ensures.before })
     c.loop-alloc.invariant.turns over in
-    lines_all first.actions (table_of (environment first) first.actions) c.args.traced events c.loop-alloc.steps c.loop-alloc.trace.items
+    lines_all (event_told (environment first) first.actions) c.args.traced events c.loop-alloc.steps c.loop-alloc.trace.items
     last
     c.loop-alloc.invariant.lines
 

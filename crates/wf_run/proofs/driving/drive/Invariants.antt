@@ -1,7 +1,7 @@
 use Rattle.std.proofs.Common.{◌≡◌, ◌-◌, ◌≤◌, cond, take, []}
-use Rattle.wf_meaning.specs.Meaning.{table_of}
 use Rattle.wf_machine.specs.Cost.{most_events}
 use Rattle.wf_machine.specs.Held.{environment}
+use Rattle.wf_machine.specs.Shown.{event_told}
 use Rattle.wf_run.specs.Limit.{most_cost}
 use Rattle.wf_run.specs.Scheduled.{events_under, lines_from}
 use Rattle.wf_run.specs.Turns.{After}
@@ -13,7 +13,7 @@ invariant-loop-alloc l = record {
   turns : After l.schedule l.fn.state l.steps l.peak l.state;
   few : l.steps ≤ most_events l.state;
   lines : l.trace.items
-      ≡ cond l.traced (lines_from l.fn.state.actions (table_of (environment l.fn.state) l.fn.state.actions) 1
+      ≡ cond l.traced (lines_from (event_told (environment l.fn.state) l.fn.state.actions) 1
       (take l.steps (events_under (environment l.fn.state) l.fn.state.actions l.schedule))) [];
 }
 

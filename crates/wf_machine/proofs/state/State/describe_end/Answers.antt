@@ -1,4 +1,4 @@
-use Rattle.std.proofs.Common.{map, slice_get, Some, [], ◌≡◌, ◌∙◌, sym, arith}
+use Rattle.std.proofs.Common.{map, slice_get, Some, ◌≡◌, ◌∙◌, sym, arith}
 use Rattle.std.proofs.lemmas.List.{length-map}
 use Rattle.std.proofs.lemmas.Result.{IfOk-weaker}
 use Rattle.wf_answers.specs.InputsSeen.{inputs_tree}
@@ -6,7 +6,8 @@ use Rattle.wf_meaning.specs.Environment.{fresh}
 use Rattle.wf_meaning.specs.Meaning.{table_of}
 use Rattle.wf_trigger.specs.StartsSeen.{start_tree}
 use Rattle.wf_acts.specs.Seen.{action_tree, row_content}
-use Rattle.wf_machine.proofs.Steps.{get_seen, kept_row, row_within_actions}
+use Rattle.wf_machine.specs.Shown.{taken_in}
+use Rattle.wf_machine.proofs.Steps.{get_seen, row_there, kept_row, row_within_actions}
 use Rattle.wf_machine.proofs.TellingLemmas.{end_told}
 use Rattle.wf_machine.proofs.state.State.describe_end.Goals as goal
 
@@ -20,6 +21,12 @@ action_at-entry-requires c =
     let size = c.self.invariant.rows_size in
     let same = length-map s.actions.now action_tree in omega (arith, lt, same, size)
 
+pub unreachable-requires : goal.unreachable-requires
+unreachable-requires c =
+    let has = rw (← c.self.view_is) at c.requires in
+    let none = c.in_default.ensures in
+    row_there _ _ _ _ _ _ _ c.self.invariant c.args.action has.0 has.1 (rw c.deref.ensures.value at none)
+
 pub returns : goal.returns
 returns c =
     let s = c.self.inside in
@@ -31,5 +38,5 @@ returns c =
     let is = c.a_graph_that_ends_is_an_instance.ensures env trees c.self.invariant.ends c.self.invariant.before in
     let r = row_content c.in-Some.row.now in
     let row = kept_row _ _ _ _ _ _ _ c.self.invariant is c.args.action r (sym (rw c.deref.ensures.value at c.in-Some.ensures)) in
-    let told = end_told trees (table_of env trees) c.args.action a found r row in
+    let told = end_told trees (taken_in env trees) (table_of env trees) c.args.action a found r row in
     rw (← c.self.view_is) (IfOk-weaker c.end_line.result _ _ (λ line made. made ∙ told) c.end_line.ensures)

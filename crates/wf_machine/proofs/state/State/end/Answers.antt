@@ -11,7 +11,7 @@ use Rattle.wf_record.specs.Seen.{row_tree}
 use Rattle.wf_machine.specs.Kept.{IsKept, leaves_from, rows_present}
 use Rattle.wf_machine.specs.Machine.{Goes}
 use Rattle.wf_machine.specs.Seen.{event_tree}
-use Rattle.wf_machine.proofs.Steps.{get_seen, row_follows, row_kept, row_more, seen_state, end_empty, end_row, ends_within, there_some}
+use Rattle.wf_machine.proofs.Steps.{get_seen, end_there, row_follows, row_kept, row_more, seen_state, end_empty, end_row, ends_within, there_some}
 use Rattle.wf_machine.proofs.state.State.end.Goals as goal
 
 pub action_at-entry-requires : goal.action_at-entry-requires
@@ -23,6 +23,12 @@ action_at-entry-requires c =
     let lt = ends_within _ _ _ _ _ _ _ c.self.invariant c.args.action may in
     let size = c.self.invariant.leaves_size in
     let same = length-map s.actions.now action_tree in omega (arith, lt, same, size)
+
+pub unreachable-requires : goal.unreachable-requires
+unreachable-requires c =
+    let has = rw (← c.self.view_is) at c.requires in
+    let none = c.in_default.ensures in
+    end_there _ _ _ _ _ _ _ c.self.invariant c.args.action has (rw c.deref.ensures.value at none)
 
 pub put-requires : goal.put-requires
 put-requires c =
