@@ -1,5 +1,5 @@
 //! What the definitions of this crate say, in other words. Each call tells a caller so, and does nothing.
-ghost use Rattle.std.specs.Prelude.{◌≡◌, ◌<◌, ◌++◌, ◌↔◌, ℕ, Bool, List, [], Ok, Err, codes};
+ghost use Rattle.std.specs.Prelude.{◌≡◌, ◌≢◌, ◌<◌, ◌++◌, ◌↔◌, ℕ, Bool, List, [], Ok, Err, codes};
 ghost use Rattle.wf_answers.specs.Inputs.{InputsTree};
 ghost use Rattle.wf_plain.specs.Plain.{PlainTree};
 ghost use Rattle.wf_runs.specs.Records.{records_of, records_told, runs_records};
@@ -33,6 +33,12 @@ pub fn runs_are_too_large_where_they_cost_more()
 pub fn a_fault_of_the_trigger_is_told()
     ensures { (p : PlainTree) (i : InputsTree) (schedule : List ℕ) (traced : Bool) (f : TriggerFault) →
         (runs_text p i schedule traced ≡ Err (RunsFault.Trigger f)) ↔ (runs_of p.parameters p.given p.triggers i ≡ Err f) }
+{}
+
+/// What runs come to never is that memory ran out: that is an answer of the code alone.
+pub fn runs_want_no_memory()
+    ensures { (p : PlainTree) (i : InputsTree) (schedule : List ℕ) (traced : Bool) →
+        runs_text p i schedule traced ≢ Err RunsFault.Memory }
 {}
 
 /// The texts of runs stand in the order of the runs.

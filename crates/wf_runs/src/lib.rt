@@ -21,7 +21,7 @@ mod written;
 pub use fault::RunsFault;
 pub use laws::{
     a_fault_of_the_trigger_is_told, each_schedule_leaves_the_same_records,
-    no_run_is_said_where_none_starts, runs_are_too_large_where_they_cost_more,
+    no_run_is_said_where_none_starts, runs_are_too_large_where_they_cost_more, runs_want_no_memory,
     texts_stand_in_a_row,
 };
 pub use runs::runs_text;

@@ -29,11 +29,12 @@ text_of_runs traced d inputs schedule = runs_text (plain_of d) inputs schedule t
 abbrev pub too_large : List ℕ
 too_large = codes "too large\n"
 
--- The runs are made, or refused for the fault of the trigger or for their cost. Want of memory is no fault of theirs.
+-- The runs are made, or refused for the fault of the trigger or for their cost.
 abbrev pub made_runs : Result (List ℕ) RunsFault → Plan
 made_runs (Ok text) = Says Done text
 made_runs (Err (RunsFault.Trigger fault)) = Says Inputs (trigger_line fault)
 made_runs (Err RunsFault.TooLarge) = Says TooLarge too_large
+-- This is never met: that memory ran out isn't what runs come to (`runs_want_no_memory` of wf_runs).
 made_runs (Err RunsFault.Memory) = Says Done []
 
 -- SCHEDULE is read and judged: the runs are made, or refused for the fault of the schedule.
