@@ -5,6 +5,7 @@ use Rattle.std.specs.Cmp.{IsTotalOrder}
 use Rattle.std.specs.List.{AllByRecursion}
 use Rattle.std.specs.Prelude.{codes}
 use Rattle.std.proofs.lemmas.Cmp.{nat_list_cmp_total}
+use Rattle.std.proofs.lemmas.Option.{none-some}
 use Rattle.wf_lists.specs.KeyOrder.{IsInKeyOrder, put_key, without_key}
 use Rattle.wf_trigger.specs.Shared.{kept_outputs}
 use Rattle.wf_trigger.specs.Starts.{Shared, starts_from, starts_of, start_of_item, trigger_value, with_body}
@@ -32,6 +33,17 @@ pub item_at : (s : Shared) (k : ℕ) (ts : List ValueTree) (holds : Bool) (t : V
 item_at s k ts true t within is =
     subst (λ n. slice_get (starts_from s 0 ts) k ≡ Some (start_of_item s n t)) (omega arith) (starts_from-at s 0 k ts t is)
 item_at s k ts false t within is = absurd (omega (arith, within))
+
+-- a run of a split has its item
+pub item_there : (s : Shared) (k : ℕ) (ts : List ValueTree) (holds : Bool) → k < length (starts_of s (Some ts) holds)
+    → None ≡ slice_get ts k → ⊥
+item_there s k ts false within none = omega (arith, within)
+item_there s k ts true within none = there ts k (subst (λ n. k < n) (length_starts s 0 ts) within) none
+  where
+    there : (us : List ValueTree) (n : ℕ) → n < length us → None ≡ slice_get us n → ⊥
+    there [] n lt is = omega (arith, lt)
+    there (u ∷ us) zero lt is = none-some u is
+    there (u ∷ us) (suc n) lt is = there us n (omega (arith, lt)) is
 
 none_of : (s : Shared) (split : Option (List ValueTree)) (holds : Bool) → starts_of s split holds ≡ [] → (holds ≡ false) ⊎ (split ≡ Some [])
 none_of s split false none = inl refl

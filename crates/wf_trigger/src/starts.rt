@@ -58,7 +58,7 @@ impl Starts {
                     let start = self.of_item(alloc, k, item)?;
                     Ok(start)
                 }
-                None => Err(AllocError),
+                None => unreachable!(),
             },
         }
     }
