@@ -11,3 +11,4 @@ pub mod Ordered
 pub mod Listed
 pub mod Layers
 mod Worked
+mod WorkedFacts
