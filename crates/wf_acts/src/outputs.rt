@@ -11,13 +11,14 @@ ghost use Rattle.wf_acts.specs.EndingSeen.{ending_tree};
 ghost use Rattle.wf_acts.specs.Seen.{action_tree, environment_of, known_of};
 
 use crate::action::{Action, Given};
-use crate::flat_look::FlatLook;
 use crate::value::value_in;
+use crate::views::RowViews;
 use std::alloc::{AllocError, Global};
 use wf_def::Output;
 use wf_json::fault_text;
 use wf_look::Look;
 use wf_record::{Row, RunStatus, Status};
+use wf_trigger::Outside;
 use wf_val::{EvalFault, Fields, Text, Val};
 
 // The values of outputs in a look, each under its name, or the first fault in their order.
@@ -51,11 +52,13 @@ pub fn outputs_of(
         (map output_tree outputs.now)) }
 {
     let place = Text::of(alloc, "@outputs")?;
-    let mut look = FlatLook {
-        actions,
-        rows,
-        start: given.start,
-        inputs: given.inputs,
+    let mut look = Outside {
+        parameters: &given.start.parameters,
+        trigger: &given.start.trigger,
+        views: RowViews { actions, rows },
+        moment: given.inputs.moment,
+        run: &given.start.run,
+        seed: &given.start.seed,
         place: &place,
         drawn: 0,
     };

@@ -11,11 +11,12 @@ ghost use Rattle.wf_meaning.specs.Statuses.{status_tree};
 ghost use Rattle.wf_val.specs.Arguments.{seen};
 
 use crate::action::{Action, Given};
-use crate::flat_look::FlatLook;
 use crate::value::value_in;
+use crate::views::RowViews;
 use std::alloc::{AllocError, Global};
 use wf_json::fault_text;
 use wf_record::{Row, Status, Tries};
+use wf_trigger::Outside;
 use wf_val::{Address, EvalFault, Fields, Indexes, Name, Text, Val};
 
 /// Whether the status is one of these.
@@ -100,11 +101,13 @@ pub fn begin(
     ensures { IfOk result (λ r. seen r ≡ begun (environment_of given.now) (map action_tree actions.now) (known_of rows.now) (Some
         (action_tree action.now))) }
 {
-    let mut look = FlatLook {
-        actions,
-        rows,
-        start: given.start,
-        inputs: given.inputs,
+    let mut look = Outside {
+        parameters: &given.start.parameters,
+        trigger: &given.start.trigger,
+        views: RowViews { actions, rows },
+        moment: given.inputs.moment,
+        run: &given.start.run,
+        seed: &given.start.seed,
         place: &action.name,
         drawn: 0,
     };

@@ -1,5 +1,6 @@
 pub mod Choosing
 pub mod LookSeen
+pub mod Outside
 pub mod Parameters
 pub mod Runs
 pub mod Shared

@@ -1,30 +1,24 @@
 -- What the expressions of a trigger see (Workflow Definition Language, "Trigger conditions" and "Split on").
-use Rattle.std.specs.Prelude.{ℕ, pos, List, [], None}
+use Rattle.std.specs.Prelude.{ℕ, List, None}
 use Rattle.wf_eval.specs.TemplateValue.{template_value}
 use Rattle.wf_look.specs.Told.{Told}
 use Rattle.wf_template.specs.TemplateTree.{TemplateTree}
+use Rattle.wf_trigger.specs.Outside.{told_outside}
 use Rattle.wf_val.specs.Arguments.{Answer}
-use Rattle.wf_val.specs.Get.{value_of}
 use Rattle.wf_val.specs.ValueTree.{ValueTree, Member}
 
 -- the trigger's value, the parameters, the moment and the inputs' run name, and nothing of actions, loops and variables. No expression of a
 -- trigger draws words; where one did, they would be those of the seed and the run name.
 abbrev pub trigger_told : ValueTree → List Member → ℕ → List ℕ → List ℕ → Told
-trigger_told trigger values moment run seed = record {
-  parameter = λ name. value_of name values;
-  variable = λ name. None;
+trigger_told trigger values moment run seed = told_outside (record {
+  parameters = values;
   trigger = trigger;
-  view = λ name. None;
-  result = λ name. None;
-  items = [];
-  item_of = λ name. None;
-  index_of = λ name. None;
-  own = None;
-  moment = pos moment;
-  run_name = run;
+  views = λ name. None;
+  moment = moment;
+  run = run;
   seed = seed;
   place = run;
-}
+})
 
 -- what a template of a trigger comes to
 abbrev pub value_told : ValueTree → List Member → ℕ → List ℕ → List ℕ → TemplateTree → Answer

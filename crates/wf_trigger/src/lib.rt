@@ -19,6 +19,7 @@ mod choosing;
 mod fault;
 mod laws;
 mod look;
+mod outside;
 mod parameters;
 mod splitting;
 mod starting;
@@ -26,5 +27,6 @@ mod starts;
 
 pub use fault::TriggerFault;
 pub use laws::{a_body_is_replaced, none_start_exactly_where, the_least_parameter_is_named};
+pub use outside::{Outside, Views};
 pub use starting::runs;
 pub use starts::{Start, Starts};

@@ -62,7 +62,6 @@ fn started(
         moment: inputs.moment,
         run: &inputs.run,
         seed: &inputs.seed,
-        drawn: 0,
     };
     let items = split_items(alloc, split_in(trigger), &look)?;
     let holds = all_hold(alloc, conditions_in(trigger), &look)?;
