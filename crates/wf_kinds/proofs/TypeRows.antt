@@ -1,6 +1,6 @@
 -- The types of actions at worked names.
 use Rattle.std.proofs.Common.{◌≡◌, ℕ, List, [], ◌∷◌, ◌++◌, Some, None, Option, map, refl}
-use Rattle.std.specs.Prelude.{codes, pos}
+use Rattle.std.specs.Prelude.{codes, flat_map, length, pos}
 use Rattle.wf_val.specs.ValueTree.{ValueTree, null, number, text, list, object, trees, members}
 use Rattle.wf_kinds.specs.ActionType.{names, types, type_named, type_of}
 use Rattle.wf_kinds.specs.declared.action_type.ActionType.{ActionType}
@@ -47,7 +47,7 @@ containers : types_of (codes "scope" ∷ codes "IF" ∷ codes "SWITCH" ∷ codes
 unfolding type_of
 containers = refl
 
--- nothing is trimmed, no name is a front of another, and no other letters are folded: `Sw` and `tch` round a dotless i (U+0131)
+-- nothing is trimmed, no name is a prefix of another, and no other letters are folded: `Sw` and `tch` round a dotless i (U+0131)
 abbrev others : List (List ℕ)
 others = [] ∷ codes " Compose" ∷ codes "Compose " ∷ codes "Composed" ∷ codes "Compos" ∷ codes "Table" ∷ codes "Recurrence" ∷
     codes "Connector" ∷ codes "For_each" ∷ (codes "Sw" ++ 196 ∷ 177 ∷ codes "tch") ∷ []
@@ -66,3 +66,8 @@ no_member : map type_of (object (members []) ∷ object (members ((codes "Type",
     ≡ None ∷ None ∷ None ∷ None ∷ []
 unfolding type_of
 no_member = refl
+
+-- There are 27 names of types: eight of what calls a service, and one of each of the 19 others.
+count_of_names : length (flat_map names types) ∷ length types ∷ map (λ type'. length (names type')) types
+    ≡ 27 ∷ 20 ∷ 1 ∷ 8 ∷ 1 ∷ 1 ∷ 1 ∷ 1 ∷ 1 ∷ 1 ∷ 1 ∷ 1 ∷ 1 ∷ 1 ∷ 1 ∷ 1 ∷ 1 ∷ 1 ∷ 1 ∷ 1 ∷ 1 ∷ 1 ∷ []
+count_of_names = refl
