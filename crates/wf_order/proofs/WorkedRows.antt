@@ -320,3 +320,50 @@ same_indexes-not_without s = none s.indexes s.each_loop s.of_one
     none : (k : List ℕ) → length k ≡ 2 → starts k [] ≡ true → ⊥
     none [] count one = absurd (cc)
     none (a ∷ k) count one = absurd (cc)
+
+-- Actions that both stand deep in different branches: an If 0 of a Scope 1 of 2 and 3, and otherwise of a Foreach 4 of 5; after it a Switch 6
+-- with the case of an If 7 of 8, and otherwise an Until 9 of a Scope 10 of 11.
+abbrev deep : Graph
+deep =
+    add 0 [] (Choice (
+    branch (add 1 [] (Scope (leaf 2 [] (leaf 3 [] done))) done)
+    (branch (add 4 [] (Foreach InTurn (leaf 5 [] done)) done) no_branch)))
+    (add 6 (after_one 0) (Choice (
+    branch (add 7 [] (Choice (branch (leaf 8 [] done) no_branch)) done)
+    (branch (add 9 [] (Until 60 (add 10 [] (Scope (leaf 11 [] done)) done)) done) no_branch))) done)
+
+abbrev deep_order : OrderTree
+deep_order = order_of 12 deep
+
+exclusive-both_deep : exclusive deep_order 2 5 ≡ true
+exclusive-both_deep = refl
+
+exclusive-both_deep_the_other_way_round : exclusive deep_order 5 2 ≡ true
+exclusive-both_deep_the_other_way_round = refl
+
+exclusive-deeper_on_one_side : exclusive deep_order 1 5 ≡ true
+exclusive-deeper_on_one_side = refl
+
+exclusive-deeper_on_the_other_side : exclusive deep_order 2 4 ≡ true
+exclusive-deeper_on_the_other_side = refl
+
+exclusive-deep_in_a_case_and_the_default : exclusive deep_order 8 11 ≡ true
+exclusive-deep_in_a_case_and_the_default = refl
+
+exclusive-deep_in_the_default_and_a_case : exclusive deep_order 10 8 ≡ true
+exclusive-deep_in_the_default_and_a_case = refl
+
+exclusive-not_deep_in_one_branch : exclusive deep_order 2 3 ≡ false
+exclusive-not_deep_in_one_branch = refl
+
+exclusive-not_deep_in_two_choices : exclusive deep_order 2 11 ≡ false
+exclusive-not_deep_in_two_choices = refl
+
+exclusive-not_deep_and_its_container : exclusive deep_order 0 5 ≡ false
+exclusive-not_deep_and_its_container = refl
+
+before-deep_in_two_choices : before deep_order 5 11 ≡ true
+before-deep_in_two_choices = refl
+
+before-not_deep_in_branches : before deep_order 2 5 ≡ false
+before-not_deep_in_branches = refl
