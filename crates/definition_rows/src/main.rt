@@ -10,6 +10,9 @@
 //! 2. the digest of the definition;
 //! 3. what was read, as `outline` tells it; of more than 400 bytes their number and their SHA-256 digest.
 //!
+//! A row behind the word `check` is judged by the rules on names too, of whatever kinds its actions are, built or not: the answer is the
+//! line that refuses the file, or `accepted` and how many actions there are.
+//!
 //! A line that begins with `#` is a heading, and is written as it is.
 //!
 //! The rows are data: a new row is proved by nothing and proves nothing anew. This program is no part of the engine.
@@ -27,6 +30,7 @@ use std::alloc::{AllocError, Global};
 use std::io::{self, Write};
 use wf_json::JsonFault;
 use wf_reading::{Def, RuleFault, read_def};
+use wf_rules::check;
 use wf_val::Text;
 
 // The longest outline that is written as it is, in bytes.
@@ -60,22 +64,58 @@ fn columns(alloc: Global, def: &Def) -> Result<String, AllocError> {
     format!(in alloc; "read {}\t{digest}\t{outline}", names.len())
 }
 
-// The answer to a file.
-fn answer(alloc: Global, file: &str) -> Result<String, AllocError> {
+// The line of a broken rule.
+fn broken(alloc: Global, fault: RuleFault) -> Result<String, AllocError> {
+    match fault {
+        RuleFault::Rule { rule, pointer } => {
+            let name = format!(in alloc; "V{rule}")?;
+            refused(alloc, name.as_str(), &pointer)
+        }
+        RuleFault::Memory => Err(AllocError),
+    }
+}
+
+// The definition in a file, or the line that refuses it.
+fn definition_in(alloc: Global, file: &str) -> Result<Result<Def, String>, AllocError> {
     let value = match wf_json::read(alloc, file.as_bytes()) {
         Ok(value) => value,
-        Err(JsonFault::NotJson) => return String::from_str(alloc, "definition NotJson"),
-        Err(JsonFault::NotWhole { pointer }) => return refused(alloc, "NotWhole", &pointer),
-        Err(JsonFault::TooDeep { pointer }) => return refused(alloc, "TooDeep", &pointer),
+        Err(JsonFault::NotJson) => {
+            return Ok(Err(String::from_str(alloc, "definition NotJson")?))
+        }
+        Err(JsonFault::NotWhole { pointer }) => {
+            return Ok(Err(refused(alloc, "NotWhole", &pointer)?))
+        }
+        Err(JsonFault::TooDeep { pointer }) => {
+            return Ok(Err(refused(alloc, "TooDeep", &pointer)?))
+        }
         Err(JsonFault::Memory) => return Err(AllocError),
     };
     match read_def(alloc, &value) {
+        Ok(def) => Ok(Ok(def)),
+        Err(fault) => Ok(Err(broken(alloc, fault)?)),
+    }
+}
+
+// The answer to a file that is read.
+fn read(alloc: Global, file: &str) -> Result<String, AllocError> {
+    match definition_in(alloc, file)? {
         Ok(def) => columns(alloc, &def),
-        Err(RuleFault::Rule { rule, pointer }) => {
-            let fault = format!(in alloc; "V{rule}")?;
-            refused(alloc, fault.as_str(), &pointer)
+        Err(line) => Ok(line),
+    }
+}
+
+// The answer to a file that is checked.
+fn checked(alloc: Global, file: &str) -> Result<String, AllocError> {
+    let def = match definition_in(alloc, file)? {
+        Ok(def) => def,
+        Err(line) => return Ok(line),
+    };
+    match check(alloc, def) {
+        Ok(accepted) => {
+            let names = accepted.def.top.names(alloc)?;
+            format!(in alloc; "accepted {}", names.len())
         }
-        Err(RuleFault::Memory) => Err(AllocError),
+        Err(fault) => broken(alloc, fault),
     }
 }
 
@@ -84,8 +124,13 @@ fn line_for(alloc: Global, row: &str) -> Result<String, AllocError> {
     if row.starts_with('#') {
         return String::from_str(alloc, row);
     }
+    let (is_checked, row) = match row.strip_prefix("check ") {
+        Some(row) => (true, row),
+        None => (false, row),
+    };
     match file_of_row(alloc, row)? {
-        Some(file) => answer(alloc, file.as_str()),
+        Some(file) if is_checked => checked(alloc, file.as_str()),
+        Some(file) => read(alloc, file.as_str()),
         None => String::from_str(alloc, "no row"),
     }
 }
