@@ -3,3 +3,5 @@ mod ToldLemmas
 mod RowWords
 mod WorkedNames
 mod WorkedLoops
+mod WorkedVariables
+mod WorkedSites
