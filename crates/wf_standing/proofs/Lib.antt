@@ -1,3 +1,4 @@
 pub mod StandingLemmas
 mod NameLemmas
 mod InitialLemmas
+mod WorkedRows
