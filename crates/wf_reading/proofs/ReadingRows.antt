@@ -245,3 +245,18 @@ a_wrapper_that_gives_nothing = refl
 -- an empty definition
 an_empty_file : (definition_of (fields [])).top ≡ no_actions
 an_empty_file = refl
+
+-- a bare file gives its parameters nothing, even where one of them has a `value`, as a wrapper's have
+abbrev bare : ValueTree
+bare = fields ((codes "parameters", fields ((codes "p", fields ((codes "type", word "Int") ∷ (codes "value", whole 5) ∷ [])) ∷ [])) ∷ [])
+
+a_bare_file_gives_nothing : (definition_of bare).given ≡ []
+a_bare_file_gives_nothing = refl
+
+-- nor does the definition in a wrapper; what the wrapper gives stands beside it
+a_definition_in_a_wrapper_gives_nothing : (definition_of (fields ((codes "definition", bare) ∷ []))).given ≡ []
+a_definition_in_a_wrapper_gives_nothing = refl
+
+a_wrapper_gives : (definition_of (fields ((codes "definition", bare)
+    ∷ (codes "parameters", fields ((codes "q", fields ((codes "value", whole 7) ∷ [])) ∷ [])) ∷ []))).given ≡ (codes "q", whole 7) ∷ []
+a_wrapper_gives = refl
