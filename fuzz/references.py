@@ -1,8 +1,7 @@
 """The rules V9 to V21: which names an expression may use where it stands. Decided apart from the program, after docs/RULES.md; rules.py,
 which stands on this, has the rules before.
 
-They are looked at only where V1 to V8 hold and no action is of a kind that isn't built, so no action initialises or writes a variable
-here, and there is no Terminate and no Response: V12, V13 and V15 to V17 can't be broken."""
+They are looked at only where V1 to V8 hold. V13, V15 and V16, on what may happen side by side, aren't looked at yet."""
 import functions
 import rules
 import templates
@@ -10,6 +9,9 @@ import templates
 LOOPS = ("foreach", "until")
 CONTAINERS = LOOPS + ("scope", "if", "switch")
 WORDS, MOMENTS = ("guid", "rand"), ("utcnow", "getfuturetime", "getpasttime")
+# which types of variables an action writes
+SUITED = {"setvariable": "boolean integer string array object".split(), "incrementvariable": ["integer"], "decrementvariable": ["integer"],
+          "appendtoarrayvariable": ["array"], "appendtostringvariable": ["string"]}
 SORTS = {"int": "I", "string": "T", "bool": "B", "array": "L", "object": "O", "securestring": "T", "secureobject": "O"}
 
 
@@ -127,8 +129,52 @@ def parameters(whole, given):
             yield ("parameters", name)
 
 
+# The variables that an action initialises, each as it is written down.
+def initials(node):
+    return node.action["inputs"]["variables"] if node.kind == "initializevariable" else []
+
+
+# The name of the variable that it writes, if it is of a kind that does.
+def written(node):
+    return node.action["inputs"]["name"] if node.kind in SUITED else None
+
+
+# Of each name of a variable, the actions that initialise it, by their pointers, each as often as it does.
+def initialised(whole):
+    found = {}
+    for node in sorted(whole.nodes, key=lambda node: rules.pointer(node.path).encode()):
+        for initial in initials(node):
+            found.setdefault(initial["name"], []).append((node, rules.low(initial["type"])))
+    return found
+
+
+# What names a variable: its place, the action if it is one's, and the name.
+def accesses(whole):
+    for site in whole.sites:
+        if site.kind != "trigger":
+            yield from ((site.path, site.node, name) for name in site.named("variables"))
+    for node in whole.nodes:
+        yield from ((node.path, node, name) for name in [initial["name"] for initial in initials(node)] + [written(node)]
+                    if name is not None)
+
+
 def variables(whole):
-    yield from (site.path for site in whole.sites if site.kind != "trigger" and site.named("variables"))
+    by_name = initialised(whole)
+    for found in by_name.values():
+        yield from (node.path for node, _ in found[1:])
+    for path, node, name in accesses(whole):
+        found = by_name.get(name, [])
+        if not found or len(found) == 1 and found[0][0].within:
+            yield path
+        elif len(found) == 1 and node is not None and written(node) == name and found[0][1] not in SUITED[node.kind]:
+            yield path
+
+
+def initialised_late(whole):
+    by_name = initialised(whole)
+    for path, node, name in accesses(whole):
+        if node is not None and any(other is not node and not whole.is_before(other, node) for other, _ in by_name.get(name, [])):
+            yield path
 
 
 def items(whole):
@@ -140,6 +186,10 @@ def items(whole):
         in_a_list = site.node is not None and any(node.kind == "foreach" for node in site.node.within)
         if not fine or site.uses("item") and not in_a_list and site.kind != "items":
             yield site.path
+
+
+def ends(whole):
+    yield from (node.path for node in whole.nodes if node.kind in ("terminate", "response") and node.loops())
 
 
 def loops_left(whole):
@@ -178,7 +228,9 @@ def broken(definition, given):
     yield 9, references(whole)
     yield 10, parameters(whole, given)
     yield 11, variables(whole)
+    yield 12, initialised_late(whole)
     yield 14, items(whole)
+    yield 17, ends(whole)
     yield 18, loops_left(whole)
     yield 19, results(whole)
     yield 20, tracked(whole)
