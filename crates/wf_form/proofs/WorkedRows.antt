@@ -639,11 +639,11 @@ unfolding type_of form schema limits naming types lacking expressions run_after 
     output_has_members bad_texts_of_action bad_texts_of_trigger bad_texts_of_output is_bad template_in kind word_of word_front
 trigger_split_on = refl
 
-members_before_circle : says (graph (waiting (codes "A") (codes "A" ∷ []) ∷ action (codes "B") (codes "Wait") []
+members_before_cycle : says (graph (waiting (codes "A") (codes "A" ∷ []) ∷ action (codes "B") (codes "Wait") []
     ∷ [])) Rule.Members (codes "/actions/B")
 unfolding type_of form schema limits naming types lacking expressions run_after chars action_has_members trigger_has_members
     output_has_members bad_texts_of_action bad_texts_of_trigger bad_texts_of_output is_bad template_in kind word_of word_front
-members_before_circle = refl
+members_before_cycle = refl
 
 -- ---- 7
 
@@ -724,18 +724,18 @@ least_expression = refl
 
 -- ---- 8
 
-circle : says (graph (waiting (codes "A") (codes "B" ∷ []) ∷ waiting (codes "B") (codes "A" ∷ []) ∷ waiting (codes "C") (codes "B"
+a_cycle : says (graph (waiting (codes "A") (codes "B" ∷ []) ∷ waiting (codes "B") (codes "A" ∷ []) ∷ waiting (codes "C") (codes "B"
     ∷ []) ∷ [])) Rule.RunAfter (codes "/actions/A")
 unfolding type_of form schema limits naming types lacking expressions run_after chars action_has_members trigger_has_members
     output_has_members bad_texts_of_action bad_texts_of_trigger bad_texts_of_output is_bad template_in kind word_of word_front
-circle = refl
+a_cycle = refl
 
--- A comes behind the circle and is not on it
-what_follows_a_circle : says (graph (waiting (codes "A") (codes "B" ∷ []) ∷ waiting (codes "B") (codes "C" ∷ [])
+-- A comes behind the cycle and is not on it
+what_follows_a_cycle : says (graph (waiting (codes "A") (codes "B" ∷ []) ∷ waiting (codes "B") (codes "C" ∷ [])
     ∷ waiting (codes "C") (codes "B" ∷ []) ∷ [])) Rule.RunAfter (codes "/actions/B")
 unfolding type_of form schema limits naming types lacking expressions run_after chars action_has_members trigger_has_members
     output_has_members bad_texts_of_action bad_texts_of_trigger bad_texts_of_output is_bad template_in kind word_of word_front
-what_follows_a_circle = refl
+what_follows_a_cycle = refl
 
 of_another_graph : says (graph (compose (codes "A") ∷ in_scope (codes "S") (waiting (codes "B") (codes "A" ∷ []) ∷ [])
     ∷ [])) Rule.RunAfter (codes "/actions/S/actions/B")
@@ -802,7 +802,7 @@ unfolding type_of form schema limits naming types lacking expressions run_after 
     output_has_members bad_texts_of_action bad_texts_of_trigger bad_texts_of_output is_bad template_in kind word_of word_front
 no_object_at_all = refl
 
-circle_in_a_file : fault_of (graph (waiting (codes "A") (codes "A" ∷ []) ∷ [])) ≡ Some (8, codes "/actions/A")
+cycle_in_a_file : fault_of (graph (waiting (codes "A") (codes "A" ∷ []) ∷ [])) ≡ Some (8, codes "/actions/A")
 unfolding type_of form schema limits naming types lacking expressions run_after chars action_has_members trigger_has_members
     output_has_members bad_texts_of_action bad_texts_of_trigger bad_texts_of_output is_bad template_in kind word_of word_front
-circle_in_a_file = refl
+cycle_in_a_file = refl

@@ -1,4 +1,4 @@
--- Rule 1: what has to be an object, a list or a text is one.
+-- V1: what has to be an object, a list or a text is one.
 use Rattle.std.specs.Prelude.{ℕ, ◌++◌, List, [], Bool, true, false, not, Option, if◌then◌else◌, codes}
 use Rattle.std.specs.List.{list_all}
 use Rattle.std.specs.Option.{option_map_or}

@@ -1,4 +1,4 @@
--- Rule 3: nothing is more than the limits allow, or deeper.
+-- V3: nothing is more than the limits allow, or deeper.
 use Rattle.std.specs.Prelude.{ℕ, ◌++◌, List, [], length, ◌||◌, nat_lt, Option, Some, codes}
 use Rattle.wf_json.specs.Pointer.{flagged, here}
 use Rattle.wf_val.specs.ValueTree.{ValueTree, object, pairs}

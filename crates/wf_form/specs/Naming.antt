@@ -1,4 +1,4 @@
--- Rule 4: names have their form, and an action's stands once in the whole definition.
+-- V4: names have their form, and an action's stands once in the whole definition.
 use Rattle.std.specs.Prelude.{ℕ, List, length, Bool, false, not, ◌&&◌, ◌||◌, ◌==◌, nat_le}
 use Rattle.std.specs.List.{list_all}
 use Rattle.std.specs.Str.{chars}

@@ -1,4 +1,4 @@
--- Rule 2: the schema is that of 2016-06-01 (Workflow Definition Language, "Workflow definition structure").
+-- V2: the schema is that of 2016-06-01 (Workflow Definition Language, "Workflow definition structure").
 use Rattle.std.specs.Prelude.{ℕ, List, [], Bool, false, not, ◌||◌, Option, bytes_eq, codes}
 use Rattle.std.specs.Option.{option_map_or}
 use Rattle.wf_json.specs.Pointer.{flagged}

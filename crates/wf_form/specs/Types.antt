@@ -1,4 +1,4 @@
--- Rule 5: types are known (Workflow Definition Language, "Parameters", "Triggers and actions").
+-- V5: types are known (Workflow Definition Language, "Parameters", "Triggers and actions").
 use Rattle.std.specs.Prelude.{ℕ, List, [], ◌∷◌, Bool, false, not, Option, Some, is_none, codes}
 use Rattle.std.specs.List.{list_any}
 use Rattle.std.specs.Str.{str_eq_ignore_ascii_case}

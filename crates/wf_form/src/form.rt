@@ -1,4 +1,4 @@
-//! Rule 1: the forms of values.
+//! V1: the forms of values.
 ghost use Rattle.std.specs.Prelude.{◌≡◌, map, IfOk, option_map, string_bytes};
 ghost use Rattle.std.specs.List.{list_all};
 ghost use Rattle.wf_json.specs.Pointer.{least};

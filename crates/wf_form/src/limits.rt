@@ -1,4 +1,4 @@
-//! Rule 3: limits.
+//! V3: limits.
 ghost use Rattle.std.specs.Prelude.{◌≡◌, ◌||◌, nat_lt, IfOk, option_map, string_bytes};
 ghost use Rattle.wf_json.specs.Pointer.{least};
 ghost use Rattle.wf_val.specs.Seen.{tree};

@@ -1,4 +1,4 @@
-//! Rule 4: names.
+//! V4: names.
 ghost use Rattle.std.specs.Prelude.{◌≡◌, IfOk, option_map, string_bytes};
 ghost use Rattle.std.specs.List.{list_all};
 ghost use Rattle.wf_json.specs.Pointer.{least};

@@ -1,4 +1,4 @@
-//! Rule 2: the schema.
+//! V2: the schema.
 ghost use Rattle.std.specs.Prelude.{◌≡◌, bytes_eq, IfOk, option_map, string_bytes};
 ghost use Rattle.wf_json.specs.Pointer.{least};
 ghost use Rattle.wf_val.specs.Seen.{tree};

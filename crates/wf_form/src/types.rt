@@ -1,4 +1,4 @@
-//! Rule 5: the types of actions, triggers and parameters.
+//! V5: the types of actions, triggers and parameters.
 ghost use Rattle.std.specs.Prelude.{◌≡◌, IfOk, option_map, string_bytes};
 ghost use Rattle.std.specs.List.{list_any};
 ghost use Rattle.std.specs.Str.{str_eq_ignore_ascii_case};
