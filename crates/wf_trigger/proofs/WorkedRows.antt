@@ -116,6 +116,14 @@ parameters-default = refl
 parameters-null : parameters_of ((codes "p", null) ∷ []) [] (p (Some (n 3)) None ∷ []) ≡ Err (TriggerFault.ParameterType (codes "p"))
 parameters-null = refl
 
+-- so it is where the wrapper gives it, and as a default
+parameters-null_of_wrapper : parameters_of [] ((codes "p", null) ∷ []) (p (Some (n 3)) None ∷ [])
+    ≡ Err (TriggerFault.ParameterType (codes "p"))
+parameters-null_of_wrapper = refl
+
+parameters-null_default : parameters_of [] [] (p (Some null) None ∷ []) ≡ Err (TriggerFault.ParameterType (codes "p"))
+parameters-null_default = refl
+
 parameters-missing : parameters_of [] [] (p None None ∷ []) ≡ Err (TriggerFault.NoParameter (codes "p"))
 parameters-missing = refl
 
