@@ -114,7 +114,7 @@ row_of_a = record {
   outputs = Val.Text (codes "four");
   error = Val.Text (codes "failing");
   tracked = Val.Null;
-  attempts = 0;
+  attempts = [];
 }
 
 abbrev leaf_of_b : LeafAt
@@ -183,7 +183,7 @@ mixed = record {
   outputs = text (codes "outputs");
   error = text (codes "error");
   tracked = text (codes "tracked");
-  attempts = 0;
+  attempts = [];
 }
 
 abbrev rows : Table Row
