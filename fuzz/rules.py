@@ -163,9 +163,15 @@ def schema(definition):
         yield ("$schema",)
 
 
+# How many variables an action makes.
+def made(action):
+    listed = at(action.get("inputs"), "variables")
+    return len(listed) if type_of(action) == "initializevariable" and isinstance(listed, list) else 0
+
+
 def limits(definition):
     found = list(actions(definition))
-    if len(found) > 500 or sum(type_of(action) == "initializevariable" for _, action, _ in found) > 250:
+    if len(found) > 500 or sum(made(action) for _, action, _ in found) > 250:
         yield ("actions",)
     for section, most in (("parameters", 50), ("triggers", 10), ("outputs", 10)):
         if len(definition.get(section, {})) > most:
@@ -244,7 +250,7 @@ def is_whole_action(action):
         return isinstance(inputs, dict) and (needed is None or needed in inputs)
     if kind == "initializevariable":
         listed = at(inputs, "variables")
-        return isinstance(listed, list) and len(listed) == 1 and is_variable(listed[0])
+        return isinstance(listed, list) and 1 <= len(listed) <= 20 and all(map(is_variable, listed))
     if kind.endswith("variable"):
         return isinstance(at(inputs, "name"), str) and (kind in ("incrementvariable", "decrementvariable") or has(inputs, "value"))
     if kind in ASKED:
@@ -293,7 +299,8 @@ def templates_of(action, path):
     elif kind in ("compose", "wait", "response", "terminate"):
         yield from texts(inputs, path + ("inputs",))
     elif kind == "initializevariable":
-        yield from texts(at(inputs["variables"][0], "value"), path + ("inputs", "variables", 0, "value"))
+        for place, variable in enumerate(inputs["variables"]):
+            yield from texts(variable.get("value"), path + ("inputs", "variables", place, "value"))
     for name in ASKED.get(kind, ()):
         yield from texts(inputs.get(name), path + ("inputs", name))
     for name, kinds in (("expression", ("if", "switch", "until")), ("foreach", ("foreach",))):

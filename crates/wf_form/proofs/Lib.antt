@@ -2,3 +2,4 @@ pub mod WalkLemmas
 mod FaultLemmas
 mod NameLemmas
 mod WorkedRows
+mod WorkedVariables

@@ -1,5 +1,5 @@
 -- Worked values: definitions, and what each breaks first. Each rule is there by itself, and beside another.
-use Rattle.std.proofs.Common.{◌≡◌, ℕ, zero, suc, pos, List, [], ◌∷◌, ◌++◌, codes, map, true, false, Some, None, refl}
+use Rattle.std.proofs.Common.{◌≡◌, ℕ, zero, suc, pos, List, [], ◌∷◌, ◌++◌, codes, map, true, false, nat_lt, Some, None, refl}
 use Rattle.std.specs.Fmt.{digits}
 use Rattle.std.specs.Str.{chars}
 use lib.Utf8.{encode}
@@ -19,7 +19,7 @@ use Rattle.wf_form.specs.Limits.{limits}
 use Rattle.wf_form.specs.Naming.{naming, is_name}
 use Rattle.wf_form.specs.Schema.{schema}
 use Rattle.wf_form.specs.Types.{types}
-use Rattle.wf_form.specs.Whole.{Whole, count_variables}
+use Rattle.wf_form.specs.Whole.{Whole}
 use Rattle.wf_form.specs.declared.role.Role.{Role}
 use Rattle.wf_form.specs.declared.rule.Rule.{Rule}
 
@@ -362,7 +362,7 @@ times zero x = []
 times (suc n) x = x ∷ times n x
 
 abbrev counted : ℕ → ℕ → Whole
-counted actions variables = record { actions = actions; variables = variables; repeats = λ name. false }
+counted actions variables = record { actions = actions; has_too_many_variables = nat_lt 250 variables; repeats = λ name. false }
 
 actions_500 : limits (counted 500 250) Role.Definition (of []) ≡ []
 unfolding limits
@@ -375,13 +375,6 @@ actions_501 = refl
 variables_251 : limits (counted 251 251) Role.Definition (of []) ≡ codes "/actions" ∷ []
 unfolding limits
 variables_251 = refl
-
--- each action that initialises is a variable, whatever it initialises
-variables_of : count_variables (actions_of (graph (action (codes "A") (codes "initializeVARIABLE") []
-    ∷ in_scope (codes "S") (action (codes "B") (codes "InitializeVariable") [] ∷ action (codes "C") (codes "SetVariable") [] ∷ [])
-    ∷ []))) ≡ 2
-unfolding type_of
-variables_of = refl
 
 names_of : map (λ a. a.0) (actions_of (graph (in_scope (codes "S") (compose (codes "B") ∷ []) ∷ compose (codes "T") ∷ [])))
     ≡ codes "S" ∷ codes "B" ∷ codes "T" ∷ []

@@ -10,6 +10,6 @@ is_listed name names = list_any (bytes_eq name) names
 abbrev pub whole_seen : Known → Whole
 whole_seen known = record {
   actions = known.actions;
-  variables = known.variables;
+  has_too_many_variables = known.has_too_many_variables;
   repeats = λ name. is_listed name (map (λ k. k.now) known.repeated.keys);
 }

@@ -18,7 +18,7 @@ too_many most key t = flagged (nat_lt most (member_count (get key t))) key
 -- actions and variables are told at the top graph, wherever they stand
 abbrev pub limits_at : Whole → Role → ValueTree → List (List ℕ)
 limits_at whole Role.Definition t =
-    flagged (nat_lt 500 whole.actions || nat_lt 250 whole.variables) (codes "actions")
+    flagged (nat_lt 500 whole.actions || whole.has_too_many_variables) (codes "actions")
     ++ (too_many 50 (codes "parameters") t ++ (too_many 10 (codes "triggers") t ++ too_many 10 (codes "outputs") t))
 limits_at whole (Role.Action level) t = here (nat_lt 8 level)
 limits_at whole (Role.Cases level) t = here (nat_lt 25 (member_count (Some t)))

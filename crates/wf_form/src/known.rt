@@ -1,40 +1,58 @@
 //! What is known of the whole definition, wherever a rule looks.
-ghost use Rattle.std.specs.Prelude.{◌≡◌, ℕ, List, bytes_eq, map, nat_lt, IfOk};
+ghost use Rattle.std.specs.Prelude.{◌≡◌, ℕ, List, bytes_eq, map, nat_lt, option_map, IfOk};
 ghost use Rattle.wf_val.specs.Seen.{tree, member};
 ghost use Rattle.wf_form.specs.KnownSeen.{is_listed, whole_seen};
-ghost use Rattle.wf_form.specs.Whole.{count_named, count_variables, is_initialize, whole_among, whole_of};
+ghost use Rattle.wf_form.specs.Whole.{count_named, count_variables, variables_by, variables_in, whole_among, whole_of};
 ghost use Rattle.wf_kinds.specs.ActionType.{type_of};
 
 use crate::actions::actions_of;
 use std::alloc::{AllocError, Global};
 use std::collections::BTreeSet;
-use wf_kinds::ActionType;
+use wf_kinds::{ActionType, input};
 use wf_val::{Text, Val};
 
-/// How many actions and variables there are, and which names more than one action has.
+const MOST_VARIABLES: u64 = 250;
+
+/// How many actions there are, whether there are too many variables, and which names more than one action has.
 #[derive(Drop)]
 pub(crate) struct Known<'a> {
     actions: usize,
-    variables: usize,
+    has_too_many_variables: bool,
     repeated: BTreeSet<&'a str>,
 }
 
-fn is_initialize(action: &Val) -> bool
-    ensures { result ≡ is_initialize (type_of (tree action.now)) }
+#[tactic(auto, using(wf_val::proofs::ValueTreeLemmas::listed))]
+fn variables_in(value: Option<&Val>) -> u64
+    ensures { result ≡ variables_in (option_map (λ v. tree v.now) value.entry) }
 {
-    matches!(ActionType::of(action), Some(ActionType::InitializeVariable))
+    match value {
+        Some(Val::List(variables)) => variables.len(),
+        _ => 0,
+    }
 }
 
-fn count_variables(actions: &[&(Text, Val)]) -> usize
-    ensures { result ≡ count_variables (map (λ m. member m.now) actions.now) }
+// How many variables an action makes.
+fn variables_by(action: &Val) -> u64
+    ensures { result ≡ variables_by (type_of (tree action.now)) (tree action.now) }
 {
-    let mut count = 0;
-    for action in actions {
-        if is_initialize(&action.1) {
-            count += 1;
-        }
+    match ActionType::of(action) {
+        Some(ActionType::InitializeVariable) => variables_in(input(action, "variables")),
+        _ => 0,
     }
-    count
+}
+
+fn make_too_many_variables(actions: &[&(Text, Val)]) -> bool
+    ensures { result ≡ nat_lt 250 (count_variables (map (λ m. member m.now) actions.now)) }
+{
+    let mut left = MOST_VARIABLES;
+    for action in actions {
+        let made = variables_by(&action.1);
+        if made > left {
+            return true;
+        }
+        left -= made;
+    }
+    false
 }
 
 // The names that stand again.
@@ -59,7 +77,7 @@ impl<'a> Known<'a> {
     {
         Ok(Known {
             actions: actions.len(),
-            variables: count_variables(actions),
+            has_too_many_variables: make_too_many_variables(actions),
             repeated: repeated(alloc, actions)?,
         })
     }
@@ -78,10 +96,10 @@ impl<'a> Known<'a> {
         self.actions
     }
 
-    pub(crate) fn variables(&self) -> usize
-        ensures { result ≡ (whole_seen self.now).variables }
+    pub(crate) fn has_too_many_variables(&self) -> bool
+        ensures { result ≡ (whole_seen self.now).has_too_many_variables }
     {
-        self.variables
+        self.has_too_many_variables
     }
 
     /// Whether more than one action has the name.

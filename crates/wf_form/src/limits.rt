@@ -14,8 +14,6 @@ use wf_val::Val;
 
 const MOST_ACTIONS: usize = 500;
 
-const MOST_VARIABLES: usize = 250;
-
 const MOST_PARAMETERS: u64 = 50;
 
 const MOST_TRIGGERS: u64 = 10;
@@ -44,9 +42,9 @@ fn too_many(alloc: Global, most: u64, key: &str, value: &Val) -> Result<Option<S
 }
 
 fn are_too_many(known: &Known) -> bool
-    ensures { result ≡ (nat_lt 500 (whole_seen known.now).actions || nat_lt 250 (whole_seen known.now).variables) }
+    ensures { result ≡ (nat_lt 500 (whole_seen known.now).actions || (whole_seen known.now).has_too_many_variables) }
 {
-    known.actions() > MOST_ACTIONS || known.variables() > MOST_VARIABLES
+    known.actions() > MOST_ACTIONS || known.has_too_many_variables()
 }
 
 #[tactic(auto, using(crate::proofs::WalkLemmas::least_append))]

@@ -267,7 +267,7 @@ parse_json-refused : map action_has_members (
 unfolding action_has_members type_of
 parse_json-refused = refl
 
--- one variable, with a name and a type
+-- a variable has a name and a type; how many there may be is in WorkedVariables
 initialize-accepted : map action_has_members (
     given (codes "InitializeVariable") (object_of ((
       codes "variables",
@@ -311,12 +311,6 @@ initialize-refused : map action_has_members (
     given (codes "InitializeVariable") (object_of ((codes "variables", list_of []) ∷ [])) ∷
     given (codes "InitializeVariable") (object_of ((
       codes "variables",
-      list_of (object_of ((codes "name", text (codes "v")) ∷
-          (codes "type", text (codes "integer")) ∷ []) ∷ object_of ((codes "name", text (codes "w")) ∷
-          (codes "type", text (codes "integer")) ∷ []) ∷ []),
-    ) ∷ [])) ∷
-    given (codes "InitializeVariable") (object_of ((
-      codes "variables",
       object_of ((codes "name", text (codes "v")) ∷
           (codes "type", text (codes "integer")) ∷ []),
     ) ∷ [])) ∷
@@ -357,7 +351,7 @@ initialize-refused : map action_has_members (
           (codes "type", text (codes " integer")) ∷ []) ∷ []),
     ) ∷ [])) ∷
     [])
-    ≡ false ∷ false ∷ false ∷ false ∷ false ∷ false ∷ false ∷ false ∷ false ∷ false ∷ false ∷ false ∷ false ∷ false ∷ []
+    ≡ false ∷ false ∷ false ∷ false ∷ false ∷ false ∷ false ∷ false ∷ false ∷ false ∷ false ∷ false ∷ false ∷ []
 unfolding action_has_members type_of
 initialize-refused = refl
 

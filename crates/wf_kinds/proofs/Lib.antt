@@ -4,3 +4,4 @@ mod InputRows
 mod PartLemmas
 mod SectionRows
 mod TypeRows
+mod WorkedVariables

@@ -1,8 +1,8 @@
 -- What is asked of actions on variables (Workflow Definition Language, "Variables actions").
-use Rattle.std.specs.Prelude.{ℕ, List, [], ◌∷◌, Bool, false, ◌&&◌, Option, Some, is_some, codes}
-use Rattle.std.specs.List.{list_any}
+use Rattle.std.specs.Prelude.{ℕ, nat_le, List, [], ◌∷◌, length, Bool, false, ◌&&◌, Option, Some, is_some, codes}
+use Rattle.std.specs.List.{list_all, list_any}
 use Rattle.std.specs.Str.{str_eq_ignore_ascii_case}
-use Rattle.wf_val.specs.ValueTree.{ValueTree, text, list, no_values, value_then}
+use Rattle.wf_val.specs.ValueTree.{ValueTree, text, list, items}
 use Rattle.wf_val.specs.Get.{get}
 use Rattle.wf_kinds.specs.Parts.{input, is_text}
 
@@ -18,13 +18,13 @@ is_variable_type t = false
 abbrev pub is_initial : ValueTree → Bool
 is_initial t = is_text (get (codes "name") t) && is_variable_type (get (codes "type") t)
 
--- a list of one variable
-abbrev pub is_one_initial : Option ValueTree → Bool
-is_one_initial (Some (list (value_then t no_values))) = is_initial t
-is_one_initial t = false
+-- a list of 1 to 20 variables; a name may stand twice here
+abbrev pub are_initials : Option ValueTree → Bool
+are_initials (Some (list ts)) = nat_le 1 (length (items ts)) && nat_le (length (items ts)) 20 && list_all is_initial (items ts)
+are_initials t = false
 
 abbrev pub initialize_has : ValueTree → Bool
-initialize_has t = is_one_initial (input (codes "variables") t)
+initialize_has t = are_initials (input (codes "variables") t)
 
 -- of a variable that is set, or to which something is appended
 abbrev pub set_has : ValueTree → Bool

@@ -1,13 +1,12 @@
 //! What is asked of actions on variables.
-ghost use Rattle.std.specs.Prelude.{◌≡◌, Some, option_map};
-ghost use Rattle.std.specs.List.{list_any};
+ghost use Rattle.std.specs.Prelude.{◌≡◌, map, option_map};
+ghost use Rattle.std.specs.List.{list_all, list_any};
 ghost use Rattle.std.specs.Str.{str_eq_ignore_ascii_case};
 ghost use Rattle.wf_val.specs.Seen.{tree};
-ghost use Rattle.wf_val.specs.ValueTree.{list, trees};
-ghost use Rattle.wf_kinds.specs.Variables.{count_has, initialize_has, is_initial, is_one_initial, is_variable_type, set_has, variable_types};
+ghost use Rattle.wf_kinds.specs.Variables.{are_initials, count_has, initialize_has, is_initial, is_variable_type, set_has, variable_types};
 
 use crate::parts::{input, is_text};
-use wf_val::{Val, Vals};
+use wf_val::Val;
 
 fn is_variable_type(value: Option<&Val>) -> bool
     ensures { result ≡ is_variable_type (option_map (λ v. tree v.now) value.entry) }
@@ -34,21 +33,26 @@ fn is_initial(value: &Val) -> bool
     is_text(value.member("name")) && is_variable_type(value.member("type"))
 }
 
-fn is_one_initial(variables: &Vals) -> bool
-    ensures { result ≡ is_one_initial (Some (list (trees variables.now))) }
+fn are_all_initial(initials: &[Val]) -> bool
+    ensures { result ≡ list_all is_initial (map tree initials.now) }
 {
-    match variables.as_slice() {
-        [] => false,
-        [initial] => is_initial(initial),
-        [_, _, ..] => false,
+    for initial in initials {
+        if !is_initial(initial) {
+            return false;
+        }
     }
+    true
 }
 
-fn are_variables(value: Option<&Val>) -> bool
-    ensures { result ≡ is_one_initial (option_map (λ v. tree v.now) value.entry) }
+// One action may make several variables.
+#[tactic(auto, using(wf_val::proofs::ValueTreeLemmas::listed))]
+fn are_initials(value: Option<&Val>) -> bool
+    ensures { result ≡ are_initials (option_map (λ v. tree v.now) value.entry) }
 {
     match value {
-        Some(Val::List(variables)) => is_one_initial(variables),
+        Some(Val::List(initials)) => {
+            1 <= initials.len() && initials.len() <= 20 && are_all_initial(initials.as_slice())
+        }
         _ => false,
     }
 }
@@ -56,7 +60,7 @@ fn are_variables(value: Option<&Val>) -> bool
 pub(crate) fn initialize_has(action: &Val) -> bool
     ensures { result ≡ initialize_has (tree action.now) }
 {
-    are_variables(input(action, "variables"))
+    are_initials(input(action, "variables"))
 }
 
 pub(crate) fn set_has(action: &Val) -> bool

@@ -1,3 +1,4 @@
 pub mod DataLemmas
 pub mod ConditionLemmas
 pub mod WorkedRows
+pub mod WorkedVariables

@@ -119,8 +119,9 @@ names-once t is = once-among (actions_of t) (actions_of t) (λ k. omega arith) (
 limit-fine : (whole : Whole) (t : ValueTree) → limits whole Role.Definition t ≡ [] → whole.actions ≤ 500
 unfolding limits
 limit-fine whole t is =
-    ltb-false 500 whole.actions (or-first (nat_lt 500 whole.actions) (nat_lt 250 whole.variables)
-    (flagged-none (nat_lt 500 whole.actions || nat_lt 250 whole.variables) (codes "actions") (append-first (flagged (nat_lt 500 whole.actions || nat_lt 250 whole.variables) (codes "actions")) _ is)))
+    let too_many = nat_lt 500 whole.actions || whole.has_too_many_variables in
+    ltb-false 500 whole.actions (or-first (nat_lt 500 whole.actions) whole.has_too_many_variables
+    (flagged-none too_many (codes "actions") (append-first (flagged too_many (codes "actions")) _ is)))
 
 own-limits : (whole : Whole) (t : ValueTree) → places Rule.Limits whole Role.Definition [] t ≡ [] → limits whole Role.Definition t ≡ []
 own-limits whole null is = is

@@ -1,5 +1,6 @@
 mod FaultLemmas
 mod ToldLemmas
+mod WorkedSeveral
 mod RowWords
 mod WorkedNames
 mod WorkedLoops
