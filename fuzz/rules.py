@@ -16,6 +16,7 @@ LEAVES = CONNECTORS + ("compose wait response terminate select query join parsej
 HOLDING_ONE = "scope if foreach until".split()
 PARAMETER_TYPES = "int string bool array object securestring secureobject".split()
 VARIABLE_TYPES = "boolean integer string array object".split()
+SCHEMA_TYPES = "null boolean integer number string array object".split()
 COMPARISONS = "equals greater greaterOrEquals less lessOrEquals contains startsWith endsWith".split()
 STATUSES = "succeeded failed skipped timedout".split()
 # the texts of which the members of `inputs` are templates, where not all of `inputs` is one
@@ -232,6 +233,18 @@ def is_variable(value):
     return isinstance(at(value, "name"), str) and isinstance(at(value, "type"), str) and low(value["type"]) in VARIABLE_TYPES
 
 
+def is_schema(value):
+    if not isinstance(value, dict):
+        return False
+    types = value["type"] if isinstance(value.get("type"), list) else [value.get("type", "null")]
+    properties, required, items = (value.get(name, absent) for name, absent in (("properties", {}), ("required", []), ("items", [])))
+    return (types != [] and all(isinstance(name, str) and name in SCHEMA_TYPES for name in types)
+            and isinstance(value.get("enum", []), list)
+            and isinstance(properties, dict) and all(map(is_schema, properties.values()))
+            and isinstance(required, list) and all(isinstance(name, str) for name in required)
+            and (isinstance(items, list) or is_schema(items)))
+
+
 def are_cases(cases):
     values = [at(case, "case") for case in cases.values()]
     told = [(isinstance(value, str), value) for value in values if isinstance(value, str) or is_whole(value)]
@@ -257,7 +270,7 @@ def is_whole_action(action):
         whole = all(has(inputs, name) for name in ASKED[kind])
         if kind == "query":
             return whole and isinstance(inputs["where"], str)
-        return whole and (kind != "parsejson" or isinstance(inputs.get("schema", {}), dict))
+        return whole and (kind != "parsejson" or is_schema(inputs.get("schema", {})))
     if kind == "if":
         return is_condition(action.get("expression"))
     if kind == "switch":

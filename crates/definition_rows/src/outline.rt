@@ -375,6 +375,19 @@ fn push_initials(alloc: Global, out: &mut String, initials: &[Initial]) -> Resul
     Ok(())
 }
 
+fn push_parse_json(
+    alloc: Global,
+    out: &mut String,
+    content: &Tree,
+    has_schema: bool,
+) -> Result<(), AllocError> {
+    push_one(alloc, out, "parseJson", content)?;
+    if has_schema {
+        out.push_str(" schema")?;
+    }
+    Ok(())
+}
+
 fn push_leaf(alloc: Global, out: &mut String, kind: &Kind) -> Result<(), AllocError> {
     match kind {
         Kind::Compose { inputs } => push_one(alloc, out, "compose", inputs),
@@ -385,7 +398,9 @@ fn push_leaf(alloc: Global, out: &mut String, kind: &Kind) -> Result<(), AllocEr
         Kind::Select { from, select } => push_two(alloc, out, "select", from, select),
         Kind::Query { from, filter } => push_query(alloc, out, from, filter),
         Kind::Join { from, with } => push_two(alloc, out, "join", from, with),
-        Kind::ParseJson { content } => push_one(alloc, out, "parseJson", content),
+        Kind::ParseJson { content, schema } => {
+            push_parse_json(alloc, out, content, schema.is_some())
+        }
         Kind::Initialize { variables } => push_initials(alloc, out, variables.as_slice()),
         Kind::Set { name, value } => push_set(alloc, out, "set", name, value),
         Kind::Increment { name, value } => push_step(alloc, out, "increment", name, value),

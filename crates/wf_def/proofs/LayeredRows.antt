@@ -55,7 +55,7 @@ statuses = refl
 
 -- what holds no graph is a leaf
 abbrev leaves : List KindTree
-leaves = compose null ∷ connector null Policy.Never ∷ wait null ∷ response null ∷ terminate null ∷ select null null ∷ query null (plain []) ∷ join null null ∷ parse_json null
+leaves = compose null ∷ connector null Policy.Never ∷ wait null ∷ response null ∷ terminate null ∷ select null null ∷ query null (plain []) ∷ join null null ∷ parse_json null None
     ∷ initialize [] ∷ set_to [] null ∷ increment [] None ∷ decrement [] (Some null) ∷ append_array [] null ∷ append_string [] null ∷ []
 
 abbrev kinds_of : List KindTree → List layers.Kind

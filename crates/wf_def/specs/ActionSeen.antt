@@ -4,6 +4,7 @@ use Rattle.wf_val.specs.Seen.{tree}
 use Rattle.wf_template.specs.TemplateSeen.{template_tree}
 use Rattle.wf_template.specs.DataSeen.{data_tree}
 use Rattle.wf_template.specs.CondSeen.{cond_tree}
+use Rattle.wf_schema.specs.Reading.{schema_tree}
 use Rattle.wf_def.specs.ActionTree.{InitialTree, ActionTree, action, KindTree, compose, connector, wait, response, terminate, select, query, join, parse_json, initialize, set_to, increment, decrement, append_array, append_string, scope, branch, switch, switch_else, foreach, until, ActionTrees, CaseTree, action_trees, case_trees}
 use Rattle.wf_def.specs.declared.sort.Initial.{Initial}
 use Rattle.wf_def.specs.declared.graph.Kind.{Kind, Kind-F, fold-Kind}
@@ -27,7 +28,7 @@ kind_step (Kind-F.Terminate inputs) = terminate (data_tree inputs)
 kind_step (Kind-F.Select from item) = select (data_tree from) (data_tree item)
 kind_step (Kind-F.Query from filter) = query (data_tree from) (template_tree filter)
 kind_step (Kind-F.Join from with') = join (data_tree from) (data_tree with')
-kind_step (Kind-F.ParseJson content) = parse_json (data_tree content)
+kind_step (Kind-F.ParseJson content schema) = parse_json (data_tree content) (option_map schema_tree schema)
 kind_step (Kind-F.Initialize variables) = initialize (map initial_tree variables)
 kind_step (Kind-F.Set name value) = set_to name (data_tree value)
 kind_step (Kind-F.Increment name value) = increment name (option_map data_tree value)

@@ -4,6 +4,7 @@ use Rattle.wf_val.specs.ValueTree.{ValueTree}
 use Rattle.wf_template.specs.TemplateTree.{TemplateTree}
 use Rattle.wf_template.specs.DataTree.{DataTree, DataMember}
 use Rattle.wf_template.specs.CondTree.{CondTree}
+use Rattle.wf_schema.specs.Reading.{SchemaTree}
 use Rattle.wf_retry.specs.declared.policy.Policy.{Policy}
 use Rattle.wf_def.specs.declared.after.After.{After}
 use Rattle.wf_def.specs.declared.sort.Sort.{Sort}
@@ -28,7 +29,7 @@ mutual
     select : (from item : DataTree) → KindTree
     query : (from : DataTree) (filter : TemplateTree) → KindTree
     join : (from with' : DataTree) → KindTree
-    parse_json : (content : DataTree) → KindTree
+    parse_json : (content : DataTree) (schema : Option SchemaTree) → KindTree
     initialize : (variables : List InitialTree) → KindTree
     set_to : (name : List ℕ) (value : DataTree) → KindTree
     increment : (name : List ℕ) (value : Option DataTree) → KindTree

@@ -22,7 +22,7 @@ abbrev mutual
   kind_actions (select from item) = []
   kind_actions (query from filter) = []
   kind_actions (join from with') = []
-  kind_actions (parse_json content) = []
+  kind_actions (parse_json content schema) = []
   kind_actions (initialize variables) = []
   kind_actions (set_to name value) = []
   kind_actions (increment name value) = []

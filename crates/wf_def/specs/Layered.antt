@@ -36,7 +36,7 @@ abbrev mutual
   layered_kind (select from item) = layers.Leaf
   layered_kind (query from filter) = layers.Leaf
   layered_kind (join from with') = layers.Leaf
-  layered_kind (parse_json content) = layers.Leaf
+  layered_kind (parse_json content schema) = layers.Leaf
   layered_kind (initialize variables) = layers.Leaf
   layered_kind (set_to name value) = layers.Leaf
   layered_kind (increment name value) = layers.Leaf

@@ -18,7 +18,7 @@ abbrev mutual
   kind_names (select from item) = []
   kind_names (query from filter) = []
   kind_names (join from with') = []
-  kind_names (parse_json content) = []
+  kind_names (parse_json content schema) = []
   kind_names (initialize variables) = []
   kind_names (set_to name value) = []
   kind_names (increment name value) = []
@@ -61,7 +61,7 @@ abbrev mutual
   find_inside k (select from item) = None
   find_inside k (query from filter) = None
   find_inside k (join from with') = None
-  find_inside k (parse_json content) = None
+  find_inside k (parse_json content schema) = None
   find_inside k (initialize variables) = None
   find_inside k (set_to name value) = None
   find_inside k (increment name value) = None
@@ -97,7 +97,7 @@ abbrev mutual
   kind_size (select from item) = 0
   kind_size (query from filter) = 0
   kind_size (join from with') = 0
-  kind_size (parse_json content) = 0
+  kind_size (parse_json content schema) = 0
   kind_size (initialize variables) = 0
   kind_size (set_to name value) = 0
   kind_size (increment name value) = 0

@@ -7,6 +7,7 @@ use crate::after::Afters;
 use crate::sort::Initials;
 use std::alloc::{AllocError, Global};
 use wf_retry::Policy;
+use wf_schema::Schema;
 use wf_template::{Cond, Template, Tree, TreeFields};
 use wf_val::{Name, Text, Val};
 
@@ -68,8 +69,10 @@ pub enum Kind {
         from: Tree,
         with: Tree,
     },
+    /// What is read has to be as the schema asks, where there is one.
     ParseJson {
         content: Tree,
+        schema: Option<Schema>,
     },
     Initialize {
         variables: Initials,

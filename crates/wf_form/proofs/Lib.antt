@@ -2,4 +2,5 @@ pub mod WalkLemmas
 mod FaultLemmas
 mod NameLemmas
 mod WorkedRows
+mod WorkedSchemas
 mod WorkedVariables

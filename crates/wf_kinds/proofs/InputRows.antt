@@ -245,7 +245,7 @@ join-refused : map action_has_members (
 unfolding action_has_members type_of
 join-refused = refl
 
--- a schema, where there is one, is an object
+-- a schema, where there is one, is an object; what stands in it is in WorkedSchemas
 parse_json-accepted : map action_has_members (
     given (codes "ParseJson") (object_of ((codes "content", null) ∷ [])) ∷
     given (codes "ParseJson") (object_of ((codes "content", text (codes "@x")) ∷ (codes "schema", object_of []) ∷ [])) ∷

@@ -4,4 +4,5 @@ mod InputRows
 mod PartLemmas
 mod SectionRows
 mod TypeRows
+mod WorkedSchemas
 mod WorkedVariables

@@ -1,10 +1,12 @@
 //! What is asked of actions on data.
-ghost use Rattle.std.specs.Prelude.{◌≡◌, Some, option_map};
+ghost use Rattle.std.specs.Prelude.{◌≡◌, option_map};
 ghost use Rattle.wf_val.specs.Seen.{tree};
 ghost use Rattle.wf_kinds.specs.Data.{compose_has, join_has, parse_json_has, query_has, select_has};
-ghost use Rattle.wf_kinds.specs.Parts.{absent_or, is_object};
+ghost use Rattle.wf_kinds.specs.Parts.{absent_or};
+ghost use Rattle.wf_schema.specs.Keywords.{is_schema};
 
-use crate::parts::{input, is_object, is_text};
+use crate::parts::{input, is_text};
+use wf_schema::is_schema;
 use wf_val::Val;
 
 pub(crate) fn compose_has(action: &Val) -> bool
@@ -31,17 +33,17 @@ pub(crate) fn join_has(action: &Val) -> bool
     input(action, "from").is_some() && input(action, "joinWith").is_some()
 }
 
-fn is_absent_or_object(value: Option<&Val>) -> bool
-    ensures { result ≡ absent_or (λ s. is_object (Some s)) (option_map (λ v. tree v.now) value.entry) }
+fn is_absent_or_schema(value: Option<&Val>) -> bool
+    ensures { result ≡ absent_or is_schema (option_map (λ v. tree v.now) value.entry) }
 {
     match value {
         None => true,
-        Some(value) => is_object(Some(value)),
+        Some(value) => is_schema(value),
     }
 }
 
 pub(crate) fn parse_json_has(action: &Val) -> bool
     ensures { result ≡ parse_json_has (tree action.now) }
 {
-    input(action, "content").is_some() && is_absent_or_object(input(action, "schema"))
+    input(action, "content").is_some() && is_absent_or_schema(input(action, "schema"))
 }

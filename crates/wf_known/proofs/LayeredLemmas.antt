@@ -53,7 +53,7 @@ mutual
   kind-had m (select from item) = refl
   kind-had m (query from filter) = refl
   kind-had m (join from with') = refl
-  kind-had m (parse_json content) = refl
+  kind-had m (parse_json content schema) = refl
   kind-had m (initialize variables) = refl
   kind-had m (set_to name value) = refl
   kind-had m (increment name value) = refl
@@ -109,7 +109,7 @@ mutual
   kind-once (select from item) apart = tt
   kind-once (query from filter) apart = tt
   kind-once (join from with') apart = tt
-  kind-once (parse_json content) apart = tt
+  kind-once (parse_json content schema) apart = tt
   kind-once (initialize variables) apart = tt
   kind-once (set_to name value) apart = tt
   kind-once (increment name value) apart = tt

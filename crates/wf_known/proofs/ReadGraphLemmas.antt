@@ -46,7 +46,7 @@ module _ (Holds : ActionTrees → Type 0) (Is : layers.Graph → Type 0) (empty 
     kind_layers (select from item) once each = tt
     kind_layers (query from filter) once each = tt
     kind_layers (join from with') once each = tt
-    kind_layers (parse_json content) once each = tt
+    kind_layers (parse_json content schema) once each = tt
     kind_layers (initialize variables) once each = tt
     kind_layers (set_to name value) once each = tt
     kind_layers (increment name value) once each = tt

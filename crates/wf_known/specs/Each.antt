@@ -19,7 +19,7 @@ module _ (Holds : ActionTrees → Type 0) where
     EachIn (select from item) = Unit {0}
     EachIn (query from filter) = Unit {0}
     EachIn (join from with') = Unit {0}
-    EachIn (parse_json content) = Unit {0}
+    EachIn (parse_json content schema) = Unit {0}
     EachIn (initialize variables) = Unit {0}
     EachIn (set_to name value) = Unit {0}
     EachIn (increment name value) = Unit {0}

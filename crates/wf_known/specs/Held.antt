@@ -39,7 +39,7 @@ abbrev mutual
   levels_in (select from item) = 0
   levels_in (query from filter) = 0
   levels_in (join from with') = 0
-  levels_in (parse_json content) = 0
+  levels_in (parse_json content schema) = 0
   levels_in (initialize variables) = 0
   levels_in (set_to name value) = 0
   levels_in (increment name value) = 0

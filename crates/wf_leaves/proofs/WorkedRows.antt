@@ -101,7 +101,7 @@ a_join : with_inputs ((codes "from", word "f") ∷ (codes "joinWith", word "j") 
 unfolding type_of
 a_join = refl
 
-a_parse_json : with_inputs ((codes "content", word "c") ∷ (codes "schema", fields []) ∷ []) "ParseJson" ≡ parse_json (datum_of "c")
+a_parse_json : with_inputs ((codes "content", word "c") ∷ []) "ParseJson" ≡ parse_json (datum_of "c") None
 unfolding type_of
 a_parse_json = refl
 

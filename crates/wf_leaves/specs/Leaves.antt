@@ -9,6 +9,8 @@ use Rattle.wf_kinds.specs.declared.action_type.ActionType.{ActionType}
 use Rattle.wf_retry.specs.declared.policy.Policy.{Policy}
 use Rattle.wf_retry.specs.declared.policy.PolicyFault.{PolicyFault}
 use Rattle.wf_retry.specs.Reading.{policy_of}
+use Rattle.wf_schema.specs.Reading.{SchemaTree, schema_of}
+use Rattle.wf_schema.specs.declared.fault.SchemaFault.{SchemaFault}
 use Rattle.wf_def.specs.ActionTree.{InitialTree, KindTree, compose, connector, wait, response, terminate, select, query, join, parse_json, initialize, set_to, increment, decrement, append_array, append_string}
 use Rattle.wf_def.specs.declared.sort.Sort.{Sort}
 use Rattle.wf_leaves.specs.Texts.{data_in, data_of, template_at, text_in}
@@ -25,6 +27,15 @@ or_standard (Err fault) = Policy.Standard
 abbrev pub policy_in : Option ValueTree → Policy
 policy_in None = Policy.Standard
 policy_in (Some t) = or_standard (policy_of t)
+
+-- the schema that a value is; none where it isn't one
+abbrev pub schema_if : Result SchemaTree SchemaFault → Option SchemaTree
+schema_if (Ok schema) = Some schema
+schema_if (Err fault) = None
+
+abbrev pub schema_in : Option ValueTree → Option SchemaTree
+schema_in None = None
+schema_in (Some t) = schema_if (schema_of t)
 
 -- the type of a variable
 abbrev pub variable_sort : List ℕ → Sort
@@ -56,7 +67,7 @@ leaf_of ActionType.Terminate t = terminate (data_in (get (codes "inputs") t))
 leaf_of ActionType.Select t = select (data_in (input (codes "from") t)) (data_in (input (codes "select") t))
 leaf_of ActionType.Query t = query (data_in (input (codes "from") t)) (template_at (input (codes "where") t))
 leaf_of ActionType.Join t = join (data_in (input (codes "from") t)) (data_in (input (codes "joinWith") t))
-leaf_of ActionType.ParseJson t = parse_json (data_in (input (codes "content") t))
+leaf_of ActionType.ParseJson t = parse_json (data_in (input (codes "content") t)) (schema_in (input (codes "schema") t))
 leaf_of ActionType.InitializeVariable t = initialize (initials_in (input (codes "variables") t))
 leaf_of ActionType.SetVariable t = set_to (text_in (input (codes "name") t)) (data_in (input (codes "value") t))
 leaf_of ActionType.IncrementVariable t = increment (text_in (input (codes "name") t)) (option_map data_of (input (codes "value") t))

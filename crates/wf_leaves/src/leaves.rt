@@ -4,14 +4,16 @@ ghost use Rattle.wf_val.specs.Get.{without};
 ghost use Rattle.wf_val.specs.Seen.{tree};
 ghost use Rattle.wf_template.specs.DataSeen.{data_tree};
 ghost use Rattle.wf_def.specs.ActionSeen.{initial_tree, kind_tree};
-ghost use Rattle.wf_leaves.specs.Leaves.{initial_of, initials_in, leaf_of, nothing, policy_in, variable_sort};
+ghost use Rattle.wf_leaves.specs.Leaves.{initial_of, initials_in, leaf_of, nothing, policy_in, schema_if, schema_in, variable_sort};
 ghost use Rattle.wf_leaves.specs.Texts.{data_in, data_of};
+ghost use Rattle.wf_schema.specs.Reading.{schema_of, schema_tree};
 
 use crate::texts::{data_if, data_in, data_of, str_in, template_at, text_in};
 use std::alloc::{AllocError, Global};
 use wf_def::{Initial, Initials, Kind, Sort};
 use wf_kinds::{ActionType, input};
 use wf_retry::Policy;
+use wf_schema::{Schema, SchemaFault};
 use wf_template::Tree;
 use wf_val::{Text, Val};
 
@@ -54,6 +56,26 @@ fn policy_in(value: Option<&Val>) -> Policy
             Err(_) => Policy::Standard,
         },
         None => Policy::Standard,
+    }
+}
+
+fn schema_if(alloc: Global, value: &Val) -> Result<Option<Schema>, AllocError>
+    ensures { IfOk result (λ s. option_map schema_tree s ≡ schema_if (schema_of (tree value.now))) }
+{
+    match Schema::read(alloc, value) {
+        Ok(schema) => Ok(Some(schema)),
+        Err(SchemaFault::Memory) => Err(AllocError),
+        Err(SchemaFault::Form { .. }) => Ok(None),
+    }
+}
+
+// The schema that a member is, whose texts are no templates.
+fn schema_in(alloc: Global, value: Option<&Val>) -> Result<Option<Schema>, AllocError>
+    ensures { IfOk result (λ s. option_map schema_tree s ≡ schema_in (option_map (λ v. tree v.now) value.entry)) }
+{
+    match value {
+        Some(value) => schema_if(alloc, value),
+        None => Ok(None),
     }
 }
 
@@ -140,6 +162,7 @@ pub fn leaf_of(alloc: Global, action_type: ActionType, action: &Val) -> Result<K
         }),
         ActionType::ParseJson => Ok(Kind::ParseJson {
             content: data_in(alloc, input(action, "content"))?,
+            schema: schema_in(alloc, input(action, "schema"))?,
         }),
         ActionType::InitializeVariable => Ok(Kind::Initialize {
             variables: initials_in(alloc, input(action, "variables"))?,

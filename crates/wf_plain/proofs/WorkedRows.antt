@@ -45,7 +45,7 @@ some_test = condition.holds (plain [])
 -- an action of each kind
 abbrev kinds : Policy → List KindTree
 kinds policy =
-    compose null ∷ (connector null policy ∷ (wait null ∷ (select null null ∷ (query null (plain []) ∷ (join null null ∷ (parse_json null
+    compose null ∷ (connector null policy ∷ (wait null ∷ (select null null ∷ (query null (plain []) ∷ (join null null ∷ (parse_json null None
     ∷ (scope no_actions ∷ (branch some_test no_actions no_actions ∷ (switch (plain []) no_cases
     ∷ (switch_else (plain []) no_cases no_actions
     ∷ (foreach null 20 no_actions ∷ (until some_test 60 false no_actions ∷ []))))))))))))

@@ -46,7 +46,7 @@ module _ (k : List ℕ) where
     found_inside (select from item) = refl
     found_inside (query from filter) = refl
     found_inside (join from with') = refl
-    found_inside (parse_json content) = refl
+    found_inside (parse_json content schema) = refl
     found_inside (initialize variables) = refl
     found_inside (set_to name value) = refl
     found_inside (increment name value) = refl

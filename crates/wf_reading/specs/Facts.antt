@@ -35,7 +35,7 @@ abbrev mutual
   kind_numbers (select from item) = []
   kind_numbers (query from filter) = []
   kind_numbers (join from with') = []
-  kind_numbers (parse_json content) = []
+  kind_numbers (parse_json content schema) = []
   kind_numbers (initialize variables) = []
   kind_numbers (set_to name value) = []
   kind_numbers (increment name value) = []

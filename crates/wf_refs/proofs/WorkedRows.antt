@@ -62,7 +62,7 @@ in_query = refl
 in_join : at_inputs (join (data_of "B") (data_of "A")) ≡ record none { names = codes "A" ∷ codes "B" ∷ [] }
 in_join = refl
 
-in_parse_json : at_inputs (parse_json (data_of "A")) ≡ plainly "A"
+in_parse_json : at_inputs (parse_json (data_of "A") None) ≡ plainly "A"
 in_parse_json = refl
 
 -- a variable is initialised or written, and not read by that
@@ -129,7 +129,7 @@ items_nothing = refl
 -- no other kind has items
 abbrev others : List KindTree
 others =
-    compose null ∷ connector null Policy.Never ∷ wait null ∷ response null ∷ terminate null ∷ join null null ∷ parse_json null
+    compose null ∷ connector null Policy.Never ∷ wait null ∷ response null ∷ terminate null ∷ join null null ∷ parse_json null None
     ∷ initialize [] ∷ set_to [] null ∷ increment [] None ∷ decrement [] None ∷ append_array [] null ∷ append_string [] null
     ∷ scope inner ∷ branch (test_of "A") inner inner ∷ switch (text_of "A") cases ∷ switch_else (text_of "A") cases inner
     ∷ foreach (data_of "A") 1 inner ∷ []

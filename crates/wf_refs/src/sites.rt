@@ -60,7 +60,7 @@ fn in_inputs<'a>(alloc: Global, kind: &'a Kind) -> Result<Vec<Found<'a>>, AllocE
             let all = in_tree(alloc, none, from)?;
             in_tree(alloc, all, with)
         }
-        Kind::ParseJson { content } => in_tree(alloc, none, content),
+        Kind::ParseJson { content, schema: _ } => in_tree(alloc, none, content),
         Kind::Initialize { variables } => in_initials(alloc, none, variables.as_slice()),
         Kind::Set { name: _, value } => in_tree(alloc, none, value),
         Kind::Increment { name: _, value } => in_value(alloc, none, value),

@@ -40,7 +40,7 @@ abbrev mutual
   kind_standings round (select from item) = []
   kind_standings round (query from filter) = []
   kind_standings round (join from with') = []
-  kind_standings round (parse_json content) = []
+  kind_standings round (parse_json content schema) = []
   kind_standings round (initialize variables) = []
   kind_standings round (set_to name value) = []
   kind_standings round (increment name value) = []
