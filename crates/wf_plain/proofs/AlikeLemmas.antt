@@ -18,7 +18,7 @@ use Rattle.wf_def.specs.declared.after.After.{After}
 use Rattle.wf_reading.specs.Facts.{AreNumbered, graph_numbers, HasDepths, is_named, kind_numbers}
 use Rattle.wf_reading.specs.Numbers.{is_below}
 use Rattle.wf_reading.proofs.PartLemmas.{bytes_eq-sym, equal_keys}
-use Rattle.wf_known.specs.Held.{EntriesAreNumbered, IsNumberOf}
+use Rattle.wf_known_laws.specs.Held.{EntriesAreNumbered, IsNumberOf}
 use Rattle.wf_meaning.specs.Flat.{graph_from, graph_of}
 use Rattle.wf_plain.specs.Flat.{flat, flat_action, need_at, place_from, place_of}
 use Rattle.wf_plain.proofs.EndLemmas.{bytes_eq-same, place-named, some_one, two}

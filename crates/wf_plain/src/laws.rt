@@ -28,9 +28,9 @@ pub fn names_are_before()
     wf_reading::numbers_are_places();
     wf_reading::run_after_has_depths();
     wf_order::order_is_exact();
-    wf_known::entries_are_numbered();
-    wf_known::entries_stay_in_their_graph();
-    wf_known::numbers_are_below();
-    wf_known::numbers_are_had();
+    wf_known_laws::entries_are_numbered();
+    wf_known_laws::entries_stay_in_their_graph();
+    wf_known_laws::numbers_are_below();
+    wf_known_laws::numbers_are_had();
     wf_refs::read_actions_have_their_numbers();
 }

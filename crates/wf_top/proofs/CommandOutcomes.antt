@@ -12,7 +12,7 @@ use Rattle.wf_top.specs.Commands.{scheduled, text_of_runs, too_large}
 use Rattle.wf_top.specs.Fault.{fault_line}
 use Rattle.wf_top.specs.Form.{definition_form, inputs_form, schedule_form}
 use Rattle.wf_plain.specs.Plain.{plain_of}
-use Rattle.wf_runs.proofs.RunLemmas.{never_memory}
+use Rattle.wf_printed.proofs.RunLemmas.{never_memory}
 use Rattle.wf_top.specs.Limits.{definition_bytes, inputs_bytes, schedule_bytes}
 use Rattle.wf_top.specs.Plan.{Plan, Reads, MaySay, MayGive, said_by, within}
 use Rattle.wf_top.specs.Ran.{Checked, GivesDefinition, GivesInputs, GivesNumbers, GivesSchedule, Holds, HoldsDefinition, HoldsSchedule}
@@ -24,7 +24,7 @@ use Rattle.wf_top.specs.Served.{text_of}
 use Rattle.wf_top.specs.Trigger.{trigger_line}
 use Rattle.wf_top.specs.Words.{command_of, is_traced, makes_runs, schedule_word, word}
 use Rattle.wf_top.specs.declared.fault.FormFault.{FormFault}
-use Rattle.wf_runs.specs.declared.fault.RunsFault.{RunsFault}
+use Rattle.wf_printed.specs.declared.fault.RunsFault.{RunsFault}
 use Rattle.wf_top.specs.declared.said.Verdict.{Verdict}
 use Rattle.wf_top.specs.declared.said.Verdict.TheVariants.{Done}
 use Rattle.wf_top.specs.declared.words.Command.{Command}

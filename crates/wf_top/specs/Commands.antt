@@ -5,8 +5,8 @@ use Rattle.wf_answers.specs.Inputs.{InputsTree}
 use Rattle.wf_def.specs.DefTree.{DefTree}
 use Rattle.wf_def.specs.Names.{graph_names}
 use Rattle.wf_plain.specs.Plain.{plain_of}
-use Rattle.wf_runs.specs.Runs.{runs_text}
-use Rattle.wf_runs.specs.declared.fault.RunsFault.{RunsFault}
+use Rattle.wf_printed.specs.Runs.{runs_text}
+use Rattle.wf_printed.specs.declared.fault.RunsFault.{RunsFault}
 use Rattle.wf_top.specs.Fault.{fault_line}
 use Rattle.wf_top.specs.Form.{definition_form, inputs_form, schedule_form}
 use Rattle.wf_top.specs.Limits.{definition_bytes, inputs_bytes, schedule_bytes}
@@ -34,7 +34,7 @@ abbrev pub made_runs : Result (List ℕ) RunsFault → Plan
 made_runs (Ok text) = Says Done text
 made_runs (Err (RunsFault.Trigger fault)) = Says Inputs (trigger_line fault)
 made_runs (Err RunsFault.TooLarge) = Says TooLarge too_large
--- This is never met: that memory ran out isn't what runs come to (`runs_want_no_memory` of wf_runs).
+-- This is never met: that memory ran out isn't what runs come to (`runs_want_no_memory` of wf_printed).
 made_runs (Err RunsFault.Memory) = Says Done []
 
 -- SCHEDULE is read and judged: the runs are made, or refused for the fault of the schedule.

@@ -13,7 +13,7 @@ use Rattle.wf_top.specs.Served.{out_of_memory}
 use Rattle.wf_top.specs.Trigger.{trigger_line}
 use Rattle.wf_top.specs.Words.{command_of, is_traced, makes_runs, schedule_word, word}
 use Rattle.wf_top.specs.declared.fault.FormFault.{FormFault}
-use Rattle.wf_runs.specs.declared.fault.RunsFault.{RunsFault}
+use Rattle.wf_printed.specs.declared.fault.RunsFault.{RunsFault}
 use Rattle.wf_top.specs.declared.words.Command.{Command}
 use Rattle.wf_top.specs.declared.words.Command.TheVariants.{Check}
 use Rattle.wf_trigger.specs.declared.fault.TriggerFault.{TriggerFault}

@@ -6,7 +6,7 @@
 //!
 //! The crate reads definitions by `wf_reading`, asks `wf_plain` whether all is built that a command asks for, has the rules between a
 //! definition's parts judged by `wf_rules`, reads inputs by `wf_answers` and schedules by `wf_run`, and has the runs made and printed by
-//! `wf_runs`. It opens no file and no stream itself; that is left to the objects which it is lent.
+//! `wf_printed`. It opens no file and no stream itself; that is left to the objects which it is lent.
 #![tactic(auto)]
 
 mod accepted;

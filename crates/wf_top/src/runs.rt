@@ -17,8 +17,8 @@ use std::alloc::Global;
 use wf_answers::Inputs;
 use wf_outside::Files;
 use wf_plain::definition_of;
+use wf_printed::{RunsFault, runs_text};
 use wf_rules::Checked;
-use wf_runs::{RunsFault, runs_text};
 use wf_val::{Schedule, Text};
 
 const TOO_LARGE: &[u8] = b"too large\n";

@@ -1,0 +1,14 @@
+use Rattle.wf_form.specs.Fault.{inner_of}
+use Rattle.wf_def.specs.Layered.{layered}
+use Rattle.wf_reading.proofs.ReadLemmas.{inner-fine}
+use Rattle.wf_known_laws.proofs.DefinitionLemmas.{number_of, read-sound}
+use Rattle.wf_known_laws.proofs.ReadGraphLemmas.{graph_owns}
+use Rattle.wf_known_laws.proofs.WholeDepthLemmas.{depth_in, whole_depth}
+use Rattle.wf_known_laws.proofs.actions_have_depths.Goals as goal
+
+pub returns : goal.returns
+returns c = λ d r.
+    let fine = (c.the_first_fault.ensures.none (inner_of r.value) (inner-fine r.value r.holds)).1.1.1.1.1.1.1.0 in
+    let once = c.numbers_stand_once.ensures d r in
+    let owns = graph_owns (number_of d r fine) d.top once (read-sound d r fine c.paths_are_exact.ensures.paths) in
+    (depth_in (layered d.top) owns.0.depth owns.1, whole_depth (layered d.top) once owns.0 owns.1)
