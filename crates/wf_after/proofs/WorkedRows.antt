@@ -24,22 +24,22 @@ in_a_row : bad_run_after (first (codes "A") ∷ action (codes "B") (then (codes 
     ∷ then (codes "B") ∷ []) ∷ []) ≡ []
 in_a_row = refl
 
--- two that wait for each other; C comes behind them and is on no circle
-two_in_a_circle : bad_run_after (action (codes "A") (then (codes "B") ∷ []) ∷ action (codes "B") (then (codes "A") ∷ [])
+-- two that wait for each other; C comes behind them and is on no cycle
+two_in_a_cycle : bad_run_after (action (codes "A") (then (codes "B") ∷ []) ∷ action (codes "B") (then (codes "A") ∷ [])
     ∷ action (codes "C") (then (codes "B") ∷ []) ∷ [])
     ≡ codes "/A" ∷ codes "/B" ∷ []
-two_in_a_circle = refl
+two_in_a_cycle = refl
 
-three_in_a_circle : bad_run_after (action (codes "A") (then (codes "C") ∷ []) ∷ action (codes "B") (then (codes "A") ∷ [])
+three_in_a_cycle : bad_run_after (action (codes "A") (then (codes "C") ∷ []) ∷ action (codes "B") (then (codes "A") ∷ [])
     ∷ action (codes "C") (then (codes "B") ∷ []) ∷ first (codes "D") ∷ [])
     ≡ codes "/A" ∷ codes "/B" ∷ codes "/C" ∷ []
-three_in_a_circle = refl
+three_in_a_cycle = refl
 
--- what comes before a circle isn't on it either
-before_a_circle : bad_run_after (first (codes "A") ∷ action (codes "B") (then (codes "A") ∷ then (codes "C") ∷ [])
+-- what comes before a cycle isn't on it either
+before_a_cycle : bad_run_after (first (codes "A") ∷ action (codes "B") (then (codes "A") ∷ then (codes "C") ∷ [])
     ∷ action (codes "C") (then (codes "B") ∷ []) ∷ [])
     ≡ codes "/B" ∷ codes "/C" ∷ []
-before_a_circle = refl
+before_a_cycle = refl
 
 itself : bad_run_after (action (codes "A") (then (codes "A") ∷ []) ∷ []) ≡ codes "/A" ∷ []
 itself = refl
@@ -63,7 +63,7 @@ cancelled = refl
 no_status : bad_run_after (first (codes "A") ∷ action (codes "B") (on (codes "A") (codes "Succeeded " ∷ []) ∷ []) ∷ []) ≡ codes "/B" ∷ []
 no_status = refl
 
--- an entry without a status makes a circle all the same
+-- an entry without a status makes a cycle all the same
 without_a_status : bad_run_after (action (codes "A") (on (codes "B") [] ∷ []) ∷ action (codes "B") (on (codes "A") [] ∷ []) ∷ [])
     ≡ codes "/A" ∷ codes "/B" ∷ []
 without_a_status = refl

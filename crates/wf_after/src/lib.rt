@@ -2,7 +2,7 @@
 //!
 //! A graph is the members of one `actions` object. An action's `runAfter` has an entry for each action that it waits for, with the
 //! statuses that let it run. An entry has to name another action of the same graph, its statuses are four, and no action may wait
-//! for itself, by however many others. Of a circle all that are on it offend, and nothing that comes behind it.
+//! for itself, by however many others. Of a cycle all that are on it offend, and nothing that comes behind it.
 //!
 //! It judges actions whose `runAfter`, where there is one, is an object of lists of texts: whoever calls has looked at that before.
 //! It says nothing of when an action runs.

@@ -114,9 +114,9 @@ exact nodes a p in_p = by (lt_or_not a (length nodes))
               (out (target (edge_of nodes) (length nodes) (has_node nodes) p a path)),
         )
 
--- and so it is of circles, also of numbers that are no node's
-pub exact-circle : (nodes : List (List ℕ)) (a : ℕ) → (at (paths_of nodes) a a ≡ true) ↔ IsPath (edge_of nodes) a a
-exact-circle nodes a = by (lt_or_not a (length nodes))
+-- and so it is of cycles, also of numbers that are no node's
+pub exact-cycle : (nodes : List (List ℕ)) (a : ℕ) → (at (paths_of nodes) a a ≡ true) ↔ IsPath (edge_of nodes) a a
+exact-cycle nodes a = by (lt_or_not a (length nodes))
   where
     by : (a < length nodes) ⊎ (a < length nodes → ⊥) → (at (paths_of nodes) a a ≡ true) ↔ IsPath (edge_of nodes) a a
     by (inl in_a) = exact nodes a a in_a

@@ -34,17 +34,17 @@ apart = refl
 itself : paths_of ((0 ∷ []) ∷ []) ≡ (true ∷ []) ∷ []
 itself = refl
 
--- 0 and 1 name one another, and 2 stands behind their circle
-circle : paths_of ((1 ∷ []) ∷ (0 ∷ []) ∷ (1 ∷ []) ∷ []) ≡
+-- 0 and 1 name one another, and 2 stands behind their cycle
+cycle : paths_of ((1 ∷ []) ∷ (0 ∷ []) ∷ (1 ∷ []) ∷ []) ≡
     (true ∷ true ∷ false ∷ []) ∷ (true ∷ true ∷ false ∷ []) ∷ (true ∷ true ∷ false ∷ []) ∷ []
-circle = refl
+cycle = refl
 
--- 1 and 2 name one another, and 0 stands before their circle
-before_a_circle : paths_of ([] ∷ (0 ∷ 2 ∷ []) ∷ (1 ∷ []) ∷ []) ≡
+-- 1 and 2 name one another, and 0 stands before their cycle
+before_a_cycle : paths_of ([] ∷ (0 ∷ 2 ∷ []) ∷ (1 ∷ []) ∷ []) ≡
     (false ∷ false ∷ false ∷ []) ∷ (true ∷ true ∷ true ∷ []) ∷ (true ∷ true ∷ true ∷ []) ∷ []
-before_a_circle = refl
+before_a_cycle = refl
 
--- a circle of three
+-- a cycle of three
 three : paths_of ((2 ∷ []) ∷ (0 ∷ []) ∷ (1 ∷ []) ∷ []) ≡
     (true ∷ true ∷ true ∷ []) ∷ (true ∷ true ∷ true ∷ []) ∷ (true ∷ true ∷ true ∷ []) ∷ []
 three = refl

@@ -108,9 +108,9 @@ module _ (graph : List Member) where
     pub named : place_in name graph ≡ Some place
     pub lesser : depth_of graph name < depth_of graph own
 
-  -- no action on a circle: at each place that a name has
-  abbrev pub NoCircle : Type 0
-  NoCircle = (q : ℕ) → q < length graph → at (paths_in graph) q q ≡ false
+  -- no action on a cycle: at each place that a name has
+  abbrev pub NoCycle : Type 0
+  NoCycle = (q : ℕ) → q < length graph → at (paths_in graph) q q ≡ false
 
   -- so it is of each action from a place on
   abbrev pub AllFall : List Member → Type 0
@@ -157,7 +157,7 @@ module _ (exact : PathsAreExact) (graph : List Member) where
   later_named None ps r named = named
   later_named (Some p) ps r named = rw named (or-true (nat_eq r p))
 
-  entries-fall : (none : NoCircle graph) (own : List ℕ) (a : ℕ) (own_place : place_in own graph ≡ Some a) (es : List Member)
+  entries-fall : (none : NoCycle graph) (own : List ℕ) (a : ℕ) (own_place : place_in own graph ≡ Some a) (es : List Member)
       → ((q : ℕ) → names_place (places_of graph es) q ≡ true → edge_of all_nodes q a ≡ true)
       → list_any (is_bad_entry graph own) es ≡ false → AllByRecursion (λ e. Falls graph own (name_of e)) es
   entries-fall none own a own_place [] edges fine = tt
@@ -174,18 +174,18 @@ module _ (exact : PathsAreExact) (graph : List Member) where
         entries-fall none own a own_place es (λ r named. edges r (later_named (place_in e.0 graph) (places_of graph es) r named)) later,
       )
 
-  circles-none : (i : ℕ) (ms : List Member) → offenders graph (paths_in graph) i ms ≡ [] → (q : ℕ) → i ≤ q → q < i + length ms → at (paths_in graph) q q ≡ false
-  circles-none i [] fine q from to = absurd (omega arith)
-  circles-none i (m ∷ ms) fine q from to =
+  cycles-none : (i : ℕ) (ms : List Member) → offenders graph (paths_in graph) i ms ≡ [] → (q : ℕ) → i ≤ q → q < i + length ms → at (paths_in graph) q q ≡ false
+  cycles-none i [] fine q from to = absurd (omega arith)
+  cycles-none i (m ∷ ms) fine q from to =
       let here : (has_bad_entry graph m || at (paths_in graph) i i) ≡ false = flagged-none (offends graph (paths_in graph) i m) m.0 (offenders graph (paths_in graph) (suc i) ms) fine in
       let rest = flagged-rest (offends graph (paths_in graph) i m) m.0 (offenders graph (paths_in graph) (suc i) ms) fine in
       elim (nat_eq i q) as (λ b. nat_eq i q ≡ b → at (paths_in graph) q q ≡ false) [
         | true ↦ λ is. let same : i ≡ q = (Decides-eqb i q).0 is in
             subst (λ (r : ℕ). at (paths_in graph) r r ≡ false) same (or-second (has_bad_entry graph m) (at (paths_in graph) i i) here)
-        | false ↦ λ other. circles-none (suc i) ms rest q (let differ : (i ≡ q → ⊥) = λ is. absurd (cc (sym other, (Decides-eqb i q).1 is)) in omega arith) (omega arith)
+        | false ↦ λ other. cycles-none (suc i) ms rest q (let differ : (i ≡ q → ⊥) = λ is. absurd (cc (sym other, (Decides-eqb i q).1 is)) in omega arith) (omega arith)
       ] refl
 
-  actions-fall : (none : NoCircle graph) (order : IsInNameOrder name_of graph) (front ms : List Member) → front ++ ms ≡ graph
+  actions-fall : (none : NoCycle graph) (order : IsInNameOrder name_of graph) (front ms : List Member) → front ++ ms ≡ graph
       → offenders graph (paths_in graph) (length front) ms ≡ [] → AllFall graph ms
   actions-fall none order front [] whole fine = tt
   actions-fall none order front (m ∷ ms) whole fine =
@@ -202,4 +202,4 @@ module _ (exact : PathsAreExact) (graph : List Member) where
 
   -- where no action offends
   pub all-fall : IsInNameOrder name_of graph → bad_run_after graph ≡ [] → AllFall graph graph
-  all-fall order fine = actions-fall (λ q below. circles-none 0 graph fine q (omega arith) (omega arith)) order [] graph refl fine
+  all-fall order fine = actions-fall (λ q below. cycles-none 0 graph fine q (omega arith) (omega arith)) order [] graph refl fine
