@@ -55,7 +55,7 @@ fn given(
     }
 }
 
-// A truth value as a value.
+// A Boolean as a value.
 fn truth(answer: Result<bool, EvalFault>) -> Result<Val, EvalFault> {
     match answer {
         Ok(holds) => Ok(Val::Bool(holds)),

@@ -103,7 +103,7 @@ fn compared(alloc: Global, function: Fun, one: Val, other: Val) -> Result<bool, 
     judged(alloc, function, &values)
 }
 
-// What the function gives of these values has to be a truth value.
+// What the function gives of these values has to be a Boolean.
 fn judged(alloc: Global, function: Fun, values: &Vals) -> Result<bool, EvalFault>
     ensures { Gives (truth_seen result) (given (row_in function values.now) truth) }
 {

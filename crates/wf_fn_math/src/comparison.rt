@@ -9,7 +9,7 @@ ghost use Rattle.wf_val.specs.ValueTree.{ValueTree};
 use std::cmp::Ordering;
 use wf_val::{EvalFault, Fun, Val, Vals, number_at, text_at, truth_at, wrong_type};
 
-/// `equals`: whether two values are the same. A truth value beside a number counts as 1 or 0; inside lists and
+/// `equals`: whether two values are the same. A Boolean beside a number counts as 1 or 0; inside lists and
 /// objects types have to agree.
 pub fn f_equals(args: &Vals) -> Result<Val, EvalFault>
     requires { length args.now ≡ 2 }
@@ -22,7 +22,7 @@ pub fn f_equals(args: &Vals) -> Result<Val, EvalFault>
     }
 }
 
-// Whether two values are the same, a truth value beside a number counted as 1 or 0.
+// Whether two values are the same, a Boolean beside a number counted as 1 or 0.
 fn are_equal(one: &Val, other: &Val) -> bool
     ensures { result ≡ are_equal (tree one.now) (tree other.now) }
 {
@@ -82,7 +82,7 @@ fn compared(function: Fun, args: &Vals) -> Result<Ordering, EvalFault>
     }
 }
 
-/// `not`: the other truth value.
+/// `not`: the other Boolean.
 pub fn f_not(args: &Vals) -> Result<Val, EvalFault>
     requires { length args.now ≡ 1 }
     ensures { seen result ≡ not_row args.now }

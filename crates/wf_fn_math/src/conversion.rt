@@ -1,4 +1,4 @@
-//! Conversion to numbers and truth values.
+//! Conversion to numbers and Booleans.
 ghost use Rattle.std.specs.Prelude.{◌≡◌, length};
 ghost use Rattle.wf_val.specs.Arguments.{seen};
 ghost use Rattle.wf_fn_math.specs.Conversion.{whole_number, int_row, bool_row, is_int_row, named_truth};
@@ -55,7 +55,7 @@ fn whole_number(text: &Text) -> Option<i64>
     written.parse::<i64>().ok()
 }
 
-// The truth value that a text names.
+// The Boolean that a text names.
 fn named_truth(text: &Text) -> Result<Val, EvalFault>
     ensures { seen result ≡ named_truth text.now }
 {

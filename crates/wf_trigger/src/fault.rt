@@ -18,7 +18,7 @@ pub enum TriggerFault {
     SplitNotList,
     /// The value of `splitOn` has more than 100,000 items.
     SplitTooLong { count: u64 },
-    /// A condition has no truth value, and none before it is false.
+    /// A condition has no Boolean value, and none before it is false.
     Condition { fault: EvalFault },
     /// Memory ran out.
     Memory,
