@@ -12,7 +12,7 @@ use Rattle.wf_functions.specs.Collected.{Collected, nothing, with_item, collecte
 use Rattle.wf_functions.specs.Rows.{fitted, strict_row}
 use Rattle.wf_template.specs.declared.expr.Expr.{Expr}
 use Rattle.wf_look.specs.Args.{args_tree}
-use Rattle.wf_look.specs.Outcomes.{Run, turned, strictly}
+use Rattle.wf_look.specs.Outcomes.{turned, strictly}
 use Rattle.wf_look.specs.Told.{Told}
 use Rattle.wf_eval_expr.specs.Folded.{folded}
 use Rattle.wf_eval_expr.specs.Value.{runs}
