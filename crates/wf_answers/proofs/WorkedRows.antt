@@ -261,7 +261,8 @@ wrong-parameter_65 : IsWrongAt (with (codes "parameters") (of ((codes "p", neste
 unfolding computed
 wrong-parameter_65 = refl
 
-wrong-parameter_member_64 : IsWrongAt (with (codes "parameters") (of ((codes "p", of ((codes "a", nested 64) ∷ [])) ∷ []))) (codes "/parameters/p")
+wrong-parameter_member_64 : IsWrongAt (with (codes "parameters") (of ((codes "p", of ((codes "a", nested 64) ∷ [])) ∷ [])))
+    (codes "/parameters/p")
 unfolding computed
 wrong-parameter_member_64 = refl
 

@@ -52,7 +52,8 @@ parts-leftmost :
 parts-leftmost = refl
 
 -- no text in between is tested: any literal text, however long, goes on to the fault behind it
-parts-literal_untested : (s : List ℕ) → template_value somewhere (parts (letters s ∷ part by_zero ∷ [])) 7 ≡ (Err (EvalFault.Range Fun.Div), 7)
+parts-literal_untested : (s : List ℕ) → template_value somewhere (parts (letters s ∷ part by_zero ∷ [])) 7
+    ≡ (Err (EvalFault.Range Fun.Div), 7)
 parts-literal_untested s = refl
 
 -- ---- trees
@@ -86,7 +87,8 @@ tree-object_tested_last :
     ≡ (Err (EvalFault.Range Fun.Div), 7)
 tree-object_tested_last = refl
 
-tree-object_fits : tree_here (members_of ((codes "a", that (literal (nested 63))) ∷ [])) ≡ (Ok (object (members ((codes "a", nested 63) ∷ []))), 7)
+tree-object_fits : tree_here (members_of ((codes "a", that (literal (nested 63))) ∷ []))
+    ≡ (Ok (object (members ((codes "a", nested 63) ∷ []))), 7)
 tree-object_fits = refl
 
 tree-object_too_deep : tree_here (members_of ((codes "a", that (literal (nested 64))) ∷ [])) ≡ (Err (EvalFault.TooBig 65 68), 7)

@@ -35,7 +35,8 @@ weight-snoc (u ∷ ts) t = omega (arith, weight-snoc ts t)
 
 item-more : (c : Collected) (ts : List ValueTree) (t : ValueTree) → IsOf c ts → IsOf (with_item t c) (ts ++ t ∷ [])
 item-more c ts t is =
-    let w : cut_u64 (cut_u64 (weight t) + c.1.1) ≡ cut_u64 (trees_weight (trees (ts ++ t ∷ []))) = omega (arith, is.heavy, weight-snoc ts t) in
+    let w : cut_u64 (cut_u64 (weight t) + c.1.1) ≡ cut_u64 (trees_weight (trees (ts ++ t ∷ []))) =
+    omega (arith, is.heavy, weight-snoc ts t) in
     record {
       deep = omega (arith, is.deep, depth-snoc ts t);
       heavy = w;

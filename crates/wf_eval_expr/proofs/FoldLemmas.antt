@@ -75,6 +75,7 @@ pub folded_end : {S : Type 0} (step : ValueTree → S → S) (answer : S → Ans
     length xs ≤ i → folded step (runs l (from_on xs i)) s n ≡ folded step (runs l (args_tree xs)) start n0 →
     r ≡ answer s → Meets r whole n
 folded_end step answer start l xs i s n n0 r whole is le rest_is end =
-    let left : folded step (runs l (from_on xs i)) s n ≡ (Ok s, n) = ap (λ ys. folded step (runs l (args_tree ys)) s n) (drop_all i xs le) in
+    let left : folded step (runs l (from_on xs i)) s n ≡ (Ok s, n) =
+    ap (λ ys. folded step (runs l (args_tree ys)) s n) (drop_all i xs le) in
     subst (λ o. Meets r o n) (ap (turned answer) (sym left ∙ rest_is) ∙ is)
     (rw end (meets (answer s) (answer s, n) n (λ apart. refl) refl))

@@ -88,13 +88,16 @@ unfolding chars encode day_at days_of_first_years days_of_months
 getFutureTime-pattern_first = refl
 
 -- the types are judged from left to right, so a unit that is no text comes before such a pattern
-getFutureTime-unit_is_no_text : at_one Fun.GetFutureTime (int (pos 1) ∷ int (pos 2) ∷ int (pos 3) ∷ []) ≡ Err (EvalFault.WrongType Fun.GetFutureTime 2)
+getFutureTime-unit_is_no_text : at_one Fun.GetFutureTime (int (pos 1) ∷ int (pos 2) ∷ int (pos 3) ∷ [])
+    ≡ Err (EvalFault.WrongType Fun.GetFutureTime 2)
 getFutureTime-unit_is_no_text = refl
 
-getPastTime-unit_is_no_text : at_one Fun.GetPastTime (int (pos 1) ∷ int (pos 2) ∷ int (pos 3) ∷ []) ≡ Err (EvalFault.WrongType Fun.GetPastTime 2)
+getPastTime-unit_is_no_text : at_one Fun.GetPastTime (int (pos 1) ∷ int (pos 2) ∷ int (pos 3) ∷ [])
+    ≡ Err (EvalFault.WrongType Fun.GetPastTime 2)
 getPastTime-unit_is_no_text = refl
 
-getFutureTime-number_is_none : at_one Fun.GetFutureTime (word (codes "1") ∷ int (pos 2) ∷ []) ≡ Err (EvalFault.WrongType Fun.GetFutureTime 1)
+getFutureTime-number_is_none : at_one Fun.GetFutureTime (word (codes "1") ∷ int (pos 2) ∷ [])
+    ≡ Err (EvalFault.WrongType Fun.GetFutureTime 1)
 getFutureTime-number_is_none = refl
 
 getFutureTime-pattern_is_no_text :
