@@ -1,0 +1,3 @@
+mod AttemptRows
+mod LastLemmas
+mod LastRows
