@@ -1,0 +1,4 @@
+mod BranchLemmas
+mod DecisionRows
+mod LocalLemmas
+mod VerdictRows

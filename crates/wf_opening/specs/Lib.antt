@@ -1,0 +1,5 @@
+pub mod Branches
+pub mod Decisions
+pub mod DecisionSeen
+pub mod Uses
+pub mod Verdicts
