@@ -10,7 +10,8 @@
 //!
 //! `specs/Runs.antt` is the whole rule, in its order; `specs/WorkedRows` of the proofs has it at worked values. An
 //! expression of a trigger sees the trigger, the parameters, the inputs' run name and the moment, and nothing else
-//! (`specs/TriggerLook.antt`).
+//! (`specs/TriggerLook.antt`). `Outside` is what any expression sees that stands in no loop, for the crates above too: they say which
+//! actions it sees (`Views`).
 //!
 //! This crate runs nothing: what a start leads to is for the machine above to say.
 #![tactic(auto)]
