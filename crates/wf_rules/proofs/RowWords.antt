@@ -99,8 +99,9 @@ set_first e = initialize (record { name = codes "w"; sort = Sort.List; value = S
 abbrev pub at_inputs : ExprTree → List KindTree
 at_inputs e =
     composes e ∷ connector (data_of e) Policy.Never ∷ wait (data_of e) ∷ response (data_of e) ∷ terminate (data_of e)
-    ∷ select (data_of e) null ∷ query (data_of e) (plain []) ∷ join (data_of e) null ∷ join null (data_of e) ∷ parse_json (data_of e)
-    ∷ set_first e ∷ branch (truth e) no_actions no_actions ∷ switch (whole e) no_cases ∷ switch_else (whole e) no_cases no_actions
+    ∷ select (data_of e) null ∷ query (data_of e) (plain []) ∷ join (data_of e) null ∷ join null (data_of e)
+    ∷ parse_json (data_of e) None ∷ set_first e ∷ branch (truth e) no_actions no_actions
+    ∷ switch (whole e) no_cases ∷ switch_else (whole e) no_cases no_actions
     ∷ each (data_of e) [] ∷ []
 
 -- at what a Select or a Query asks of each item

@@ -26,7 +26,7 @@ abbrev endings : List KindTree
 endings = response null ∷ terminate null ∷ []
 
 abbrev on_data : List KindTree
-on_data = select null null ∷ query null (plain []) ∷ join null null ∷ parse_json null ∷ []
+on_data = select null null ∷ query null (plain []) ∷ join null null ∷ parse_json null None ∷ []
 
 abbrev on_variables : List KindTree
 on_variables =
