@@ -14,7 +14,7 @@ use Rattle.wf_def.specs.ActionTree.{branch, switch, switch_else, foreach, scope,
 use Rattle.wf_look.proofs.WorkedLook.{nowhere, somewhere}
 use Rattle.wf_eval_expr.proofs.WorkedExpressions.{int, word, truth, untruth, nothing, by_zero, rest_by_zero, of}
 use Rattle.wf_opening.specs.Decisions as decision
-use Rattle.wf_opening.specs.Decisions.{DecisionTree, decided, held, chosen, each, each_as, too_many, faulty, items_of, taken}
+use Rattle.wf_opening.specs.Decisions.{DecisionTree, decided, held, chosen, each, each_as, held_as, too_many, faulty, items_of, taken}
 
 abbrev that : ExprTree → inputs.DataTree
 that e = inputs.text (whole e)
@@ -39,7 +39,7 @@ if-look = refl
 if-not : if_ (not_of (compare_by Fun.Equals (that (int 1)) (inputs.number (pos 1)))) ≡ held false
 if-not = refl
 
--- a text is no truth value, and neither are null and a number
+-- a text is no Boolean, and neither are null and a number
 if-text : if_ (holds (plain (codes "true"))) ≡ faulty (EvalFault.WrongType Fun.Condition 1)
 if-text = refl
 
@@ -63,6 +63,10 @@ if-decided = refl
 if-no_value : decided nowhere (branch (holds (whole (of (codes "parameters") (word (codes "p") ∷ [])))) no_actions no_actions)
     ≡ faulty (EvalFault.NoValue (codes "p"))
 if-no_value = refl
+
+-- a condition comes to a Boolean or to a fault; any other value would be of the wrong type
+if-other : held_as (Ok null) ≡ faulty (EvalFault.WrongType Fun.Condition 1)
+if-other = refl
 
 -- ---- a Switch: two cases, in the order of their names
 

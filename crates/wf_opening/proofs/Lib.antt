@@ -1,4 +1,5 @@
 mod BranchLemmas
 mod DecisionRows
+mod FitLemmas
 mod LocalLemmas
 mod VerdictRows

@@ -1,6 +1,7 @@
 -- Worked tests of an Until.
-use Rattle.std.proofs.Common.{◌≡◌, refl, [], ◌∷◌, true, false}
+use Rattle.std.proofs.Common.{Ok, ◌≡◌, refl, [], ◌∷◌, true, false}
 use Rattle.std.specs.Prelude.{codes}
+use Rattle.wf_val.specs.ValueTree.{null}
 use Rattle.wf_val.specs.declared.fault.EvalFault.{EvalFault}
 use Rattle.wf_val.specs.declared.function.Fun.{Fun}
 use Rattle.wf_template.specs.ExprTree.{ExprTree}
@@ -9,7 +10,7 @@ use Rattle.wf_template.specs.DataTree as inputs
 use Rattle.wf_template.specs.CondTree.{CondTree, holds, compare_by}
 use Rattle.wf_look.proofs.WorkedLook.{nowhere, somewhere}
 use Rattle.wf_eval_expr.proofs.WorkedExpressions.{word, truth, untruth, nothing, by_zero, of}
-use Rattle.wf_opening.specs.Verdicts.{VerdictTree, met, astray, tested_from, ends}
+use Rattle.wf_opening.specs.Verdicts.{VerdictTree, met, astray, met_as, tested_from, ends}
 
 abbrev tested : CondTree → VerdictTree
 tested c = tested_from somewhere c 0
@@ -37,6 +38,9 @@ test-null = refl
 
 test-no_value : tested_from nowhere (holds (whole v)) 0 ≡ astray (EvalFault.NoValue (codes "v"))
 test-no_value = refl
+
+test-other : met_as (Ok null) ≡ astray (EvalFault.WrongType Fun.Condition 1)
+test-other = refl
 
 -- ---- it ends where it is met, and where it can't be told
 

@@ -31,7 +31,7 @@ abbrev pub branch_from : ℕ → CaseTrees → ValueTree → ℕ
 branch_from n no_cases v = n
 branch_from n (case_then name value graph rest) v = if is_eq (order value v) then n else branch_from (suc n) rest v
 
--- a condition has to give a truth value
+-- a condition has to give a Boolean
 abbrev pub held_as : Answer → DecisionTree
 held_as (Ok (boolean b)) = held b
 held_as (Ok v) = faulty (wrong_type Fun.Condition 0)

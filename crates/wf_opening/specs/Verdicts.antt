@@ -8,7 +8,7 @@ use Rattle.wf_template.specs.CondTree.{CondTree}
 use Rattle.wf_look.specs.Told.{Told}
 use Rattle.wf_eval.specs.Truth.{truth_of}
 
--- whether the expression holds, or why it has no truth value
+-- whether the expression holds, or why it has no Boolean value
 pub data VerdictTree : Type 0 where
   met : Bool → VerdictTree
   astray : EvalFault → VerdictTree

@@ -17,5 +17,8 @@ mod laws;
 mod verdict;
 
 pub use decide::{Decision, items_of, open, taken};
-pub use laws::{the_branch_is_the_first_of_its_value, what_a_container_decides_is_local};
+pub use laws::{
+    the_branch_is_the_first_of_its_value, what_a_container_decides_is_local,
+    what_a_container_keeps_fits,
+};
 pub use verdict::{Verdict, ends, test};

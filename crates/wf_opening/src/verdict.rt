@@ -10,7 +10,7 @@ use wf_look::Look;
 use wf_template::Cond;
 use wf_val::EvalFault;
 
-/// Whether the expression of an Until holds after an iteration, or why it has no truth value.
+/// Whether the expression of an Until holds after an iteration, or why it has no Boolean value.
 #[derive(Drop)]
 pub enum Verdict {
     Met(bool),
@@ -30,7 +30,7 @@ pub fn test<L: Look>(alloc: Global, condition: &Cond, look: &mut L) -> Result<Ve
     }
 }
 
-/// Whether a test ends the loop: it does where the expression holds, and where it has no truth value.
+/// Whether a test ends the loop: it does where the expression holds, and where it has no Boolean value.
 pub fn ends(verdict: &Verdict) -> bool
     ensures { result ≡ ends (verdict_tree verdict.now) }
 {
