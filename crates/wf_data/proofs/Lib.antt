@@ -1,0 +1,5 @@
+pub mod RowParts
+mod SimpleRows
+mod ListRows
+mod ParsedRows
+mod SpelledLemmas
