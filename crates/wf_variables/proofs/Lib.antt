@@ -1,0 +1,6 @@
+mod RowLemmas
+mod GivenLemmas
+mod SortRows
+mod InitialRows
+mod WritingRows
+mod GivenRows

@@ -1,0 +1,74 @@
+//! The types of variables.
+ghost use Rattle.std.specs.Prelude.{◌≡◌};
+ghost use Rattle.wf_val.specs.Arguments.{seen};
+ghost use Rattle.wf_val.specs.Seen.{tree};
+ghost use Rattle.wf_variables.specs.Sorts.{are_alike, empty_of, has_sort, of_sort, sort_name};
+
+use std::alloc::Global;
+use wf_def::Sort;
+use wf_val::{EvalFault, Fields, Fun, Text, Val, Vals, wrong_type};
+
+/// Whether a value is of a type.
+pub(crate) fn has_sort(sort: Sort, value: &Val) -> bool
+    ensures { result ≡ has_sort sort (tree value.now) }
+{
+    match (sort, value) {
+        (Sort::Bool, Val::Bool(_)) => true,
+        (Sort::Int, Val::Int(_)) => true,
+        (Sort::Text, Val::Text(_)) => true,
+        (Sort::List, Val::List(_)) => true,
+        (Sort::Obj, Val::Obj(_)) => true,
+        _ => false,
+    }
+}
+
+/// The value, where it is of the type; else the fault of a variable.
+pub(crate) fn of_sort(sort: Sort, value: Val) -> Result<Val, EvalFault>
+    ensures { seen result ≡ of_sort sort (tree value) }
+{
+    if has_sort(sort, &value) {
+        Ok(value)
+    } else {
+        Err(wrong_type(Fun::Variable, 0))
+    }
+}
+
+/// Whether two values are of one type; null is of none.
+pub(crate) fn are_alike(one: &Val, other: &Val) -> bool
+    ensures { result ≡ are_alike (tree one.now) (tree other.now) }
+{
+    match one {
+        Val::Null => false,
+        Val::Bool(_) => has_sort(Sort::Bool, other),
+        Val::Int(_) => has_sort(Sort::Int, other),
+        Val::Text(_) => has_sort(Sort::Text, other),
+        Val::List(_) => has_sort(Sort::List, other),
+        Val::Obj(_) => has_sort(Sort::Obj, other),
+    }
+}
+
+/// The name of a type, as definitions write it, in lower case.
+pub(crate) fn sort_name(sort: Sort) -> &'static str
+    ensures { result.now ≡ sort_name sort }
+{
+    match sort {
+        Sort::Bool => "boolean",
+        Sort::Int => "integer",
+        Sort::Text => "string",
+        Sort::List => "array",
+        Sort::Obj => "object",
+    }
+}
+
+/// The value with which a variable of the type begins where none is given.
+pub(crate) fn empty_of(alloc: Global, sort: Sort) -> Val
+    ensures { tree result ≡ empty_of sort }
+{
+    match sort {
+        Sort::Bool => Val::Bool(false),
+        Sort::Int => Val::Int(0),
+        Sort::Text => Val::Text(Text::from_string(String::new(alloc))),
+        Sort::List => Val::List(Vals::new(alloc)),
+        Sort::Obj => Val::Obj(Fields::new(alloc)),
+    }
+}
