@@ -25,7 +25,7 @@ BUILT = {name.lower(): (name,) + counts for name, counts in (OWN | {name: row[1:
 
 
 class Refused(Exception):
-    """A text is no template."""
+    """A text is no template: it can't be read on from the place that is given."""
 
 
 # An expression from a place of a text on: ("lit", value), ("call", name, parts), ("member", base, name, soft), ("index", base, key, soft).
@@ -36,7 +36,7 @@ class Reader:
     def take(self, pattern):
         found = pattern.match(self.text, self.place)
         if not found:
-            raise Refused
+            raise Refused(self.place)
         self.place = found.end()
         return found
 
@@ -52,11 +52,11 @@ class Reader:
     def opened(self):
         self.open += 1
         if self.open > OPEN_AT_MOST:
-            raise Refused
+            raise Refused(self.place)
 
     def closed(self, word):
         if not self.next(word):
-            raise Refused
+            raise Refused(self.place)
         self.open -= 1
 
     def expression(self):
@@ -77,7 +77,7 @@ class Reader:
             else:
                 if soft:
                     self.place = before
-                    raise Refused
+                    raise Refused(self.place)
                 return made
 
     def primary(self):
@@ -86,7 +86,7 @@ class Reader:
         if NUMBER.match(self.text, self.place):
             number = int(self.take(NUMBER).group())
             if not LEAST <= number <= MOST:
-                raise Refused
+                raise Refused(self.place)
             return ("lit", number)
         name = self.take(NAME).group()
         after = self.place
@@ -97,7 +97,7 @@ class Reader:
         self.place = after
         words = {"true": True, "false": False, "null": None}
         if name.lower() not in words:
-            raise Refused
+            raise Refused(self.place)
         return ("lit", words[name.lower()])
 
     def parts(self):
@@ -117,7 +117,7 @@ def template(text):
         reader = Reader(text, 1)
         made = reader.expression()
         if reader.place != len(text) or len(text) - 1 > LONGEST:
-            raise Refused
+            raise Refused(reader.place)
         return ("whole", made)
     pieces, letters, place, any_part = [], "", 0, False
     while place < len(text):
@@ -129,7 +129,7 @@ def template(text):
             reader = Reader(text, place + 2)
             part = reader.expression()
             if reader.place - place - 2 > LONGEST or not reader.next("}"):
-                raise Refused
+                raise Refused(reader.place)
             pieces += [letters, part] if letters else [part]
             letters, place, any_part = "", reader.place, True
         else:
