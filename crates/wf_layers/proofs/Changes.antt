@@ -28,20 +28,20 @@ use Rattle.wf_layers.proofs.Facts.{busy_state, rooted_state}
 
 -- TESTS
 
-or_false : (a b : Bool) → (a || b) ≡ false → (a ≡ false) × (b ≡ false)
+pub or_false : (a b : Bool) → (a || b) ≡ false → (a ≡ false) × (b ≡ false)
 or_false true b e = absurd (true≢false e)
 or_false false b e = (refl, e)
 
-named : (ns : List Need) (p : ℕ) → Names ns p → is_named ns p ≡ true
+pub named : (ns : List Need) (p : ℕ) → Names ns p → is_named ns p ≡ true
 named [] p e = absurd e
 named (n ∷ ns) p (inl is) = or_first (nat_eq n.name p) (is_named ns p) (eq-eqb n.name p is)
 named (n ∷ ns) p (inr e) = or_second (nat_eq n.name p) (is_named ns p) (named ns p e)
 
-in_own : (g : Graph) (n : ℕ) (after : List Need) (kind : Kind) → In g n after kind → has_own g n ≡ true
+pub in_own : (g : Graph) (n : ℕ) (after : List Need) (kind : Kind) → In g n after kind → has_own g n ≡ true
 in_own _ n after kind (here {rest = rest}) = or_first (nat_eq n n) (has_own rest n) (same_self n)
 in_own _ n after kind (there {m = q} {rest = rest} st) = or_second (nat_eq q n) (has_own rest n) (in_own rest n after kind st)
 
-in_taken : (bs : Branches) (c : ℕ) (b : Graph) → branch_at bs c ≡ Some b → (q : ℕ) → has_own b q ≡ true → owns_any bs q ≡ true
+pub in_taken : (bs : Branches) (c : ℕ) (b : Graph) → branch_at bs c ≡ Some b → (q : ℕ) → has_own b q ≡ true → owns_any bs q ≡ true
 in_taken no_branch c b e q h = absurd (none-some b e)
 in_taken (branch a rest) c b e q h =
     ⊎_elim
@@ -50,15 +50,15 @@ in_taken (branch a rest) c b e q h =
     (λ u. or_second (has_own a q) (owns_any rest q) (in_taken rest (less_one c) b (sym (unless (is_one c) (Some a) _ u) ∙ e) q h))
     (two (is_one c))
 
-next_is : (i : List ℕ) (j : ℕ) → is_next i (i ++ j ∷ []) ≡ true
+pub next_is : (i : List ℕ) (j : ℕ) → is_next i (i ++ j ∷ []) ≡ true
 next_is [] j = refl
 next_is (a ∷ i) j = and_of (nat_eq a a) (is_next i (i ++ j ∷ [])) (same_self a) (next_is i j)
 
-owns_has : (bs : Branches) (q : ℕ) → owns_any bs q ≡ true → has_any bs q ≡ true
+pub owns_has : (bs : Branches) (q : ℕ) → owns_any bs q ≡ true → has_any bs q ≡ true
 owns_has no_branch q e = e
 owns_has (branch b rest) q e = either_or (has_own b q) (owns_any rest q) (has b q) (has_any rest q) (own_has b q) (owns_has rest q) e
 
-owns_holds : (kind : Kind) (q : ℕ) → owns (Some kind) q ≡ true → holds kind q ≡ true
+pub owns_holds : (kind : Kind) (q : ℕ) → owns (Some kind) q ≡ true → holds kind q ≡ true
 owns_holds Leaf q e = e
 owns_holds (Scope g) q e = own_has g q e
 owns_holds (Choice bs) q e = owns_has bs q e
@@ -68,12 +68,12 @@ owns_holds (Until most g) q e = own_has g q e
 module _ {Row Begun Decision Verdict : Type 0} (m : Source Row Begun Decision Verdict) (d : Graph) (so : Sound m (SeenIn d) d 0)
     (f : Table Row) (sol : Obeys m d f)
     (closed : IsClosed m d so f sol) (out : SpecialOut m d so f sol) where
-  abbrev St : Type 0
+  abbrev pub St : Type 0
   St = State Row Begun Decision Verdict
 
   -- WHAT AN EVENT LEAVES AS IT IS
 
-  running_else : (s : St) (e : Event) (s' : St) → Step d m s e s' → (x : Address) → is_own (place_of e).name (place_of e).at x ≡ false
+  pub running_else : (s : St) (e : Event) (s' : St) → Step d m s e s' → (x : Address) → is_own (place_of e).name (place_of e).at x ≡ false
       → s'.running x ≡ s.running x
   running_else s (Start n i) s' (after, de, pass, to) x u =
       ap (λ (z : St). z.running x) to ∙ ap (λ o. or_else o (s.running x)) (unless (is_own n i x) (Some _) None u)
@@ -86,7 +86,7 @@ module _ {Row Begun Decision Verdict : Type 0} (m : Source Row Begun Decision Ve
   running_else s (Test n i) s' (after, kind, w, j, th, e, may, to) x u = ap (λ (z : St). z.running x) to
   running_else s (Close n i) s' (after, kind, w, th, e, may, to) x u = ap (λ (z : St). z.running x) to
 
-  opens_else : (s : St) (e : Event) (s' : St) → Step d m s e s' → (x : Address) → is_own (place_of e).name (place_of e).at x ≡ false
+  pub opens_else : (s : St) (e : Event) (s' : St) → Step d m s e s' → (x : Address) → is_own (place_of e).name (place_of e).at x ≡ false
       → s'.opens x ≡ s.opens x
   opens_else s (Start n i) s' (after, de, pass, to) x u = ap (λ (z : St). z.opens x) to
   opens_else s (Try n i) s' (w, e, lt, to) x u = ap (λ (z : St). z.opens x) to
@@ -102,7 +102,7 @@ module _ {Row Begun Decision Verdict : Type 0} (m : Source Row Begun Decision Ve
       ap (λ (z : St). z.opens x) to ∙ unless (is_own n i x) None (s.opens x) u
 
   -- where new rows are all in an action that is decided, no other row of an open graph is new
-  block_else : (s : St) (n : ℕ) (i : List ℕ) (after : List Need) (kind : Kind) (new : Table Row) → IsDecided d m s n i after kind
+  pub block_else : (s : St) (n : ℕ) (i : List ℕ) (after : List Need) (kind : Kind) (new : Table Row) → IsDecided d m s n i after kind
       → ((y : Address) (r : Row) → new y ≡ Some r → is_in n kind i y ≡ true) → (q : ℕ) (j : List ℕ) (before : List Need) (other : Kind)
       → IsThere d m s q j before other
       → is_own n i (address q j) ≡ false → place new s.rows (address q j) ≡ s.rows (address q j)
@@ -112,7 +112,7 @@ module _ {Row Begun Decision Verdict : Type 0} (m : Source Row Begun Decision Ve
       go None e = ap (λ z. or_else z (s.rows (address q j))) e
       go (Some r) e = absurd (none_open m d so f sol s n i after kind de q j before other it (inner (address q j) r e) u)
 
-  rows_else : (s : St) (e : Event) (s' : St) → Busy m d so f sol s → Rooted m d so f sol s → Step d m s e s'
+  pub rows_else : (s : St) (e : Event) (s' : St) → Busy m d so f sol s → Rooted m d so f sol s → Step d m s e s'
       → (q : ℕ) (j : List ℕ) (before : List Need) (other : Kind) → IsThere d m s q j before other
       → (places e && is_own (place_of e).name (place_of e).at (address q j)) ≡ false → s'.rows (address q j) ≡ s.rows (address q j)
   rows_else s (Start n i) s' b r (after, de, pass, to) q j before other it u = ap (λ (z : St). z.rows (address q j)) to
@@ -343,7 +343,7 @@ module _ {Row Begun Decision Verdict : Type 0} (m : Source Row Begun Decision Ve
     -- OPEN GRAPHS BEFORE AND AFTER
 
     -- an open graph stays open, or has ended
-    stays : (g : Graph) (i : List ℕ) → IsOpen m.taken d s.opens g i → IsOpen m.taken d s'.opens g i ⊎ (is_ended g i s.rows ≡ true)
+    pub stays : (g : Graph) (i : List ℕ) → IsOpen m.taken d s.opens g i → IsOpen m.taken d s'.opens g i ⊎ (is_ended g i s.rows ≡ true)
     stays g i og = go e st
       where
         same : s'.opens ≡ s.opens → IsOpen m.taken d s'.opens g i
@@ -385,13 +385,13 @@ module _ {Row Begun Decision Verdict : Type 0} (m : Source Row Begun Decision Ve
             (close_path m d so f sol s k n j after kind w th q may g i og)
 
     -- an open container was open before, began an iteration, or opened
-    abbrev Was : ℕ → List ℕ → Opening Decision Verdict → Type 0
+    abbrev pub Was : ℕ → List ℕ → Opening Decision Verdict → Type 0
     Was c j v =
         ((u : Opening Decision Verdict) × (s.opens (address c j) ≡ Some u) × (u.decision ≡ v.decision)
         × ((v.next ≤ u.next) ⊎ ((v.next ≡ suc u.next) × (e ≡ Begin c j))))
         ⊎ ((v.next ≡ 0) × (e ≡ Open c j))
 
-    was : (c : ℕ) (j : List ℕ) (v : Opening Decision Verdict) → s'.opens (address c j) ≡ Some v → Was c j v
+    pub was : (c : ℕ) (j : List ℕ) (v : Opening Decision Verdict) → s'.opens (address c j) ≡ Some v → Was c j v
     was c j v h = go e refl st
       where
         before : s'.opens (address c j) ≡ s.opens (address c j) → Was c j v
@@ -440,7 +440,7 @@ module _ {Row Begun Decision Verdict : Type 0} (m : Source Row Begun Decision Ve
             at_own n l None (ap (λ (z : St). z.opens) to) (λ v0 ev same ad. absurd (none-some v0 ev))
 
     -- in a graph that is entered nothing is open
-    entered_none : (q : ℕ) (j : List ℕ) → enters d s e (address q j) ≡ true → (v : Opening Decision Verdict)
+    pub entered_none : (q : ℕ) (j : List ℕ) → enters d s e (address q j) ≡ true → (v : Opening Decision Verdict)
         → s'.opens (address q j) ≡ Some v → ⊥
     entered_none q j ent v h = go e refl st
       where
@@ -497,7 +497,7 @@ module _ {Row Begun Decision Verdict : Type 0} (m : Source Row Begun Decision Ve
                 (and_of (has g q) (starts (l ++ w.next ∷ []) j) (own_has g q own) at)).2
 
     -- an open graph was open before, or is entered
-    abbrev Entered : Graph → List ℕ → Type 0
+    abbrev pub Entered : Graph → List ℕ → Type 0
     Entered g i = (q : ℕ) → has_own g q ≡ true → enters d s e (address q i) ≡ true
 
     kind_after : (g : Graph) (j : List ℕ) → IsOpen m.taken d s.opens g j → (c : ℕ) (ca : List Need) (kd : Kind) → In g c ca kd
@@ -526,7 +526,7 @@ module _ {Row Begun Decision Verdict : Type 0} (m : Source Row Begun Decision Ve
         → (v : Opening Decision Verdict) → s'.opens (address c j) ≡ Some v → ⊥
     not_entered g j ent c ca kd st' v h = entered_none c j (ent c (in_own g c ca kd st')) v h
 
-    came : (g : Graph) (i : List ℕ) → IsOpen m.taken d s'.opens g i → IsOpen m.taken d s.opens g i ⊎ Entered g i
+    pub came : (g : Graph) (i : List ℕ) → IsOpen m.taken d s'.opens g i → IsOpen m.taken d s.opens g i ⊎ Entered g i
     came _ _ top = inl top
     came _ i (scope {g = g} {h = h} {n = c} {after = ca} {w = v} og st' ev) =
         ⊎_elim
@@ -575,11 +575,11 @@ module _ {Row Begun Decision Verdict : Type 0} (m : Source Row Begun Decision Ve
 
     -- THE LAW
 
-    abbrev ThereIn : St → Address → Type 0
+    abbrev pub ThereIn : St → Address → Type 0
     ThereIn z x = (after : List Need) × (kind : Kind) × IsThere d m z x.name x.at after kind
 
     -- an action with an enabled event stands in an open graph
-    enabled_there : (z : St) → Busy m d so f sol z → (x : Address) (y : Event) (z' : St) → x ≡ place_of y → Step d m z y z' → ThereIn z x
+    pub enabled_there : (z : St) → Busy m d so f sol z → (x : Address) (y : Event) (z' : St) → x ≡ place_of y → Step d m z y z' → ThereIn z x
     enabled_there z bz x y z' is sy = subst (λ (a : Address). ThereIn z a) (sym is) (go y sy)
       where
         go : (y : Event) → Step d m z y z' → ThereIn z (place_of y)
@@ -592,7 +592,7 @@ module _ {Row Begun Decision Verdict : Type 0} (m : Source Row Begun Decision Ve
         go (Test n i) (after, kind, w, l, th, q, may, to) = (after, kind, th)
         go (Close n i) (after, kind, w, th, q, may, to) = (after, kind, th)
 
-    ended_row : (g : Graph) (i : List ℕ) (n : ℕ) (after : List Need) (kind : Kind) → In g n after kind → is_ended g i s.rows ≡ true
+    pub ended_row : (g : Graph) (i : List ℕ) (n : ℕ) (after : List Need) (kind : Kind) → In g n after kind → is_ended g i s.rows ≡ true
         → has_ended (s.rows (address n i)) ≡ true
     ended_row _ i n after kind (here {rest = rest}) h = (and_in (has_ended (s.rows (address n i))) (is_ended rest i s.rows) h).0
     ended_row _ i n after kind (there {m = q} {rest = rest} st') h =

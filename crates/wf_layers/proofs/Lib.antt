@@ -12,6 +12,7 @@ pub mod Progress
 pub mod Limit
 pub mod Facts
 pub mod Called
+pub mod Instances
 pub mod Laws
 pub mod Example
 pub mod Resubmission

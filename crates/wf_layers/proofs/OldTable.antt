@@ -167,19 +167,19 @@ module _ (redo again : ℕ → Bool) where
 module _ {Row Begun Decision Verdict : Type 0} (a b : Source Row Begun Decision Verdict) (redo again : ℕ → Bool) (d : Graph) (depth : ℕ → ℕ)
     (falls : IsDepth d depth) (sb : Sound b (SeenIn d) d 0) (r : Table Row) (recall : Address → Decision)
     (old : IsOldTable d a redo again r recall) where
-  abbrev m : Source Row Begun Decision Verdict
+  abbrev pub m : Source Row Begun Decision Verdict
   m = pin a b redo again r recall
 
-  abbrev f : Table Row
+  abbrev pub f : Table Row
   f = meaning m depth d
 
-  so : Sound m (SeenIn d) d 0
+  pub so : Sound m (SeenIn d) d 0
   so = pin_sound a b redo (SeenIn d) again r recall d 0 sb
 
-  sol : Obeys m d f
+  pub sol : Obeys m d f
   sol = meaning_solves m depth d falls so
 
-  abbrev s0 : State Row Begun Decision Verdict
+  abbrev pub s0 : State Row Begun Decision Verdict
   s0 = resumed d redo again r recall
 
   sp : IsSplit d redo again
@@ -403,7 +403,7 @@ module _ {Row Begun Decision Verdict : Type 0} (a b : Source Row Begun Decision 
                 ap (λ z. z.next) (open_is n i w (Until most h) e (kind_there m d so f sol s0.opens g i n after (Until most h) og st).0).2,
               ))
 
-  out : SpecialOut m d so f sol
+  pub out : SpecialOut m d so f sol
   out o g i n after kind og st q h s =
       let sp' = (in_split redo again g n after kind (open_split redo again a.taken d o g i sp.tree og) st).0 in
       ⊎_elim
@@ -696,16 +696,16 @@ module _ {Row Begun Decision Verdict : Type 0} (a b : Source Row Begun Decision 
         omega (arith, x, y)
 
   module _ (closed : Closed d d) where
-    cl : IsClosed m d so f sol
+    pub cl : IsClosed m d so f sol
     cl = closed_is m d so f sol closed
 
-    any_keeps : (es : List Event) (s : State Row Begun Decision Verdict) → Run d m s0 es s → Keeps m d so f sol s
+    pub any_keeps : (es : List Event) (s : State Row Begun Decision Verdict) → Run d m s0 es s → Keeps m d so f sol s
     any_keeps es s run = run_keeps m d so f sol cl out s0 es s first_keeps run
 
-    any_busy : (es : List Event) (s : State Row Begun Decision Verdict) → Run d m s0 es s → Busy m d so f sol s
+    pub any_busy : (es : List Event) (s : State Row Begun Decision Verdict) → Run d m s0 es s → Busy m d so f sol s
     any_busy es s run = run_busy m d so f sol cl out s0 es s first_keeps first_busy run
 
-    any_rooted : (es : List Event) (s : State Row Begun Decision Verdict) → Run d m s0 es s → Rooted m d so f sol s
+    pub any_rooted : (es : List Event) (s : State Row Begun Decision Verdict) → Run d m s0 es s → Rooted m d so f sol s
     any_rooted es s run = run_rooted m d so f sol cl out s0 es s first_keeps first_busy first_rooted run
 
     pub any_facts : ResumedFacts d depth a b redo again r recall

@@ -153,7 +153,7 @@ module _ {Row Begun Decision Verdict : Type 0} (m : Source Row Begun Decision Ve
       apart (has a y.name) (has_any rest y.name) (starts i y.at) (so.0 y.name) (taken_within b rest c e i y w)
 
   -- it is the first, or one of the others
-  first_or : (a b : Graph) (rest : Branches) (c : ℕ) → branch_at (branch a rest) c ≡ Some b
+  pub first_or : (a b : Graph) (rest : Branches) (c : ℕ) → branch_at (branch a rest) c ≡ Some b
       → ((is_one c ≡ true) × (a ≡ b)) ⊎ ((is_one c ≡ false) × (branch_at rest (less_one c) ≡ Some b))
   first_or a b rest c e =
       ⊎_elim

@@ -4,7 +4,7 @@ use Rattle.std.specs.Cmp.Lexicographic.{slice_cmp}
 use Rattle.std.specs.Ordering.{nat_cmp}
 use Rattle.std.specs.declared.cmp.Ordering.{Ordering}
 use Rattle.std.specs.declared.cmp.Ordering.TheVariants.{Less, Equal}
-use Rattle.wf_layers.specs.Definition.{Need, Succeeded, Failed}
+use Rattle.wf_layers.specs.Definition.{InTurn, Need, Succeeded, Failed, Leaf, Scope, Choice, Foreach, Until, no_branch, branch, Graph, done, add}
 use Rattle.wf_layers.specs.Address.{Address, address}
 use Rattle.wf_layers.specs.Machine.{State, fresh, Event, Start, End, Skip, Open, Begin, Test, Close}
 use Rattle.wf_layers.specs.Bound.{left}
@@ -12,6 +12,7 @@ use Rattle.wf_layers.specs.Enabled.{events}
 use Rattle.wf_layers.specs.Changes.{may_change}
 use Rattle.wf_layers.specs.Waiting.{waiting, lacking, times}
 use Rattle.wf_layers.specs.Redo.{redone, closed_again}
+use Rattle.wf_layers.specs.Instances.{loop_count}
 use Rattle.wf_layers.specs.Record.{key}
 use Rattle.wf_layers.proofs.Example.{row, before, graph, depths, a, f}
 use Rattle.wf_layers.proofs.ExampleResubmission.{chosen}
@@ -213,6 +214,41 @@ if_closed_again = refl
 
 no_other_again : closed_again graph depths chosen 4 ≡ false
 no_other_again = refl
+
+-- HOW MANY INDEXES AN ADDRESS HAS
+
+loop_itself : loop_count graph 6 ≡ 0
+loop_itself = refl
+
+in_a_branch : loop_count graph 3 ≡ 0
+in_a_branch = refl
+
+in_an_until : loop_count graph 5 ≡ 1
+in_an_until = refl
+
+in_a_foreach : loop_count graph 7 ≡ 1
+in_a_foreach = refl
+
+-- a Foreach in a Scope in an Until, and behind them an If with a Foreach in its second branch
+abbrev nested : Graph
+nested =
+    add 0 [] (Until 3 (add 1 [] (Scope (add 2 [] (Foreach InTurn (add 3 [] Leaf done)) done)) done))
+    (add 4 [] (Choice (branch (add 5 [] Leaf done) (branch (add 6 [] (Foreach InTurn (add 7 [] Leaf done)) done) no_branch))) done)
+
+scope_in_a_loop : loop_count nested 1 ≡ 1
+scope_in_a_loop = refl
+
+in_two_loops : loop_count nested 3 ≡ 2
+in_two_loops = refl
+
+in_a_first_branch : loop_count nested 5 ≡ 0
+in_a_first_branch = refl
+
+in_a_loop_of_a_branch : loop_count nested 7 ≡ 1
+in_a_loop_of_a_branch = refl
+
+nowhere : loop_count nested 8 ≡ 0
+nowhere = refl
 
 -- IN WHICH ORDER ROWS GO
 

@@ -1,6 +1,6 @@
 -- The laws of order independence, as facts of a definition, a source and its meaning.
 use Rattle.std.specs.Prelude.{◌≡◌, ℕ, Bool, true, false, List, [], Some, ◌+◌, ◌*◌, ◌≤◌, length, Option, None, ◌++◌, ◌∷◌}
-use Rattle.wf_layers.specs.Definition.{Graph, IsDepth, Closed, Turns}
+use Rattle.wf_layers.specs.Definition.{Graph, has, IsDepth, Closed, Turns}
 use Rattle.wf_layers.specs.Address.{Address, SeenIn, is_within}
 use Rattle.wf_layers.specs.Source.{Source, Sound}
 use Rattle.wf_layers.specs.Meaning.{meaning}
@@ -8,6 +8,7 @@ use Rattle.wf_layers.specs.Address.{Table}
 use Rattle.wf_layers.specs.Rule.{look, Obeys}
 use Rattle.wf_layers.specs.Part.{IsPart}
 use Rattle.wf_layers.specs.Called.{IsCalled}
+use Rattle.wf_layers.specs.Instances.{loop_count}
 use Rattle.wf_layers.specs.Variables.{SeesFinished, SeenAreThere, TestSees, Stores, OneOrder, IsLastWritten, StoreHolds, StoreHoldsAtTests, StoreHoldsAtEnds}
 use Rattle.wf_layers.specs.Bound.{total, left, TellsTurns, Costs}
 use Rattle.wf_layers.specs.Facts.{Facts}
@@ -44,6 +45,11 @@ module _ {Row Begun Decision Verdict : Type 0} where
       (x : Address) → is_within d [] x ≡ true
       → (IsCalled m d (meaning m depth d) x → has_ended (meaning m depth d x) ≡ true)
       × (has_ended (meaning m depth d x) ≡ true → IsCalled m d (meaning m depth d) x)
+
+  -- Each row stands at an instance: its action is in the definition, and its address has one index for every loop round the action.
+  abbrev pub RowsStandAtInstances : Graph → Source Row Begun Decision Verdict → (ℕ → ℕ) → Type 0
+  RowsStandAtInstances d m depth =
+      (x : Address) (r : Row) → meaning m depth d x ≡ Some r → (has d x.name ≡ true) × (loop_count d x.name ≡ length x.at)
 
   -- Two tables that obey the rule are the same.
   abbrev pub RowsAreUnique : Graph → Source Row Begun Decision Verdict → Type 0

@@ -6,6 +6,7 @@ pub mod Rule
 pub mod Part
 pub mod Machine
 pub mod Called
+pub mod Instances
 pub mod Facts
 pub mod Variables
 pub mod Bound

@@ -6,10 +6,10 @@ use Rattle.wf_layers.specs.Source.{Source, leaf}
 use Rattle.wf_layers.specs.Meaning.{last, skip, skip_all}
 use Rattle.wf_layers.specs.Called.{iterations}
 
--- What is read from the row of a container that ran: of an If or Switch the branch, counted from 1; of a Foreach and of an Until how many
--- iterations it had.
+-- What is read from the row of a container that ran: of an If or Switch the branch, counted from 1, which depends on the action's cases; of
+-- a Foreach and of an Until how many iterations it had.
 pub record Reading (Row : Type 0) : Type 0 where
-  pub taken : Row → ℕ
+  pub taken : (action : ℕ) → Row → ℕ
   pub items : Row → ℕ
   pub rounds : Row → ℕ
 
@@ -22,14 +22,14 @@ module _ {Row Begun Decision Verdict : Type 0} (m : Source Row Begun Decision Ve
   abbrev mutual
     -- Inside a container that ran with this row: in a Choice, the branch of its decision has the shape and the others have Skipped rows; a
     -- loop has as many iterations as its row says.
-    pub ShapeIn : Kind → List ℕ → Row → Type 0
-    ShapeIn Leaf i row = Unit {0}
-    ShapeIn (Scope g) i row = Shape g i
-    ShapeIn (Choice bs) i row = ShapeAny bs (read.taken row) i
-    ShapeIn (Foreach pace g) i row =
+    pub ShapeIn : Kind → ℕ → List ℕ → Row → Type 0
+    ShapeIn Leaf n i row = Unit {0}
+    ShapeIn (Scope g) n i row = Shape g i
+    ShapeIn (Choice bs) n i row = ShapeAny bs (read.taken n row) i
+    ShapeIn (Foreach pace g) n i row =
         ((j : ℕ) → j < read.items row → Shape g (i ++ j ∷ []))
         × ((y : Address) → is_within g i y ≡ true → ((j : ℕ) → j < read.items row → starts (i ++ j ∷ []) y.at ≡ false) → r y ≡ None)
-    ShapeIn (Until most g) i row =
+    ShapeIn (Until most g) n i row =
         ((j : ℕ) → j < read.rounds row → Shape g (i ++ j ∷ []))
         × ((y : Address) → is_within g i y ≡ true → ((j : ℕ) → j < read.rounds row → starts (i ++ j ∷ []) y.at ≡ false) → r y ≡ None)
 
@@ -45,7 +45,7 @@ module _ {Row Begun Decision Verdict : Type 0} (m : Source Row Begun Decision Ve
     Shape (add n after kind rest) i =
         ((row : Row) × (r (address n i) ≡ Some row)
         × (m.status row ≡ Skipped → (y : Address) → is_in n kind i y ≡ true → SkippedAs m (skip m n kind i y) (r y))
-        × ((m.status row ≡ Skipped → ⊥) → ShapeIn kind i row)
+        × ((m.status row ≡ Skipped → ⊥) → ShapeIn kind n i row)
         × ((y : Address) → is_in n kind i y ≡ true → nat_eq n y.name ≡ true → is_own n i y ≡ false → r y ≡ None))
         × Shape rest i
 
@@ -62,8 +62,8 @@ pub record ReadsBack {Row Begun Decision Verdict : Type 0} (d : Graph) (m : Sour
   pub skipped : m.status m.skipped ≡ Skipped
   pub leaves : (x : Address) → m.status (leaf m x f) ≡ Skipped → ⊥
   pub closed : (x : Address) (c : ℕ) (v : Option Verdict) → m.status (m.close x (m.decide x f) c v f) ≡ Skipped → ⊥
-  pub taken : (x : Address) (bs : Branches) → kind_of d x.name ≡ Some (Choice bs) → read.taken (m.close x (m.decide x f) 0 None f) ≡ m.taken
-      (m.decide x f)
+  pub taken : (x : Address) (bs : Branches) → kind_of d x.name ≡ Some (Choice bs)
+      → read.taken x.name (m.close x (m.decide x f) 0 None f) ≡ m.taken (m.decide x f)
   pub items : (x : Address) (pace : Pace) (g : Graph) → kind_of d x.name ≡ Some (Foreach pace g)
       → read.items (m.close x (m.decide x f) 0 None f) ≡ m.items (m.decide x f)
   pub rounds : (x : Address) (most : ℕ) (g : Graph) → kind_of d x.name ≡ Some (Until most g)

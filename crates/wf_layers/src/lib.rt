@@ -20,7 +20,7 @@ ghost use Rattle.wf_layers.specs.Address.{Address, SeenIn, Table, address, is_wi
 ghost use Rattle.wf_layers.specs.Answered.{RunsSoFarAreRuns};
 ghost use Rattle.wf_layers.specs.Bound.{total};
 ghost use Rattle.wf_layers.specs.Definition.{Closed, Graph, IsDepth, Kind, Leaf, Turns};
-ghost use Rattle.wf_layers.specs.Laws.{AllRowsAtTheEnd, EventsAreCounted, EventsAreExact, EventsAtTheEnd, EventsChangeOnlyThere, EventsOfRunsAreFew, FactsOfStates, IsFresh, IsInstance, MeaningObeysTheRule, OneEventAtAnAddress, PartIsUnique, RowsAreTheMeanings, RowsAreUnique, RowsWhereCalledFor, RunsGrow, StoreHoldsTheLast, TestsInOrder, VariablesInOrder};
+ghost use Rattle.wf_layers.specs.Laws.{AllRowsAtTheEnd, EventsAreCounted, EventsAreExact, EventsAtTheEnd, EventsChangeOnlyThere, EventsOfRunsAreFew, FactsOfStates, IsFresh, IsInstance, MeaningObeysTheRule, OneEventAtAnAddress, PartIsUnique, RowsAreTheMeanings, RowsAreUnique, RowsStandAtInstances, RowsWhereCalledFor, RunsGrow, StoreHoldsTheLast, TestsInOrder, VariablesInOrder};
 ghost use Rattle.wf_layers.specs.Machine.{Event, IsOver, Run, State, fresh};
 ghost use Rattle.wf_layers.specs.Meaning.{meaning};
 ghost use Rattle.wf_layers.specs.Listed.{Lists};
@@ -55,6 +55,12 @@ pub fn meaning_obeys_the_rule<Row, Begun, Decision, Verdict>()
 pub fn rows_stand_where_called_for<Row, Begun, Decision, Verdict>()
     ensures { (d : Graph) (m : Source Row Begun Decision Verdict) (depth : ℕ → ℕ) → IsDepth d depth → Sound m (SeenIn d) d 0 → IsFresh m
         → RowsWhereCalledFor d m depth }
+{}
+
+/// And each stands at an instance: its address has one index for every loop round its action.
+pub fn rows_stand_at_instances<Row, Begun, Decision, Verdict>()
+    ensures { (d : Graph) (m : Source Row Begun Decision Verdict) (depth : ℕ → ℕ) → IsDepth d depth → Sound m (SeenIn d) d 0 → IsFresh m
+        → RowsStandAtInstances d m depth }
 {}
 
 /// Two tables that obey the local rule are the same. So the meaning does not depend on the depths that were taken.
@@ -217,7 +223,7 @@ pub fn a_table_of_the_right_shape_may_be_resumed<Row, Begun, Decision, Verdict>(
         (recall : Address → Decision)
         → IsFresh a → IsRedo d chosen redo again → HasShape d a read r
         → ((n : ℕ) (row : Row) → chosen n ≡ true → r (address n []) ≡ Some row → IsIdle a row → ⊥)
-        → ((n : ℕ) (row : Row) → again n ≡ true → r (address n []) ≡ Some row → a.taken (recall (address n [])) ≡ read.taken row)
+        → ((n : ℕ) (row : Row) → again n ≡ true → r (address n []) ≡ Some row → a.taken (recall (address n [])) ≡ read.taken n row)
         → IsOldTable d a redo again r recall }
 {}
 
