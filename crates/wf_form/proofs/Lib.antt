@@ -1,5 +1,4 @@
 pub mod WalkLemmas
-mod FaultLemmas
 mod NameLemmas
 mod WorkedRows
 mod WorkedSchemas

@@ -12,7 +12,7 @@ use Rattle.wf_texts.specs.Members.{bad_texts_of_action, bad_texts_of_trigger, ba
 use Rattle.wf_texts.specs.Sound.{is_bad}
 use Rattle.wf_val.specs.ValueTree.{ValueTree, null, number, text, list, object, trees, members, Member}
 use Rattle.wf_form.specs.Actions.{actions_of}
-use Rattle.wf_form.specs.Fault.{first_fault, fault_of}
+use Rattle.wf_form.specs.Fault.{first_fault, fault_of, rule_number, rules_in_order}
 use Rattle.wf_form.specs.Form.{form}
 use Rattle.wf_form.specs.Judge.{lacking, expressions, run_after}
 use Rattle.wf_form.specs.Limits.{limits}
@@ -60,6 +60,15 @@ says t rule pointer = first_fault t ≡ Some (rule, pointer)
 
 abbrev fine : ValueTree → Type 0
 fine t = first_fault t ≡ None
+
+-- ---- the rules by their numbers
+
+numbers : map rule_number (Rule.Form ∷ Rule.Schema ∷ Rule.Limits ∷ Rule.Names ∷ Rule.Types ∷ Rule.Members ∷ Rule.Expressions
+    ∷ Rule.RunAfter ∷ []) ≡ 1 ∷ 2 ∷ 3 ∷ 4 ∷ 5 ∷ 6 ∷ 7 ∷ 8 ∷ []
+numbers = refl
+
+in_order_of_numbers : map rule_number rules_in_order ≡ 1 ∷ 2 ∷ 3 ∷ 4 ∷ 5 ∷ 6 ∷ 7 ∷ 8 ∷ []
+in_order_of_numbers = refl
 
 -- ---- accepted
 
@@ -125,7 +134,7 @@ unfolding type_of form schema limits naming types lacking expressions run_after 
     output_has_members bad_texts_of_action bad_texts_of_trigger bad_texts_of_output is_bad template_in kind word_of word_front
 level_eight = refl
 
--- ---- 1
+-- ---- V1: form
 
 no_object : says (one) Rule.Form (codes "")
 unfolding type_of form schema limits naming types lacking expressions run_after chars action_has_members trigger_has_members
@@ -302,7 +311,7 @@ unfolding type_of form schema limits naming types lacking expressions run_after 
     output_has_members bad_texts_of_action bad_texts_of_trigger bad_texts_of_output is_bad template_in kind word_of word_front
 least_when_escaped = refl
 
--- ---- 2
+-- ---- V2: schema
 
 another_schema : says (of ((codes "$schema", word (codes "x")) ∷ [])) Rule.Schema (codes "/$schema")
 unfolding type_of form schema limits naming types lacking expressions run_after chars action_has_members trigger_has_members
@@ -348,7 +357,7 @@ unfolding type_of form schema limits naming types lacking expressions run_after 
     output_has_members bad_texts_of_action bad_texts_of_trigger bad_texts_of_output is_bad template_in kind word_of word_front
 form_before_schema = refl
 
--- ---- 3
+-- ---- V3: limits
 
 level_nine : says (graph (in_scope (codes "1") (in_scope (codes "2") (in_scope (codes "3") (in_scope (codes "4") (in_scope (codes "5")
     (in_scope (codes "6") (in_scope (codes "7") (in_scope (codes "8") (compose (codes "9") ∷ []) ∷ []) ∷ []) ∷ []) ∷ []) ∷ []) ∷ [])
@@ -422,7 +431,7 @@ outputs_11 : limits (counted 0 0) Role.Definition (of ((codes "outputs", of (tim
 unfolding limits
 outputs_11 = refl
 
--- ---- 4
+-- ---- V4: names
 
 characters_80 : is_name (times 80 65) ≡ true
 unfolding chars
@@ -490,7 +499,7 @@ unfolding type_of form schema limits naming types lacking expressions run_after 
     output_has_members bad_texts_of_action bad_texts_of_trigger bad_texts_of_output is_bad template_in kind word_of word_front
 delete_character = refl
 
--- ---- 5
+-- ---- V5: types
 
 unknown_type : says (graph (action (codes "A") (codes "Table") [] ∷ [])) Rule.Types (codes "/actions/A")
 unfolding type_of form schema limits naming types lacking expressions run_after chars action_has_members trigger_has_members
@@ -572,7 +581,7 @@ unfolding type_of form schema limits naming types lacking expressions run_after 
     output_has_members bad_texts_of_action bad_texts_of_trigger bad_texts_of_output is_bad template_in kind word_of word_front
 types_before_members = refl
 
--- ---- 6
+-- ---- V6: members
 
 compose_without_inputs : says (graph (action (codes "A") (codes "Compose") [] ∷ [])) Rule.Members (codes "/actions/A")
 unfolding type_of form schema limits naming types lacking expressions run_after chars action_has_members trigger_has_members
@@ -638,7 +647,7 @@ unfolding type_of form schema limits naming types lacking expressions run_after 
     output_has_members bad_texts_of_action bad_texts_of_trigger bad_texts_of_output is_bad template_in kind word_of word_front
 members_before_cycle = refl
 
--- ---- 7
+-- ---- V7: expressions
 
 too_few_arguments : expressions (Role.Action 1) (of ((codes "inputs", word (codes "@concat()"))
     ∷ (codes "type", word (codes "Compose")) ∷ [])) ≡ codes "/inputs" ∷ []
@@ -715,7 +724,7 @@ unfolding type_of form schema limits naming types lacking expressions run_after 
     output_has_members bad_texts_of_action bad_texts_of_trigger bad_texts_of_output is_bad template_in kind word_of word_front
 least_expression = refl
 
--- ---- 8
+-- ---- V8: runAfter
 
 a_cycle : says (graph (waiting (codes "A") (codes "B" ∷ []) ∷ waiting (codes "B") (codes "A" ∷ []) ∷ waiting (codes "C") (codes "B"
     ∷ []) ∷ [])) Rule.RunAfter (codes "/actions/A")

@@ -25,7 +25,8 @@ abbrev parsing : ValueTree → Member
 parsing t = (
   codes "P",
   of (
-      (codes "inputs", of ((codes "content", text (codes "{}")) ∷ (codes "schema", t) ∷ [])) ∷ (codes "type", text (codes "ParseJson")) ∷ []),
+      (codes "inputs", of ((codes "content", text (codes "{}")) ∷ (codes "schema", t) ∷ []))
+      ∷ (codes "type", text (codes "ParseJson")) ∷ []),
 )
 
 -- a schema that is none breaks V6 at the action, whatever is amiss in it; its texts are no templates

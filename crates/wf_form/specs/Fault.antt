@@ -1,6 +1,6 @@
 -- Which rule a definition breaks first, and where.
-use Rattle.std.specs.Prelude.{◌≡◌, ℕ, List, [], ◌∷◌, Option, Some, None, ◌⊎◌, option_map, unwrap_or, codes}
-use Rattle.wf_json.specs.Pointer.{least, IsLeast}
+use Rattle.std.specs.Prelude.{ℕ, List, [], ◌∷◌, Option, option_map, unwrap_or, codes}
+use Rattle.wf_first.specs.First.{first_broken}
 use Rattle.wf_val.specs.ValueTree.{ValueTree}
 use Rattle.wf_val.specs.Get.{get}
 use Rattle.wf_form.specs.Places.{places}
@@ -12,37 +12,14 @@ use Rattle.wf_form.specs.declared.rule.Rule.{Rule}
 abbrev pub offences : ValueTree → Rule → List (List ℕ)
 offences definition rule = places rule (whole_of definition) Role.Definition [] definition
 
-abbrev pub or_later : Rule → Option (List ℕ) → Option (Rule × List ℕ) → Option (Rule × List ℕ)
-or_later rule None later = later
-or_later rule (Some p) later = Some (rule, p)
-
--- the first of these rules that is broken, with the least pointer
-abbrev pub first_broken : ValueTree → List Rule → Option (Rule × List ℕ)
-first_broken definition [] = None
-first_broken definition (rule ∷ rules) = or_later rule (least (offences definition rule)) (first_broken definition rules)
-
 -- the rules, in the order of their numbers
 abbrev pub rules_in_order : List Rule
 rules_in_order =
     Rule.Form ∷ Rule.Schema ∷ Rule.Limits ∷ Rule.Names ∷ Rule.Types ∷ Rule.Members ∷ Rule.Expressions ∷ Rule.RunAfter ∷ []
 
+-- the first of them that is broken, with the least pointer
 abbrev pub first_fault : ValueTree → Option (Rule × List ℕ)
-first_fault definition = first_broken definition rules_in_order
-
--- no rule before this one is broken
-abbrev pub HoldBefore : ValueTree → Rule → List Rule → Type 0
-HoldBefore definition rule [] = ⊥
-HoldBefore definition rule (r ∷ rules) = (r ≡ rule) ⊎ ((offences definition r ≡ []) × HoldBefore definition rule rules)
-
--- all rules before this one hold, and the pointer is the least of those that break it
-pub record IsFirstFault (definition : ValueTree) (rule : Rule) (pointer : List ℕ) : Type 0 where
-  pub before : HoldBefore definition rule rules_in_order
-  pub least : IsLeast (offences definition rule) pointer
-
--- all rules hold
-abbrev pub Hold : ValueTree → List Rule → Type 0
-Hold definition [] = Unit {0}
-Hold definition (r ∷ rules) = (offences definition r ≡ []) × Hold definition rules
+first_fault definition = first_broken (offences definition) rules_in_order
 
 -- ---- of a file
 

@@ -1,3 +1,4 @@
+pub use Rattle.wf_first.specs.First
 pub mod Actions
 pub mod Fault
 pub mod Form

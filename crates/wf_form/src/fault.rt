@@ -1,9 +1,10 @@
 //! Which rule a definition breaks first, and where.
 ghost use Rattle.std.specs.Prelude.{◌≡◌, ℕ, List, Some, None, IfOk, option_map, string_bytes};
+ghost use Rattle.wf_first.specs.First.{Hold, IsFirstBroken};
 ghost use Rattle.wf_json.specs.Pointer.{least};
 ghost use Rattle.wf_val.specs.Seen.{tree};
 ghost use Rattle.wf_val.specs.ValueTree.{ValueTree};
-ghost use Rattle.wf_form.specs.Fault.{fault_of, first_fault, inner_of, offences, rules_in_order, Hold, IsFirstFault};
+ghost use Rattle.wf_form.specs.Fault.{fault_of, first_fault, inner_of, offences, rules_in_order};
 ghost use Rattle.wf_form.specs.KnownSeen.{whole_seen};
 ghost use Rattle.wf_form.specs.Whole.{whole_of};
 ghost use Rattle.wf_form.specs.declared.rule.Rule.{Rule as RuleOf};
@@ -78,6 +79,6 @@ pub fn fault_of(alloc: Global, file: &Val) -> Result<Option<(u8, Text)>, AllocEr
 /// rule, and none of them is less; and where there is no fault, all rules hold.
 pub fn the_first_fault()
     ensures some { (definition : ValueTree) (rule : RuleOf) (pointer : List ℕ)
-        → first_fault definition ≡ Some (rule, pointer) → IsFirstFault definition rule pointer }
-    ensures none { (definition : ValueTree) → first_fault definition ≡ None → Hold definition rules_in_order }
+        → first_fault definition ≡ Some (rule, pointer) → IsFirstBroken (offences definition) rules_in_order rule pointer }
+    ensures none { (definition : ValueTree) → first_fault definition ≡ None → Hold (offences definition) rules_in_order }
 {}
