@@ -125,7 +125,7 @@ index-good soft t key fit = fault-good (wrong_type Fun.Index 1)
 abbrev pub IsFitting : Run → Type 0
 IsFitting r = (n : ℕ) → IsGood (r n).0
 
-abbrev AreFitting : List Run → Type 0
+abbrev pub AreFitting : List Run → Type 0
 AreFitting [] = Unit {0}
 AreFitting (r ∷ rs) = IsFitting r × AreFitting rs
 
@@ -185,6 +185,10 @@ called-fits l f es rs fit Way.Joined n =
     given-good (all_after rs [] n).0 joined_row (λ ts. fitted-good (strict_row Fun.Concat (map as_text ts)))
 called-fits l f es rs fit Way.Collected n =
     given-good (all_after rs [] n).0 (λ ts. fitted (strict_row Fun.CreateArray ts)) (λ ts. fitted-good (strict_row Fun.CreateArray ts))
+called-fits l f es rs fit Way.Paired n =
+    given-good (all_after rs [] n).0 (λ ts. fitted (strict_row f ts)) (λ ts. fitted-good (strict_row f ts))
+called-fits l f es rs fit Way.United n =
+    given-good (all_after rs [] n).0 (λ ts. fitted (strict_row Fun.Union ts)) (λ ts. fitted-good (strict_row Fun.Union ts))
 called-fits l f es rs fit Way.Named n = fitted-good (named_by l f (literal_name es))
 called-fits l f es rs fit Way.Told n = fitted-good (told_row l f)
 called-fits l f es rs fit Way.Timed n =
@@ -213,6 +217,6 @@ mutual
       then_run-good (value l e n) (λ t m. turned (index_row soft t) (value l k m)) (value-fits l e n)
       (λ t fit m. given-good (value l k m).0 (index_row soft t) (λ key. index-good soft t key fit))
 
-  runs-fit : (l : Told) (es : ExprTrees) → AreFitting (runs l es)
+  pub runs-fit : (l : Told) (es : ExprTrees) → AreFitting (runs l es)
   runs-fit l no_exprs = tt
   runs-fit l (expr_then e es) = (value-fits l e, runs-fit l es)

@@ -4,9 +4,10 @@ pub mod Loops
 mod Chains
 pub mod MeasuredLemmas
 mod JoinedLemmas
+pub mod Fitting
 mod FoldLemmas
 mod CollectedLemmas
-pub mod Fitting
+mod FoldsLemmas
 pub mod Local
 mod MomentsAndWords
 pub mod WorkedExpressions

@@ -1,11 +1,11 @@
 -- Values of the functions that have a way of their own with their arguments, or ask the look, at worked calls: each way of each function.
 -- What the look gives under a name has rows of its own, without expressions, in the crate of looks.
-use Rattle.std.proofs.Common.{◌≡◌, refl, [], ◌∷◌, Ok, Err, true, false}
+use Rattle.std.proofs.Common.{◌≡◌, ℕ, refl, List, [], ◌∷◌, map, Ok, Err, true, false}
 use Rattle.std.specs.Prelude.{pos, codes}
 use Rattle.wf_val.specs.ValueTree.{null, boolean, number, text, list, object, trees, no_members}
 use Rattle.wf_val.specs.declared.fault.EvalFault.{EvalFault}
 use Rattle.wf_val.specs.declared.function.Fun.{Fun}
-use Rattle.wf_template.specs.ExprTree.{literal}
+use Rattle.wf_template.specs.ExprTree.{ExprTree, literal}
 use Rattle.wf_look.specs.Told.{over}
 use Rattle.wf_eval_expr.specs.Value.{value}
 use Rattle.wf_look.proofs.WorkedLook.{nested, one_member, with_body, somewhere, named_workflow}
@@ -192,3 +192,64 @@ trigger-body = refl
 
 workflow-run : here (of (codes "workflow") ([])) ≡ (Ok named_workflow, 7)
 workflow-run = refl
+
+-- ---- `min`, `max`, `intersection`, `union`: all arguments have their values before any is judged, and then the leftmost that is wrong
+-- is told at its own place
+
+abbrev numbers : List ℕ → ExprTree
+numbers ns = literal (list (trees (map (λ n. number (pos n)) ns)))
+
+min-least : here (of (codes "min") (int 3 ∷ int 1 ∷ int 2 ∷ [])) ≡ (Ok (number (pos 1)), 7)
+min-least = refl
+
+min-all_first : here (of (codes "min") (word (codes "x") ∷ by_zero ∷ [])) ≡ (Err (EvalFault.Range Fun.Div), 7)
+min-all_first = refl
+
+min-of_a_list : here (of (codes "min") (numbers (3 ∷ 1 ∷ []) ∷ [])) ≡ (Ok (number (pos 1)), 7)
+min-of_a_list = refl
+
+min-list_and_number : here (of (codes "min") (numbers (3 ∷ []) ∷ int 1 ∷ [])) ≡ (Err (EvalFault.WrongType Fun.Min 1), 7)
+min-list_and_number = refl
+
+min-none : here (of (codes "min") []) ≡ (Err (EvalFault.WrongType Fun.Min 1), 7)
+min-none = refl
+
+max-greatest : here (of (codes "max") (int 1 ∷ int 3 ∷ int 2 ∷ [])) ≡ (Ok (number (pos 3)), 7)
+max-greatest = refl
+
+max-third : here (of (codes "max") (int 1 ∷ int 2 ∷ truth ∷ nothing ∷ [])) ≡ (Err (EvalFault.WrongType Fun.Max 3), 7)
+max-third = refl
+
+intersection-in_order_of_the_first :
+    here (of (codes "intersection") (numbers (3 ∷ 1 ∷ 3 ∷ 2 ∷ []) ∷ numbers (2 ∷ 3 ∷ []) ∷ numbers (3 ∷ 2 ∷ 2 ∷ []) ∷ []))
+    ≡ (Ok (list (trees (number (pos 3) ∷ number (pos 2) ∷ []))), 7)
+intersection-in_order_of_the_first = refl
+
+intersection-third :
+    here (of (codes "intersection") (numbers (1 ∷ []) ∷ numbers (2 ∷ []) ∷ truth ∷ []))
+    ≡ (Err (EvalFault.WrongType Fun.Intersection 3), 7)
+intersection-third = refl
+
+intersection-all_first :
+    here (of (codes "intersection") (numbers (1 ∷ []) ∷ truth ∷ by_zero ∷ []))
+    ≡ (Err (EvalFault.Range Fun.Div), 7)
+intersection-all_first = refl
+
+intersection-of_one : here (of (codes "intersection") (numbers (1 ∷ []) ∷ [])) ≡ (Err (EvalFault.WrongType Fun.Intersection 2), 7)
+intersection-of_one = refl
+
+union-first_stays :
+    here (of (codes "union") (numbers (2 ∷ 1 ∷ 2 ∷ []) ∷ numbers (3 ∷ 1 ∷ []) ∷ numbers (0 ∷ []) ∷ []))
+    ≡ (Ok (list (trees (number (pos 2) ∷ number (pos 1) ∷ number (pos 3) ∷ number (pos 0) ∷ []))), 7)
+union-first_stays = refl
+
+union-third :
+    here (of (codes "union") (numbers (1 ∷ []) ∷ numbers (2 ∷ []) ∷ truth ∷ nothing ∷ []))
+    ≡ (Err (EvalFault.WrongType Fun.Union 3), 7)
+union-third = refl
+
+union-all_first : here (of (codes "union") (truth ∷ by_zero ∷ [])) ≡ (Err (EvalFault.Range Fun.Div), 7)
+union-all_first = refl
+
+union-of_one : here (of (codes "union") (numbers (1 ∷ []) ∷ [])) ≡ (Err (EvalFault.WrongType Fun.Union 2), 7)
+union-of_one = refl

@@ -1,5 +1,5 @@
 //! The value of an expression.
-ghost use Rattle.std.specs.Prelude.{◌≡◌, [], Ok};
+ghost use Rattle.std.specs.Prelude.{◌≡◌, true, [], Ok};
 ghost use Rattle.wf_val.specs.Arguments.{seen};
 ghost use Rattle.wf_val.specs.Function.{function_of};
 ghost use Rattle.wf_val.specs.Seen.{tree};
@@ -7,6 +7,7 @@ ghost use Rattle.wf_template.specs.ChainSeen.{start_tree};
 ghost use Rattle.wf_template.specs.ExprSeen.{expr_tree};
 ghost use Rattle.wf_look.specs.Meets.{Meets};
 ghost use Rattle.wf_look.specs.Outcomes.{all_after, strictly};
+ghost use Rattle.wf_folds.specs.Pairing.{is_pairing};
 ghost use Rattle.wf_functions.specs.Rows.{fitted, strict_row, joined_row};
 ghost use Rattle.wf_val.specs.declared.function.Fun.{Fun};
 ghost use Rattle.wf_look.specs.Args.{args_tree};
@@ -17,6 +18,7 @@ ghost use Rattle.wf_eval_expr.specs.Ways.{way_of};
 use crate::way::{Way, way_of};
 use std::alloc::Global;
 use wf_calls::function_named;
+use wf_folds::{Paired, United};
 use wf_functions::{Collected, strict_row, timed_row};
 use wf_look::{
     Look, Measured, as_text, at_end, drawn_by, index_of, member_of, named_by, stop, told_row,
@@ -127,6 +129,8 @@ fn eval_known<L: Look>(
         Way::Early => eval_early(alloc, function, args, look),
         Way::Joined => eval_joined(alloc, args, look),
         Way::Collected => eval_collected(alloc, args, look),
+        Way::Paired => eval_paired(alloc, function, args, look),
+        Way::United => eval_united(alloc, args, look),
         Way::Named => fitted(named_by(alloc, look, function, args)),
         Way::Told => fitted(told_row(alloc, look, function)),
         Way::Timed => {
@@ -221,6 +225,46 @@ fn eval_collected<L: Look>(alloc: Global, args: &[Expr], look: &mut L) -> Result
         items.push(eval_expr(alloc, arg, look)?)?;
     }
     items.answer()
+}
+
+// A function that takes each argument with what those before it come to. Of these no more is kept than that.
+#[cycle(eval)]
+fn eval_paired<L: Look>(
+    alloc: Global,
+    function: Fun,
+    args: &[Expr],
+    look: &mut L,
+) -> Result<Val, EvalFault>
+    requires { is_pairing function ≡ true }
+    ensures value { Meets (seen result)
+        (strictly (λ ts. fitted (strict_row function ts)) (runs (L.told look.old) (args_tree args.now)) (L.drawn look.old))
+        (L.drawn look.new) }
+    ensures same { L.told look.new ≡ L.told look.old }
+    ensures held { L.held look.new ≡ L.held look.old }
+{
+    let mut paired = Paired::new(function);
+    for arg in args {
+        let value = eval_expr(alloc, arg, look)?;
+        paired = paired.with(alloc, value)?;
+    }
+    fitted(paired.answer(alloc))
+}
+
+// The union of the values of all. Of these each distinct item is kept, or the last member of each name.
+#[cycle(eval)]
+fn eval_united<L: Look>(alloc: Global, args: &[Expr], look: &mut L) -> Result<Val, EvalFault>
+    ensures value { Meets (seen result)
+        (strictly (λ ts. fitted (strict_row Fun.Union ts)) (runs (L.told look.old) (args_tree args.now)) (L.drawn look.old))
+        (L.drawn look.new) }
+    ensures same { L.told look.new ≡ L.told look.old }
+    ensures held { L.held look.new ≡ L.held look.old }
+{
+    let mut united = United::new();
+    for arg in args {
+        let value = eval_expr(alloc, arg, look)?;
+        united = united.with(alloc, value)?;
+    }
+    fitted(united.answer(alloc))
 }
 
 // Only the chosen arm.

@@ -1,18 +1,23 @@
-use Rattle.std.proofs.Common.{sym, ◌≡◌, ◌≤◌, ◌++◌, [], ◌∷◌, refl, ap, ◌∙◌, arith, rules}
+use Rattle.std.proofs.Common.{true, sym, ◌≡◌, ◌≤◌, ◌++◌, [], ◌∷◌, refl, ap, ◌∙◌, arith, rules}
 use Rattle.std.proofs.lemmas.Result.{err_from_is_err_and}
 use Rattle.wf_val.specs.Seen.{tree}
 use Rattle.wf_template.specs.ChainSeen.{start_tree, chain_tree}
 use Rattle.wf_template.specs.ExprCounts.{expr_count}
 use Rattle.wf_template.specs.ExprSeen.{expr_tree}
 use Rattle.wf_template.proofs.ChainLemmas.{key_count, base_le_built}
+use Rattle.wf_folds.specs.Pairing.{is_pairing}
+use Rattle.wf_folds.specs.Paired.{nothing_paired, with_value, paired_answer}
+use Rattle.wf_folds.specs.United.{nothing_united, with_argument, united_answer}
 use Rattle.wf_functions.specs.Collected.{nothing, with_item, collected_answer}
+use Rattle.wf_functions.specs.Rows.{fitted}
 use Rattle.wf_look.specs.Args.{args_tree}
 use Rattle.wf_eval_expr.specs.Value.{runs}
 use Rattle.wf_eval_expr.proofs.Grow.{value-grows, handed_draw}
 use Rattle.wf_eval_expr.proofs.Chains.{fault_of_start, fault_of_access, start_value, access_value, through, keys_count, keys_count-snoc}
 use Rattle.wf_eval_expr.proofs.Chains.{keys_le_built}
 use Rattle.wf_eval_expr.proofs.CollectedLemmas.{collected-whole}
-use Rattle.wf_eval_expr.proofs.FoldLemmas.{fault_folded, memory_folded, folded_end}
+use Rattle.wf_eval_expr.proofs.FoldLemmas.{fault_folded, memory_folded, folded_end, folded_fitted}
+use Rattle.wf_eval_expr.proofs.FoldsLemmas.{paired-whole, united-whole, paired-way}
 use Rattle.wf_eval_expr.proofs.JoinedLemmas.{fault_texts, memory_texts, texts_end, some-argument}
 use Rattle.wf_eval_expr.proofs.Loops.{count-item, fault_all, memory_all, early_stops, early_goes_on, early_ends, fault_if, if-few}
 use Rattle.wf_eval_expr.proofs.Meeting.{of_memory, of_fault}
@@ -69,6 +74,57 @@ pub eval_collected-returns-clause-value : goal.eval_collected-returns-clause-val
 eval_collected-returns-clause-value g t c =
     folded_end with_item collected_answer nothing _ _ _ _ _ _ _ _ (collected-whole _ _ _) c.loop-arg-test.false
     c.loop-arg.invariant.so_far c.answer.ensures
+
+pub eval_paired-eval_expr-requires : goal.eval_paired-eval_expr-requires
+eval_paired-eval_expr-requires g t c = let le = count-item _ _ _ c.loop-arg-test.true c.arg-item.is in search (rules, arith)
+
+pub eval_paired-returns-in_err-value-clause-value : goal.eval_paired-returns-in_err-value-clause-value
+eval_paired-returns-in_err-value-clause-value g t c =
+    let p = err_from_is_err_and c.from_residual.result c.from_residual.ensures.1 in
+    rw (p.1, p.2) (fault_folded with_value (λ q. fitted (paired_answer q)) (nothing_paired c.args.function) _ _ _ _ _ _ _ _ _ _ _
+    (paired-whole c.args.function c.requires _ _ _)
+    c.loop-arg-test.true c.arg-item.is c.loop-arg.invariant.same c.loop-arg.invariant.so_far c.in_err-value.ensures.value)
+
+pub eval_paired-returns-in_err-paired-clause-value : goal.eval_paired-returns-in_err-paired-clause-value
+eval_paired-returns-in_err-paired-clause-value g t c =
+    let p = err_from_is_err_and c.from_residual-in_err-paired.result c.from_residual-in_err-paired.ensures.1 in
+    rw (p.1, p.2) (memory_folded with_value (λ q. fitted (paired_answer q)) (nothing_paired c.args.function) _ _ _ _ _ _ _ _ _ _
+    (paired-whole c.args.function c.requires _ _ _)
+    c.loop-arg-test.true c.arg-item.is c.loop-arg.invariant.same c.loop-arg.invariant.so_far c.in_ok-value.ensures.value.1)
+
+pub eval_paired-returns-clause-value : goal.eval_paired-returns-clause-value
+eval_paired-returns-clause-value g t c =
+    folded_fitted with_value paired_answer (nothing_paired c.args.function) _ _ _ _ _ _ _ _ _
+    (paired-whole c.args.function c.requires _ _ _) c.loop-arg-test.false
+    c.loop-arg.invariant.so_far c.answer.ensures c.fitted.ensures
+
+pub eval_united-eval_expr-requires : goal.eval_united-eval_expr-requires
+eval_united-eval_expr-requires g t c = let le = count-item _ _ _ c.loop-arg-test.true c.arg-item.is in search (rules, arith)
+
+pub eval_united-returns-in_err-value-clause-value : goal.eval_united-returns-in_err-value-clause-value
+eval_united-returns-in_err-value-clause-value g t c =
+    let p = err_from_is_err_and c.from_residual.result c.from_residual.ensures.1 in
+    rw (p.1, p.2) (fault_folded with_argument (λ q. fitted (united_answer q)) nothing_united _ _ _ _ _ _ _ _ _ _ _
+    (united-whole _ _ _)
+    c.loop-arg-test.true c.arg-item.is c.loop-arg.invariant.same c.loop-arg.invariant.so_far c.in_err-value.ensures.value)
+
+pub eval_united-returns-in_err-united-clause-value : goal.eval_united-returns-in_err-united-clause-value
+eval_united-returns-in_err-united-clause-value g t c =
+    let p = err_from_is_err_and c.from_residual-in_err-united.result c.from_residual-in_err-united.ensures.1 in
+    rw (p.1, p.2) (memory_folded with_argument (λ q. fitted (united_answer q)) nothing_united _ _ _ _ _ _ _ _ _ _
+    (united-whole _ _ _)
+    c.loop-arg-test.true c.arg-item.is c.loop-arg.invariant.same c.loop-arg.invariant.so_far c.in_ok-value.ensures.value.1)
+
+pub eval_united-returns-clause-value : goal.eval_united-returns-clause-value
+eval_united-returns-clause-value g t c =
+    folded_fitted with_argument united_answer nothing_united _ _ _ _ _ _ _ _ _
+    (united-whole _ _ _) c.loop-arg-test.false
+    c.loop-arg.invariant.so_far c.answer.ensures c.fitted.ensures
+
+pub eval_known-eval_paired-requires : goal.eval_known-eval_paired-requires
+eval_known-eval_paired-requires g t c =
+    let is : is_pairing c.args.function ≡ true = paired-way c.args.function (sym c.way_of.ensures ∙ c.in-Paired.is) in
+    search (rules, arith, is)
 
 pub eval_all-returns-in_err-eval_expr-clause-values : goal.eval_all-returns-in_err-eval_expr-clause-values
 eval_all-returns-in_err-eval_expr-clause-values g t c =

@@ -7,6 +7,10 @@ use Rattle.wf_template.proofs.ChainLemmas.{key_count}
 use Rattle.wf_look.specs.Args.{args_tree}
 use Rattle.wf_eval_expr.specs.Seen.{chained}
 use Rattle.wf_functions.specs.Collected.{nothing, with_item}
+use Rattle.wf_folds.specs.Paired.{nothing_paired, with_value}
+use Rattle.wf_folds.specs.PairedSeen.{paired_seen}
+use Rattle.wf_folds.specs.United.{nothing_united, with_argument}
+use Rattle.wf_folds.specs.UnitedSeen.{united_seen}
 use Rattle.wf_eval_expr.specs.Folded.{folded}
 use Rattle.wf_eval_expr.specs.MeasuredRuns.{measured}
 use Rattle.wf_look.specs.Outcomes.{all_after}
@@ -57,6 +61,28 @@ invariant-eval_collected-loop-arg g l = record {
   held : g.L.Look.held l.look ≡ g.L.Look.held l.initial.look;
 }
 
+-- what the arguments that are left make with what is kept so far is the whole
+abbrev pub invariant-eval_paired-loop-arg : goal.invariant-eval_paired-loop-arg
+invariant-eval_paired-loop-arg g l = record {
+  so_far :
+      folded with_value (runs (g.L.Look.told l.initial.look) (args_tree (drop l.arg-index l.args))) (paired_seen l.paired)
+      (g.L.Look.drawn l.look)
+      ≡ folded with_value (runs (g.L.Look.told l.initial.look) (args_tree l.args)) (nothing_paired l.fn.function)
+      (g.L.Look.drawn l.initial.look);
+  same : g.L.Look.told l.look ≡ g.L.Look.told l.initial.look;
+  held : g.L.Look.held l.look ≡ g.L.Look.held l.initial.look;
+}
+
+abbrev pub invariant-eval_united-loop-arg : goal.invariant-eval_united-loop-arg
+invariant-eval_united-loop-arg g l = record {
+  so_far :
+      folded with_argument (runs (g.L.Look.told l.initial.look) (args_tree (drop l.arg-index l.args))) (united_seen l.united)
+      (g.L.Look.drawn l.look)
+      ≡ folded with_argument (runs (g.L.Look.told l.initial.look) (args_tree l.args)) nothing_united (g.L.Look.drawn l.initial.look);
+  same : g.L.Look.told l.look ≡ g.L.Look.told l.initial.look;
+  held : g.L.Look.held l.look ≡ g.L.Look.held l.initial.look;
+}
+
 abbrev pub invariant-eval_early-loop-arg : goal.invariant-eval_early-loop-arg
 invariant-eval_early-loop-arg g l = record {
   so_far :
@@ -93,6 +119,12 @@ decreases-eval_joined g l = 8 * exprs_count (args_tree l.args.now) + 1
 
 abbrev pub decreases-eval_collected : goal.decreases-eval_collected
 decreases-eval_collected g l = 8 * exprs_count (args_tree l.args.now) + 1
+
+abbrev pub decreases-eval_paired : goal.decreases-eval_paired
+decreases-eval_paired g l = 8 * exprs_count (args_tree l.args.now) + 1
+
+abbrev pub decreases-eval_united : goal.decreases-eval_united
+decreases-eval_united g l = 8 * exprs_count (args_tree l.args.now) + 1
 
 abbrev pub decreases-eval_if : goal.decreases-eval_if
 decreases-eval_if g l = 8 * exprs_count (args_tree l.args.now) + 1
