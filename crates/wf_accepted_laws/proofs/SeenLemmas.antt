@@ -13,7 +13,8 @@ use Rattle.wf_reading.proofs.PartLemmas.{equal_keys}
 use Rattle.wf_reading.proofs.RunAfterLemmas.{append-first, append-second}
 use Rattle.wf_uses.specs.UsesTree.{UsesTree}
 use Rattle.wf_refs.specs.declared.site.Site.{Site}
-use Rattle.wf_rules.specs.Broken.{broken_of, first_broken, offences, rules_in_order, told}
+use Rattle.wf_rules.specs.Broken.{broken_of, offences, rules_in_order, told}
+use Rattle.wf_rules.specs.First.{first_broken}
 use Rattle.wf_standing.specs.Inside.{is_test}
 use Rattle.wf_rules.specs.Rules.{action_breaks, breaks_at, breaks_if, breaks_itself, is_found_unseen, is_unseen}
 use Rattle.wf_rules.specs.Rules.{names_unseen}
@@ -107,8 +108,8 @@ none-mapped : {X Y : Type 0} (f : X → Y) (o : Option X) → option_map f o ≡
 none-mapped f None is = refl
 none-mapped f (Some x) is = absurd (cc)
 
-pub none-first_broken : (d : DefTree) → broken_of d ≡ None → first_broken d rules_in_order ≡ None
-none-first_broken d none = none-mapped _ (first_broken d rules_in_order) none
+pub none-first_broken : (d : DefTree) → broken_of d ≡ None → first_broken (offences d) rules_in_order ≡ None
+none-first_broken d none = none-mapped _ (first_broken (offences d) rules_in_order) none
 
 -- ---- a rule that an action doesn't break is broken at none of its sites
 

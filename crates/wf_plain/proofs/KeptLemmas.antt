@@ -7,7 +7,8 @@ use Rattle.wf_json.specs.Pointer.{least}
 use Rattle.wf_def.specs.ActionTree.{ActionTree, action, action_pointer, KindTree, compose, ActionTrees, no_actions, action_then, actions_in}
 use Rattle.wf_def.specs.DefTree.{DefTree}
 use Rattle.wf_def.specs.AllActions.{all_actions, kind_actions}
-use Rattle.wf_rules.specs.Broken.{broken_of, first_broken, offences, or_later, rules_in_order}
+use Rattle.wf_rules.specs.Broken.{broken_of, offences, rules_in_order}
+use Rattle.wf_rules.specs.First.{first_broken, or_later}
 use Rattle.wf_rules.specs.declared.rule.Rule.{Rule}
 use Rattle.wf_plain.specs.Unbuilt.{is_built, is_compose, is_run, not_yet, pointers}
 use Rattle.wf_plain.specs.declared.unbuilt.Purpose.{Purpose}
@@ -28,7 +29,7 @@ first-absent rule (Some p) later is = absurd (cc)
 pub references-kept : NoneIsLeast → (d : DefTree) → broken_of d ≡ None → offences d Rule.References ≡ []
 references-kept none d is =
     none (offences d Rule.References) (first-absent Rule.References (least (offences d Rule.References)) _
-    (map-absent _ (first_broken d rules_in_order) is))
+    (map-absent _ (first_broken (offences d) rules_in_order) is))
 
 -- ---- all actions are a Compose
 

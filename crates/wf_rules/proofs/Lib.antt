@@ -1,4 +1,3 @@
-mod FaultLemmas
 mod ToldLemmas
 mod WorkedSeveral
 mod RowWords

@@ -1,6 +1,7 @@
 -- Which rule on what it names a definition breaks first, and where.
-use Rattle.std.specs.Prelude.{◌≡◌, ℕ, suc, List, [], ◌∷◌, ◌++◌, map, Bool, cond, codes, Option, Some, None, option_map, ◌⊎◌}
-use Rattle.wf_json.specs.Pointer.{least, IsLeast, member_step}
+use Rattle.std.specs.Prelude.{ℕ, suc, List, [], ◌∷◌, ◌++◌, map, Bool, cond, codes, Option, option_map}
+use Rattle.wf_first.specs.First.{first_broken}
+use Rattle.wf_json.specs.Pointer.{member_step}
 use Rattle.wf_val.specs.Cut.{cut_u32}
 use Rattle.wf_def.specs.DefTree.{DefTree, ParamTree}
 use Rattle.wf_reading.specs.ReadSeen.{rule_fault}
@@ -32,15 +33,6 @@ offences d rule =
     ++ (told (parameter_breaks d.given rule) parameter_pointer d.parameters
     ++ told_in (codes "/triggers") (trigger_breaks (whole_of d) rule) 0 (map (λ t. t.name) d.triggers)))
 
-abbrev pub or_later : Rule → Option (List ℕ) → Option (Rule × List ℕ) → Option (Rule × List ℕ)
-or_later rule None later = later
-or_later rule (Some p) later = Some (rule, p)
-
--- the first of these rules that is broken, with the least pointer
-abbrev pub first_broken : DefTree → List Rule → Option (Rule × List ℕ)
-first_broken d [] = None
-first_broken d (rule ∷ rules) = or_later rule (least (offences d rule)) (first_broken d rules)
-
 -- The rules that are tried, in the order of their numbers. V13, V15 and V16 aren't tried yet.
 abbrev pub rules_in_order : List Rule
 rules_in_order =
@@ -61,21 +53,4 @@ rule_number Rule.Triggers = 21
 
 -- the first rule that a definition breaks, as a fault
 abbrev pub broken_of : DefTree → Option RuleFault
-broken_of d = option_map (λ f. rule_fault (rule_number f.0, f.1)) (first_broken d rules_in_order)
-
--- ---- in words of its own
-
--- no rule before this one is broken
-abbrev pub HoldBefore : DefTree → Rule → List Rule → Type 0
-HoldBefore d rule [] = ⊥
-HoldBefore d rule (r ∷ rules) = (r ≡ rule) ⊎ ((offences d r ≡ []) × HoldBefore d rule rules)
-
--- all rules before this one hold, and the pointer is the least of those that break it
-pub record IsFirstBroken (d : DefTree) (rule : Rule) (pointer : List ℕ) : Type 0 where
-  pub before : HoldBefore d rule rules_in_order
-  pub least : IsLeast (offences d rule) pointer
-
--- all rules hold
-abbrev pub Hold : DefTree → List Rule → Type 0
-Hold d [] = Unit {0}
-Hold d (r ∷ rules) = (offences d r ≡ []) × Hold d rules
+broken_of d = option_map (λ f. rule_fault (rule_number f.0, f.1)) (first_broken (offences d) rules_in_order)

@@ -1,3 +1,4 @@
+pub use Rattle.wf_first.specs.First
 pub mod Rules
 pub mod Broken
 pub mod Wrong

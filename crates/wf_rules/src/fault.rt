@@ -1,10 +1,11 @@
 //! Which rule a definition breaks first, and where.
 ghost use Rattle.std.specs.Prelude.{◌≡◌, ◌++◌, ℕ, List, [], Some, None, IfOk, codes, cond, map, option_map, string_bytes};
 ghost use Rattle.wf_def.specs.DefSeen.{output_tree, param_tree, trigger_tree};
+ghost use Rattle.wf_first.specs.First.{first_broken};
 ghost use Rattle.wf_json.specs.Pointer.{least, lesser, member_step};
 ghost use Rattle.wf_order.specs.OrderSeen.{order_tree};
 ghost use Rattle.wf_reading.specs.ReadSeen.{def_tree};
-ghost use Rattle.wf_rules.specs.Broken.{first_broken, offences, parameter_pointer, rules_in_order, told, told_in};
+ghost use Rattle.wf_rules.specs.Broken.{offences, parameter_pointer, rules_in_order, told, told_in};
 ghost use Rattle.wf_standing.specs.KnownSeen.{whole_seen};
 ghost use Rattle.wf_rules.specs.Rules.{action_breaks, output_breaks, parameter_breaks, trigger_breaks};
 ghost use Rattle.wf_standing.specs.Seen.{standing_tree};
@@ -196,7 +197,7 @@ fn first_among(
 ) -> Result<Option<(Rule, Text)>, AllocError>
     requires standings { map standing_tree standings.now ≡ standings_of (def_tree def.now).top }
     requires known { whole_seen known.now ≡ whole_of (def_tree def.now) }
-    ensures { IfOk result (λ fault. fault ≡ first_broken (def_tree def.now) rules_in_order) }
+    ensures { IfOk result (λ fault. fault ≡ first_broken (offences (def_tree def.now)) rules_in_order) }
 {
     for rule in RULES {
         if let Some(pointer) = least_offence(alloc, def, standings, known, rule)? {
@@ -213,7 +214,7 @@ pub(crate) fn first_broken(
     order: &Order,
 ) -> Result<Option<(Rule, Text)>, AllocError>
     requires { order_tree order.now ≡ order_in (def_tree def.now) }
-    ensures { IfOk result (λ fault. fault ≡ first_broken (def_tree def.now) rules_in_order) }
+    ensures { IfOk result (λ fault. fault ≡ first_broken (offences (def_tree def.now)) rules_in_order) }
 {
     let standings = standings_of(alloc, &def.top)?;
     let uses = refs(alloc, def)?;

@@ -2,9 +2,10 @@ use Rattle.std.proofs.Common.{◌≡◌, ◌+◌, ℕ, List, Option, Some, None,
 use Rattle.wf_def.specs.DefTree.{DefTree}
 use Rattle.wf_json.specs.Pointer.{least}
 use Rattle.wf_reading.specs.ReadSeen.{def_tree}
-use Rattle.wf_rules.specs.Broken.{offences, or_later, first_broken, rules_in_order}
+use Rattle.wf_first.specs.First.{or_later, first_broken}
+use Rattle.wf_first.proofs.FirstLemmas.{first_step}
+use Rattle.wf_rules.specs.Broken.{offences, rules_in_order}
 use Rattle.wf_rules.specs.declared.rule.Rule.{Rule}
-use Rattle.wf_rules.proofs.FaultLemmas.{first_step}
 use Rattle.wf_rules.proofs.fault.first_among.Goals as goal
 
 pub returns-in-Some : goal.returns-in-Some
@@ -14,8 +15,8 @@ returns-in-Some c =
     let r : Rule = get_or rules_in_order i Rule.References in
     let there : least (offences d r) ≡ Some c.from_string.result = sym c.in_ok-pointer.ensures
     ∙ ap (option_map string_bytes) c.in-Some.is ∙ ap Some (sym c.from_string.ensures) in
-    sym (ap (λ (o : Option (List ℕ)). or_later r o (first_broken d (drop (i + 1) rules_in_order))) there)
-    ∙ sym (first_step d rules_in_order i Rule.References (omega arith)) ∙ c.loop-rule.invariant
+    sym (ap (λ (o : Option (List ℕ)). or_later r o (first_broken (offences d) (drop (i + 1) rules_in_order))) there)
+    ∙ sym (first_step (offences d) rules_in_order i Rule.References (omega arith)) ∙ c.loop-rule.invariant
 
 pub loop-rule-preserved : goal.loop-rule-preserved
 loop-rule-preserved c =
@@ -23,5 +24,5 @@ loop-rule-preserved c =
     let i = c.loop-rule.rule-index in
     let r : Rule = get_or rules_in_order i Rule.References in
     let none : least (offences d r) ≡ None = sym c.in_ok-pointer.ensures ∙ ap (option_map string_bytes) c.in_default.is in
-    sym (ap (λ (o : Option (List ℕ)). or_later r o (first_broken d (drop (i + 1) rules_in_order))) none)
-    ∙ sym (first_step d rules_in_order i Rule.References (omega arith)) ∙ c.loop-rule.invariant
+    sym (ap (λ (o : Option (List ℕ)). or_later r o (first_broken (offences d) (drop (i + 1) rules_in_order))) none)
+    ∙ sym (first_step (offences d) rules_in_order i Rule.References (omega arith)) ∙ c.loop-rule.invariant
