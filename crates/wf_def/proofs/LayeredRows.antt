@@ -49,13 +49,18 @@ no_graph = refl
 in_a_row : layered (action_then (leaf 7) (one 2)) ≡ layers.add 7 [] layers.Leaf (layers.add 2 [] layers.Leaf layers.done)
 in_a_row = refl
 
-statuses : layered (action_then (action [] 4 [] (waits 0 true false false false ∷ waits 1 false true false false ∷ waits 2 false false true false ∷ waits 3 false false false true ∷ waits 5 true true true true ∷ waits 6 false false false false ∷ []) (compose null) []) no_actions)
-    ≡ layers.add 4 (need 0 (layers.Succeeded ∷ []) ∷ need 1 (layers.Failed ∷ []) ∷ need 2 (layers.Skipped ∷ []) ∷ need 3 (layers.TimedOut ∷ []) ∷ need 5 (layers.Succeeded ∷ layers.Failed ∷ layers.Skipped ∷ layers.TimedOut ∷ []) ∷ need 6 [] ∷ []) layers.Leaf layers.done
+statuses : layered (action_then (action [] 4 [] (waits 0 true false false false ∷ waits 1 false true false false
+    ∷ waits 2 false false true false ∷ waits 3 false false false true
+    ∷ waits 5 true true true true ∷ waits 6 false false false false ∷ []) (compose null) []) no_actions)
+    ≡ layers.add 4 (need 0 (layers.Succeeded ∷ []) ∷ need 1 (layers.Failed ∷ []) ∷ need 2 (layers.Skipped ∷ [])
+    ∷ need 3 (layers.TimedOut ∷ [])
+    ∷ need 5 (layers.Succeeded ∷ layers.Failed ∷ layers.Skipped ∷ layers.TimedOut ∷ []) ∷ need 6 [] ∷ []) layers.Leaf layers.done
 statuses = refl
 
 -- what holds no graph is a leaf
 abbrev leaves : List KindTree
-leaves = compose null ∷ connector null Policy.Never ∷ wait null ∷ response null ∷ terminate null ∷ select null null ∷ query null (plain []) ∷ join null null ∷ parse_json null None
+leaves = compose null ∷ connector null Policy.Never ∷ wait null ∷ response null ∷ terminate null
+    ∷ select null null ∷ query null (plain []) ∷ join null null ∷ parse_json null None
     ∷ initialize [] ∷ set_to [] null ∷ increment [] None ∷ decrement [] (Some null) ∷ append_array [] null ∷ append_string [] null ∷ []
 
 abbrev kinds_of : List KindTree → List layers.Kind
@@ -74,11 +79,13 @@ scopes : layered_kind (scope (one 1)) ≡ layers.Scope (layered_one 1)
 scopes = refl
 
 -- the branch of a condition that holds is the first
-choices : layered_kind (branch always (one 1) (one 2)) ≡ layers.Choice (layers.branch (layered_one 1) (layers.branch (layered_one 2) layers.no_branch))
+choices : layered_kind (branch always (one 1) (one 2))
+    ≡ layers.Choice (layers.branch (layered_one 1) (layers.branch (layered_one 2) layers.no_branch))
 choices = refl
 
 -- the default comes last, and is an empty graph where there is none
-cases : layered_kind (switch (plain []) (case_then (codes "a") (value.text []) (one 3) (case_then (codes "b") (value.text []) (one 1) no_cases)))
+cases : layered_kind (switch (plain []) (case_then (codes "a") (value.text []) (one 3)
+    (case_then (codes "b") (value.text []) (one 1) no_cases)))
     ≡ layers.Choice (layers.branch (layered_one 3) (layers.branch (layered_one 1) (layers.branch layers.done layers.no_branch)))
 cases = refl
 
@@ -104,10 +111,13 @@ until_count = refl
 
 -- graphs in graphs
 abbrev deep : ActionTrees
-deep = action_trees (named "S" 3 (scope (action_trees (named "I" 1 (branch always (action_then (named "Y" 5 (compose null)) no_actions) (action_then (named "N" 2 (wait null)) no_actions)) ∷ [])))
+deep = action_trees (named "S" 3 (scope (action_trees (named "I" 1
+    (branch always (action_then (named "Y" 5 (compose null)) no_actions) (action_then (named "N" 2 (wait null)) no_actions)) ∷ [])))
     ∷ named "T" 4 (foreach null 1 (action_then (named "A" 0 (compose null)) no_actions)) ∷ [])
 
-in_depth : layered deep ≡ layers.add 3 [] (layers.Scope (layers.add 1 [] (layers.Choice (layers.branch (layered_one 5) (layers.branch (layered_one 2) layers.no_branch))) layers.done))
+in_depth : layered deep ≡ layers.add 3 []
+    (layers.Scope (layers.add 1 []
+    (layers.Choice (layers.branch (layered_one 5) (layers.branch (layered_one 2) layers.no_branch))) layers.done))
     (layers.add 4 [] (layers.Foreach layers.InTurn (layered_one 0)) layers.done)
 in_depth = refl
 

@@ -1,2 +1,3 @@
 pub mod LayeredRows
 pub mod SizeLemmas
+mod SortRows

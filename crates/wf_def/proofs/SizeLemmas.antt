@@ -23,7 +23,11 @@ pub action-falls : (xs : List Action) (i : ℕ) (d : Action) → i < length xs
     → action_size (action_tree (get_or xs i d)) < graph_size (action_trees (map action_tree xs))
 action-falls [] i d within = absurd (omega arith)
 action-falls (a ∷ as') zero d within = omega (arith, size-then (action_tree a) (action_trees (map action_tree as')))
-action-falls (a ∷ as') (suc i) d within = omega (arith, size-then (action_tree a) (action_trees (map action_tree as')), action-falls as' i d (omega arith))
+action-falls (a ∷ as') (suc i) d within = omega (
+  arith,
+  size-then (action_tree a) (action_trees (map action_tree as')),
+  action-falls as' i d (omega arith),
+)
 
 pub case-falls : (cs : List Case) (i : ℕ) (d : Case) → i < length cs
     → graph_size (case_tree (get_or cs i d)).1.1 < cases_size (case_trees (map case_tree cs))

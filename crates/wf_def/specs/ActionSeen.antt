@@ -58,16 +58,20 @@ abbrev pub graph_step : Graph-F KindTree ActionTree (List ActionTree) CaseTree (
 graph_step g = action_trees g.actions
 
 abbrev pub action_tree : Action → ActionTree
-action_tree = fold-Action KindTree ActionTree (List ActionTree) CaseTree (List CaseTree) ActionTrees kind_step action_step actions_step case_step cases_step graph_step
+action_tree = fold-Action KindTree ActionTree (List ActionTree) CaseTree (List CaseTree) ActionTrees
+    kind_step action_step actions_step case_step cases_step graph_step
 
 abbrev pub kind_tree : Kind → KindTree
-kind_tree = fold-Kind KindTree ActionTree (List ActionTree) CaseTree (List CaseTree) ActionTrees kind_step action_step actions_step case_step cases_step graph_step
+kind_tree = fold-Kind KindTree ActionTree (List ActionTree) CaseTree (List CaseTree) ActionTrees
+    kind_step action_step actions_step case_step cases_step graph_step
 
 abbrev pub graph_tree : Graph → ActionTrees
-graph_tree = fold-Graph KindTree ActionTree (List ActionTree) CaseTree (List CaseTree) ActionTrees kind_step action_step actions_step case_step cases_step graph_step
+graph_tree = fold-Graph KindTree ActionTree (List ActionTree) CaseTree (List CaseTree) ActionTrees
+    kind_step action_step actions_step case_step cases_step graph_step
 
 abbrev pub case_tree : Case → CaseTree
-case_tree = fold-Case KindTree ActionTree (List ActionTree) CaseTree (List CaseTree) ActionTrees kind_step action_step actions_step case_step cases_step graph_step
+case_tree = fold-Case KindTree ActionTree (List ActionTree) CaseTree (List CaseTree) ActionTrees
+    kind_step action_step actions_step case_step cases_step graph_step
 
 -- the plurals, as lists
 abbrev pub actions_seen : Actions → List ActionTree

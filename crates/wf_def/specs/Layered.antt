@@ -12,7 +12,8 @@ where_listed false s = []
 
 -- the statuses that are listed
 abbrev pub listed_of : Statuses → List layers.Status
-listed_of s = where_listed s.succeeded layers.Succeeded ++ (where_listed s.failed layers.Failed ++ (where_listed s.skipped layers.Skipped ++ where_listed s.timed_out layers.TimedOut))
+listed_of s = where_listed s.succeeded layers.Succeeded ++ (where_listed s.failed layers.Failed
+    ++ (where_listed s.skipped layers.Skipped ++ where_listed s.timed_out layers.TimedOut))
 
 -- an entry of `runAfter`
 abbrev pub need_of : After → layers.Need
@@ -25,7 +26,8 @@ pace repetitions = if repetitions == 1 then layers.InTurn else layers.AtMost rep
 abbrev mutual
   pub layered : ActionTrees → layers.Graph
   layered no_actions = layers.done
-  layered (action_then (action name number pointer after kind tracked) rest) = layers.add number (map need_of after) (layered_kind kind) (layered rest)
+  layered (action_then (action name number pointer after kind tracked) rest) =
+      layers.add number (map need_of after) (layered_kind kind) (layered rest)
 
   pub layered_kind : KindTree → layers.Kind
   layered_kind (compose inputs) = layers.Leaf

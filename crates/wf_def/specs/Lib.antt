@@ -5,3 +5,4 @@ pub mod DefTree
 pub mod DefSeen
 pub mod Layered
 pub mod Names
+pub mod Sorts

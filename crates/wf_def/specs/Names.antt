@@ -80,7 +80,8 @@ abbrev mutual
   find_cases k (case_then name value graph rest) = first_of (find_in k graph) (find_cases k rest)
 
 abbrev pub find_at : List ℕ → ActionTree → Option ActionTree
-find_at k (action name number pointer after kind tracked) = if bytes_eq k name then Some (action name number pointer after kind tracked) else find_inside k kind
+find_at k (action name number pointer after kind tracked) =
+    if bytes_eq k name then Some (action name number pointer after kind tracked) else find_inside k kind
 
 -- how large a graph is: more than each part of it, so a recursion into graphs ends
 abbrev mutual

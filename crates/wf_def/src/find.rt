@@ -82,7 +82,8 @@ impl Cases {
 }
 
 fn first_of<'a>(one: Option<&'a Action>, other: Option<&'a Action>) -> Option<&'a Action>
-    ensures { option_map (λ a. action_tree a.now) result ≡ first_of (option_map (λ a. action_tree a.now) one.entry) (option_map (λ a. action_tree a.now) other.entry) }
+    ensures { option_map (λ a. action_tree a.now) result
+        ≡ first_of (option_map (λ a. action_tree a.now) one.entry) (option_map (λ a. action_tree a.now) other.entry) }
 {
     match one {
         Some(action) => Some(action),

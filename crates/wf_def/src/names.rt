@@ -67,7 +67,8 @@ fn in_kind<'a>(found: Vec<&'a Name>, kind: &'a Kind) -> Result<Vec<&'a Name>, Al
 
 #[cycle(collect)]
 fn in_cases<'a>(found: Vec<&'a Name>, cases: &'a Cases) -> Result<Vec<&'a Name>, AllocError>
-    ensures { IfOk result (λ all. map (λ n. n.now) all.items ≡ map (λ n. n.now) found.entry.items ++ cases_names (case_trees (cases_seen cases.now))) }
+    ensures { IfOk result (λ all. map (λ n. n.now) all.items
+        ≡ map (λ n. n.now) found.entry.items ++ cases_names (case_trees (cases_seen cases.now))) }
 {
     let mut all = found;
     for case in cases.as_slice() {

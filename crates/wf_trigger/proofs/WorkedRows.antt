@@ -9,7 +9,8 @@ use Rattle.wf_def.specs.declared.sort.Sort.{Sort}
 use Rattle.wf_template.specs.ExprTree.{ExprTree, literal, call, expr_trees}
 use Rattle.wf_template.specs.TemplateTree.{TemplateTree, plain, whole}
 use Rattle.wf_trigger.specs.Choosing.{chosen}
-use Rattle.wf_trigger.specs.Parameters.{is_of, parameters_of}
+use Rattle.wf_def.specs.Sorts.{has_sort}
+use Rattle.wf_trigger.specs.Parameters.{parameters_of}
 use Rattle.wf_trigger.specs.Runs.{runs_of, started, value_in}
 use Rattle.wf_trigger.specs.Splitting.{items_in}
 use Rattle.wf_trigger.specs.Starts.{StartTree}
@@ -274,7 +275,7 @@ value-run_name = refl
 abbrev one_of_each_kind : List ValueTree
 one_of_each_kind = null ∷ boolean false ∷ n 1 ∷ text (codes "true") ∷ list (trees (n 1 ∷ [])) ∷ of ((codes "a", n 1) ∷ []) ∷ []
 
-of_type : map (λ sort. filter (is_of sort) one_of_each_kind) (Sort.Bool ∷ Sort.Int ∷ Sort.Text ∷ Sort.List ∷ Sort.Obj ∷ []) ≡
+of_type : map (λ sort. filter (has_sort sort) one_of_each_kind) (Sort.Bool ∷ Sort.Int ∷ Sort.Text ∷ Sort.List ∷ Sort.Obj ∷ []) ≡
     (boolean false ∷ []) ∷ (n 1 ∷ []) ∷ (text (codes "true") ∷ []) ∷ (list (trees (n 1 ∷ [])) ∷ []) ∷ (of ((codes "a", n 1) ∷ []) ∷ []) ∷ []
 of_type = refl
 

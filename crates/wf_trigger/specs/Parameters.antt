@@ -1,15 +1,15 @@
 -- The values of the parameters that a definition declares, or why one has none that it may have.
-use Rattle.std.specs.Prelude.{ℕ, List, [], ◌∷◌, Bool, true, false, not, if◌then◌else◌, Option, Some, None, is_none, Result, Ok, Err}
+use Rattle.std.specs.Prelude.{ℕ, List, [], ◌∷◌, Bool, false, not, if◌then◌else◌, Option, Some, None, is_none, Result, Ok, Err}
 use Rattle.std.specs.List.{list_any}
 use Rattle.std.specs.Ordering.{is_eq}
 use Rattle.wf_def.specs.DefTree.{ParamTree}
-use Rattle.wf_def.specs.declared.sort.Sort.{Sort}
+use Rattle.wf_def.specs.Sorts.{has_sort}
 use Rattle.wf_trigger.specs.declared.fault.TriggerFault.{TriggerFault}
 use Rattle.wf_trigger.specs.declared.parameters.Want.{Want}
 use Rattle.wf_val.specs.Get.{name_of, value_of}
 use Rattle.wf_val.specs.NameOrder.{put_named}
 use Rattle.wf_val.specs.ValueOrder.{order}
-use Rattle.wf_val.specs.ValueTree.{ValueTree, boolean, number, text, list, object, Member}
+use Rattle.wf_val.specs.ValueTree.{ValueTree, Member}
 
 abbrev pub first_of : Option ValueTree → Option ValueTree → Option ValueTree
 first_of None other = other
@@ -18,15 +18,6 @@ first_of (Some v) other = Some v
 -- the value that the inputs hand in, else the one that the wrapper round the definition gives, else the default
 abbrev pub given_value : List Member → List Member → ParamTree → Option ValueTree
 given_value handed given p = first_of (value_of p.name handed) (first_of (value_of p.name given) p.default)
-
--- the types of parameters
-abbrev pub is_of : Sort → ValueTree → Bool
-is_of Sort.Bool (boolean b) = true
-is_of Sort.Int (number n) = true
-is_of Sort.Text (text s) = true
-is_of Sort.List (list ts) = true
-is_of Sort.Obj (object ms) = true
-is_of sort t = false
 
 -- no `allowedValues` allow all, and an empty list none
 abbrev pub is_barred : Option (List ValueTree) → ValueTree → Bool
@@ -37,7 +28,7 @@ is_barred (Some vs) v = not (list_any (λ a. is_eq (order v a)) vs)
 abbrev pub fails : Want → ParamTree → Option ValueTree → Bool
 fails Want.Value p v = is_none v
 fails Want.Type p None = false
-fails Want.Type p (Some v) = not (is_of p.sort v)
+fails Want.Type p (Some v) = not (has_sort p.sort v)
 fails Want.Allowed p None = false
 fails Want.Allowed p (Some v) = is_barred p.allowed v
 

@@ -3,14 +3,14 @@ ghost use Rattle.std.specs.List.{list_any};
 ghost use Rattle.std.specs.Ordering.{is_eq};
 ghost use Rattle.std.specs.Prelude.{◌≡◌, ◌≢◌, IfOk, IfErr, Ok, Err, map, option_map};
 ghost use Rattle.wf_def.specs.DefSeen.{param_tree};
-ghost use Rattle.wf_trigger.specs.Parameters.{fails, first_failing, given_value, is_barred, is_of, parameters_of, values_of, with_value};
+ghost use Rattle.wf_trigger.specs.Parameters.{fails, first_failing, given_value, is_barred, parameters_of, values_of, with_value};
 ghost use Rattle.wf_trigger.specs.declared.fault.TriggerFault.TheVariants.{Memory};
 ghost use Rattle.wf_val.specs.Seen.{tree};
 ghost use Rattle.wf_val.specs.ValueOrder.{order};
 
 use crate::fault::TriggerFault;
 use std::alloc::{AllocError, Global};
-use wf_def::{Param, Sort};
+use wf_def::Param;
 use wf_val::{Fields, Name, Val, Vals};
 
 /// What is asked of a parameter's value.
@@ -75,22 +75,9 @@ impl Want {
         match (self, value) {
             (Want::Value, value) => value.is_none(),
             (_, None) => false,
-            (Want::Type, Some(value)) => !is_of(param.sort, value),
+            (Want::Type, Some(value)) => !param.sort.has(value),
             (Want::Allowed, Some(value)) => is_barred(param.allowed.as_ref(), value),
         }
-    }
-}
-
-fn is_of(sort: Sort, value: &Val) -> bool
-    ensures { result ≡ is_of sort (tree value.now) }
-{
-    match (sort, value) {
-        (Sort::Bool, Val::Bool(_)) => true,
-        (Sort::Int, Val::Int(_)) => true,
-        (Sort::Text, Val::Text(_)) => true,
-        (Sort::List, Val::List(_)) => true,
-        (Sort::Obj, Val::Obj(_)) => true,
-        _ => false,
     }
 }
 

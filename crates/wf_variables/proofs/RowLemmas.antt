@@ -20,7 +20,8 @@ use Rattle.wf_data.specs.Made.{MadeTree, fitting, goes_on, one_member}
 use Rattle.wf_variables.specs.Initials.{ItemsTree, body_of, given_item, initial_by, initial_value, initials_after, made_initialize}
 use Rattle.wf_variables.specs.Initials.{made_of_items, pushed}
 use Rattle.wf_variables.specs.Rows.{AreItems, GivesAll, GivesOne, KeepsType}
-use Rattle.wf_variables.specs.Sorts.{are_alike, empty_of, has_sort, of_sort}
+use Rattle.wf_variables.specs.Sorts.{are_alike, empty_of, of_sort}
+use Rattle.wf_def.specs.Sorts.{has_sort}
 use Rattle.wf_variables.specs.Writing as writing
 use Rattle.wf_variables.specs.Writing.{Change, moved, written}
 

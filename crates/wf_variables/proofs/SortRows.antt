@@ -4,10 +4,11 @@ use Rattle.std.specs.Prelude.{codes}
 use Rattle.wf_val.specs.ValueTree.{ValueTree, null, boolean, text}
 use Rattle.wf_val.specs.declared.fault.EvalFault.{EvalFault}
 use Rattle.wf_val.specs.declared.function.Fun.{Fun}
+use Rattle.wf_def.specs.Sorts.{has_sort}
 use Rattle.wf_def.specs.declared.sort.Sort.{Sort}
 use Rattle.wf_data.specs.Made.{one_member}
 use Rattle.wf_data.proofs.RowParts.{plus, least, items, fields}
-use Rattle.wf_variables.specs.Sorts.{are_alike, empty_of, has_sort, of_sort, sort_name}
+use Rattle.wf_variables.specs.Sorts.{are_alike, empty_of, of_sort, sort_name}
 
 abbrev sorts : List Sort
 sorts = Sort.Bool ∷ Sort.Int ∷ Sort.Text ∷ Sort.List ∷ Sort.Obj ∷ []

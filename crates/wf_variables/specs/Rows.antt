@@ -7,7 +7,7 @@ use Rattle.wf_look.specs.Outcomes.{Outcome}
 use Rattle.wf_look.specs.Told.{Told}
 use Rattle.wf_data.specs.Made.{MadeTree, one_member}
 use Rattle.wf_variables.specs.Initials.{body_of, given_item}
-use Rattle.wf_variables.specs.Sorts.{has_sort}
+use Rattle.wf_def.specs.Sorts.{has_sort}
 use Rattle.wf_variables.specs.Writing.{Change, changed}
 
 -- a variable of this name is given a value of this type

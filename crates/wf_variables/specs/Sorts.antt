@@ -1,18 +1,10 @@
--- THE TYPES OF VARIABLES: which values are of a type, its name, and the value with which a variable of it begins.
-use Rattle.std.specs.Prelude.{ℕ, pos, Bool, true, false, List, [], Ok, Err, codes, if◌then◌else◌}
+-- THE TYPES OF VARIABLES: the values of one type, its name, and the value with which a variable of it begins.
+use Rattle.std.specs.Prelude.{ℕ, pos, Bool, false, List, [], Ok, Err, codes, if◌then◌else◌}
 use Rattle.wf_val.specs.Arguments.{Answer, wrong_type}
 use Rattle.wf_val.specs.ValueTree.{ValueTree, null, boolean, number, text, list, object, no_values, no_members}
 use Rattle.wf_val.specs.declared.function.Fun.{Fun}
+use Rattle.wf_def.specs.Sorts.{has_sort}
 use Rattle.wf_def.specs.declared.sort.Sort.{Sort}
-
--- null is of no type
-abbrev pub has_sort : Sort → ValueTree → Bool
-has_sort Sort.Bool (boolean b) = true
-has_sort Sort.Int (number n) = true
-has_sort Sort.Text (text s) = true
-has_sort Sort.List (list ts) = true
-has_sort Sort.Obj (object ms) = true
-has_sort s t = false
 
 -- the value, where it is of the type; else a fault
 abbrev pub of_sort : Sort → ValueTree → Answer

@@ -2,31 +2,17 @@
 ghost use Rattle.std.specs.Prelude.{◌≡◌};
 ghost use Rattle.wf_val.specs.Arguments.{seen};
 ghost use Rattle.wf_val.specs.Seen.{tree};
-ghost use Rattle.wf_variables.specs.Sorts.{are_alike, empty_of, has_sort, of_sort, sort_name};
+ghost use Rattle.wf_variables.specs.Sorts.{are_alike, empty_of, of_sort, sort_name};
 
 use std::alloc::Global;
 use wf_def::Sort;
 use wf_val::{EvalFault, Fields, Fun, Text, Val, Vals, wrong_type};
 
-/// Whether a value is of a type.
-pub(crate) fn has_sort(sort: Sort, value: &Val) -> bool
-    ensures { result ≡ has_sort sort (tree value.now) }
-{
-    match (sort, value) {
-        (Sort::Bool, Val::Bool(_)) => true,
-        (Sort::Int, Val::Int(_)) => true,
-        (Sort::Text, Val::Text(_)) => true,
-        (Sort::List, Val::List(_)) => true,
-        (Sort::Obj, Val::Obj(_)) => true,
-        _ => false,
-    }
-}
-
 /// The value, where it is of the type; else the fault of a variable.
 pub(crate) fn of_sort(sort: Sort, value: Val) -> Result<Val, EvalFault>
     ensures { seen result ≡ of_sort sort (tree value) }
 {
-    if has_sort(sort, &value) {
+    if sort.has(&value) {
         Ok(value)
     } else {
         Err(wrong_type(Fun::Variable, 0))
@@ -39,11 +25,11 @@ pub(crate) fn are_alike(one: &Val, other: &Val) -> bool
 {
     match one {
         Val::Null => false,
-        Val::Bool(_) => has_sort(Sort::Bool, other),
-        Val::Int(_) => has_sort(Sort::Int, other),
-        Val::Text(_) => has_sort(Sort::Text, other),
-        Val::List(_) => has_sort(Sort::List, other),
-        Val::Obj(_) => has_sort(Sort::Obj, other),
+        Val::Bool(_) => Sort::Bool.has(other),
+        Val::Int(_) => Sort::Int.has(other),
+        Val::Text(_) => Sort::Text.has(other),
+        Val::List(_) => Sort::List.has(other),
+        Val::Obj(_) => Sort::Obj.has(other),
     }
 }
 

@@ -18,7 +18,9 @@ decreases-Kind::find l = kind_size (kind_tree l.self.now)
 
 -- what is found in the rest is what is found in all
 abbrev pub invariant-Cases::find-loop-case : goal.invariant-Cases::find-loop-case
-invariant-Cases::find-loop-case l = find_cases l.name (case_trees (map case_tree (drop l.case-index l.case-items))) ≡ find_cases l.name (case_trees (cases_seen l.self))
+invariant-Cases::find-loop-case l = find_cases l.name (case_trees (map case_tree (drop l.case-index l.case-items)))
+    ≡ find_cases l.name (case_trees (cases_seen l.self))
 
 abbrev pub invariant-Graph::find-loop-action : goal.invariant-Graph::find-loop-action
-invariant-Graph::find-loop-action l = find_in l.name (action_trees (map action_tree (drop l.action-index l.action-items))) ≡ find_in l.name (graph_tree l.self)
+invariant-Graph::find-loop-action l = find_in l.name (action_trees (map action_tree (drop l.action-index l.action-items)))
+    ≡ find_in l.name (graph_tree l.self)
