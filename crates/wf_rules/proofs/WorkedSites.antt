@@ -11,7 +11,7 @@ use Rattle.wf_def.specs.DefTree.{DefTree}
 use Rattle.wf_def.specs.declared.sort.Sort.{Sort}
 use Rattle.wf_reading.specs.declared.definition.RuleFault.{RuleFault}
 use Rattle.wf_rules.specs.Broken.{broken_of}
-use Rattle.wf_rules.specs.Rules.{has_sort}
+use Rattle.wf_def.specs.Sorts.{has_sort}
 use Rattle.wf_rules.proofs.RowWords.{after, asked, asks, at, at_inputs, at_items, at_test, composes, each, each_is, everywhere}
 use Rattle.wf_rules.proofs.RowWords.{fault, in_scope, in_tracked, of, of_kinds, one, some, told_of, truth, turns, yes}
 

@@ -6,10 +6,11 @@
 use Rattle.std.specs.Prelude.{ℕ, List, [], ◌∷◌, Bool, true, false, not, ◌&&◌, ◌||◌, nat_eq, nat_lt, Option, Some, None}
 use Rattle.std.specs.Prelude.{if◌then◌else◌}
 use Rattle.std.specs.List.{list_any}
-use Rattle.wf_val.specs.ValueTree.{ValueTree, boolean, number, text, list, object, Member, fits}
+use Rattle.wf_val.specs.ValueTree.{ValueTree, Member, fits}
 use Rattle.wf_val.specs.Get.{value_of}
 use Rattle.wf_def.specs.ActionTree.{ActionTree}
 use Rattle.wf_def.specs.DefTree.{ParamTree}
+use Rattle.wf_def.specs.Sorts.{has_sort}
 use Rattle.wf_def.specs.declared.sort.Sort.{Sort}
 use Rattle.wf_uses.specs.UsesTree.{UsesTree}
 use Rattle.wf_refs.specs.declared.site.Site.{Site}
@@ -37,15 +38,6 @@ module _ (whole : Whole) where
 
   abbrev pub names_undeclared : UsesTree → Bool
   names_undeclared u = list_any (λ k. not (whole.declares k)) u.parameters
-
--- the types of parameters
-abbrev pub has_sort : Sort → ValueTree → Bool
-has_sort Sort.Bool (boolean b) = true
-has_sort Sort.Int (number n) = true
-has_sort Sort.Text (text s) = true
-has_sort Sort.List (list ts) = true
-has_sort Sort.Obj (object ms) = true
-has_sort sort t = false
 
 -- a value that a definition writes down for a parameter is of its type, and fits
 abbrev pub is_misfit : Sort → ValueTree → Bool

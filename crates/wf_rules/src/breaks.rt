@@ -5,7 +5,7 @@ ghost use Rattle.wf_def.specs.DefSeen.{param_tree};
 ghost use Rattle.wf_uses.specs.Seen.{uses_seen};
 ghost use Rattle.wf_standing.specs.KnownSeen.{whole_seen};
 ghost use Rattle.wf_rules.specs.Rules.{action_breaks, asks_elsewhere, asks_leaf, asks_too_soon, breaks_at, breaks_if, breaks_itself};
-ghost use Rattle.wf_rules.specs.Rules.{breaks_with, comes_early, ends_in_loop, has_misfit, has_sort, is_any, is_misdeclared, is_misfit};
+ghost use Rattle.wf_rules.specs.Rules.{breaks_with, comes_early, ends_in_loop, has_misfit, is_any, is_misdeclared, is_misfit};
 ghost use Rattle.wf_rules.specs.Rules.{is_misfit_if, is_too_big_if, leaves_loops, misuses, names_outer, names_undeclared, names_unseen};
 ghost use Rattle.wf_rules.specs.Rules.{output_breaks, parameter_breaks, trigger_breaks, trigger_breaks_if, trigger_breaks_with};
 ghost use Rattle.wf_standing.specs.Seen.{standing_tree};
@@ -231,23 +231,10 @@ pub(crate) fn trigger_breaks(known: &Known<'_, '_>, rule: Rule, place: u32) -> b
     }
 }
 
-fn has_sort(sort: Sort, value: &Val) -> bool
-    ensures { result ≡ has_sort sort (tree value.now) }
-{
-    match (sort, value) {
-        (Sort::Bool, Val::Bool(_)) => true,
-        (Sort::Int, Val::Int(_)) => true,
-        (Sort::Text, Val::Text(_)) => true,
-        (Sort::List, Val::List(_)) => true,
-        (Sort::Obj, Val::Obj(_)) => true,
-        _ => false,
-    }
-}
-
 fn is_misfit(sort: Sort, value: &Val) -> bool
     ensures { result ≡ is_misfit sort (tree value.now) }
 {
-    !(value.fits() && has_sort(sort, value))
+    !(value.fits() && sort.has(value))
 }
 
 fn any_misfit(sort: Sort, values: &[Val]) -> bool
