@@ -1,0 +1,13 @@
+//! Items in the order of their keys, with room for more that is made beforehand.
+//!
+//! Where several lists change together, as those of a state do in one step, a list that wants memory in the middle of it would leave half a
+//! change. So a `Roomy` list parts the two: `make_room` takes the memory, or answers an error with every item as it was, and the edits
+//! behind it can't fail. Its contract sees the items as a plain list in order, by the functions of `wf_lists`, and beside it for how many
+//! more items there is room: `put` asks for room for one, and takes room for one at most; no other edit takes any.
+//!
+//! It isn't a list to be read whole: items are asked for by key or by place. For that, and where an edit may fail, `wf_lists` has `Sorted`.
+#![tactic(auto)]
+
+mod roomy;
+
+pub use roomy::Roomy;
