@@ -1,0 +1,5 @@
+pub mod Reached
+pub mod Counted
+pub mod Event
+pub mod Ready
+pub mod Quiet
