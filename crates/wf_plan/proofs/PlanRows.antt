@@ -1,0 +1,74 @@
+-- Worked rows of a plan. 0 waits for nothing; 1 is an If that waits for it, with 2 and behind it 3 in its first branch, and no action in the
+-- other; 4 is a Foreach that waits for 0 and 1, and 5 is in it.
+use Rattle.std.proofs.Common.{◌≡◌, ℕ, true, false, List, [], ◌∷◌, Some, None, refl}
+use Rattle.wf_layers.specs.Definition as layers
+use Rattle.wf_template.specs.CondTree.{CondTree}
+use Rattle.wf_template.specs.DataTree.{DataTree}
+use Rattle.wf_def.specs.ActionTree.{ActionTree, action, KindTree, initialize, branch, foreach, ActionTrees, no_actions, action_then}
+use Rattle.wf_def.specs.AllActions.{all_actions}
+use Rattle.wf_def.specs.declared.after.After.{After}
+use Rattle.wf_def.specs.declared.after.Statuses.{Statuses}
+use Rattle.wf_plan.specs.Plan as plan
+use Rattle.wf_plan.specs.Plan.{entry_for, followers_of, holder_of, plan_of}
+
+abbrev listed_statuses : Statuses
+listed_statuses = record { succeeded = true; failed = false; skipped = false; timed_out = true }
+
+abbrev after : List ℕ → List After
+after [] = []
+after (n ∷ ns) = record { name = []; number = n; statuses = listed_statuses } ∷ after ns
+
+abbrev one : ℕ → List ℕ → KindTree → ActionTree
+one n ns kind = action [] n [] (after ns) kind []
+
+module _ (test : CondTree) (items : DataTree) where
+  abbrev graph : ActionTrees
+  graph =
+      action_then (one 0 [] (initialize []))
+      (action_then (one 1 (0 ∷ [])
+      (branch test (action_then (one 2 [] (initialize [])) (action_then (one 3 (2 ∷ []) (initialize [])) no_actions)) no_actions))
+      (action_then (one 4 (0 ∷ 1 ∷ []) (foreach items 20 (action_then (one 5 [] (initialize [])) no_actions))) no_actions))
+
+  abbrev all : List ActionTree
+  all = all_actions graph
+
+  abbrev listed : List layers.Status
+  listed = layers.Succeeded ∷ layers.TimedOut ∷ []
+
+  if_has_branches : entry_for all 1
+      ≡ Some (record { after = record { name = 0; listed = listed } ∷ []; shape = plan.choice ((2 ∷ 3 ∷ []) ∷ [] ∷ []) })
+  if_has_branches = refl
+
+  foreach_is_beside : entry_for all 4
+      ≡ Some (record {
+        after = record { name = 0; listed = listed } ∷ record { name = 1; listed = listed } ∷ [];
+        shape = plan.foreach (layers.AtMost 20) (5 ∷ []);
+      })
+  foreach_is_beside = refl
+
+  leaf_has_none : entry_for all 3 ≡ Some (record { after = record { name = 2; listed = listed } ∷ []; shape = plan.leaf })
+  leaf_has_none = refl
+
+  no_action : entry_for all 6 ≡ None
+  no_action = refl
+
+  both_wait : followers_of all 0 ≡ 1 ∷ 4 ∷ []
+  both_wait = refl
+
+  in_its_branch : followers_of all 2 ≡ 3 ∷ []
+  in_its_branch = refl
+
+  none_waits : followers_of all 4 ≡ []
+  none_waits = refl
+
+  at_the_top : holder_of all 4 ≡ None
+  at_the_top = refl
+
+  in_the_if : holder_of all 3 ≡ Some 1
+  in_the_if = refl
+
+  in_the_foreach : holder_of all 5 ≡ Some 4
+  in_the_foreach = refl
+
+  whole : (plan_of all).holders ≡ None ∷ None ∷ Some 1 ∷ Some 1 ∷ None ∷ Some 4 ∷ []
+  whole = refl

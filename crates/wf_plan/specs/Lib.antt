@@ -1,0 +1,4 @@
+pub mod Plan
+pub mod PlanSeen
+pub mod Walk
+pub mod Exact

@@ -1,0 +1,18 @@
+//! A definition by the numbers of its actions: what the event machine goes by.
+//!
+//! A step of the machine asks of an action what it waits for, which actions wait for it, which container holds it, and which graphs it
+//! holds itself. A tree of actions answers none of these at once; a `Plan` does, since it is made by one walk over all actions, and no name
+//! is compared afterwards. Contracts say what each table has by the list of all actions of the definition (`specs/Plan.antt`).
+//!
+//! It says nothing of what an action does, and promises nothing of a graph that wasn't read: where two actions have one number, the first
+//! stands for it.
+#![tactic(auto)]
+
+mod laws;
+mod plan;
+mod shape;
+mod tables;
+
+pub use laws::plans_are_exact;
+pub use plan::{Entry, Plan, Wait};
+pub use shape::Shape;
