@@ -70,5 +70,8 @@ module _ (test : CondTree) (items : DataTree) where
   in_the_foreach : holder_of all 5 ≡ Some 4
   in_the_foreach = refl
 
-  whole : (plan_of all).holders ≡ None ∷ None ∷ Some 1 ∷ Some 1 ∷ None ∷ Some 4 ∷ []
+  top : (plan_of graph).top ≡ 0 ∷ 1 ∷ 4 ∷ []
+  top = refl
+
+  whole : (plan_of graph).holders ≡ None ∷ None ∷ Some 1 ∷ Some 1 ∷ None ∷ Some 4 ∷ []
   whole = refl

@@ -7,9 +7,9 @@ use Rattle.wf_layers.specs.Definition.{Kind, Leaf, Scope, Choice, Foreach, Until
 use Rattle.wf_layers.specs.Machine.{or_else}
 use Rattle.wf_layers.specs.Waiting.{times}
 use Rattle.wf_layers.proofs.Basics.{not_true, when, unless}
-use Rattle.wf_def.specs.ActionTree.{ActionTree, action_after, action_kind, action_number}
-use Rattle.wf_def.specs.AllActions.{has_number}
-use Rattle.wf_def.specs.Layered.{layered_kind, need_of}
+use Rattle.wf_def.specs.ActionTree.{ActionTree, ActionTrees, action_after, action_kind, action_number}
+use Rattle.wf_def.specs.AllActions.{all_actions, has_number}
+use Rattle.wf_def.specs.Layered.{layered, layered_kind, need_of}
 use Rattle.wf_def.specs.declared.after.After.{After}
 use Rattle.wf_plan.specs.Plan.{EntryTree, PlanTree, branch_numbers, entry_for, entry_of, followers_of, holder_of, holds_directly, needs, own_numbers, plan_of, shape_of, tabled}
 use Rattle.wf_plan.specs.PlanSeen.{entries_seen, entry_tree, lists_of}
@@ -237,34 +237,36 @@ held_both table (n ∷ ns) ms b = held_both (take_place table n b) ns ms b
 
 -- ---- the whole plan
 
-abbrev pub plan_with : List (Option EntryTree) → List (List ℕ) → List (Option ℕ) → PlanTree
-plan_with es fs hs = record { entries = es; followers = fs; holders = hs }
-
-pub plan_is : (n : ℕ) (as' : List ActionTree) (es : List (Option EntryTree)) (fs : List (List ℕ)) (hs : List (Option ℕ)) → n ≡ length as'
-    → es ≡ all_entered (replicate n None) as' → fs ≡ all_added (replicate n []) as' → hs ≡ all_held (replicate n None) as'
-    → plan_with es fs hs ≡ plan_of as'
-plan_is n as' es fs hs counted e f h =
-    ap (λ z. plan_with z fs hs)
-    (e ∙ entries_table n as' ∙ ap (λ k. tabled 0 k (entry_for as')) counted)
-    ∙ ap (λ z. plan_with (tabled 0 (length as') (entry_for as')) z hs)
-    (f ∙ followers_table n as' ∙ ap (λ k. tabled 0 k (followers_of as')) counted)
-    ∙ ap (λ z. plan_with (tabled 0 (length as') (entry_for as')) (tabled 0 (length as') (followers_of as')) z)
-    (h ∙ holders_table n as' ∙ ap (λ k. tabled 0 k (holder_of as')) counted)
+abbrev pub plan_with : List ℕ → List (Option EntryTree) → List (List ℕ) → List (Option ℕ) → PlanTree
+plan_with top es fs hs = record { top = top; entries = es; followers = fs; holders = hs }
 
 map_length : {X Y : Type 0} (f : X → Y) (xs : List X) → length (map f xs) ≡ length xs
 map_length f [] = refl
 map_length f (x ∷ xs) = ap suc (map_length f xs)
 
--- from what each table was made of
-pub plan_made : {X : Type 0} (xs one two three : List X) (f : X → ActionTree) (as' : List ActionTree) (es : List (Option EntryTree))
-    (fs : List (List ℕ)) (hs : List (Option ℕ)) → map f xs ≡ as' → one ≡ xs → two ≡ xs → three ≡ xs
+-- a table by what it was made of
+counted : {A X : Type 0} (xs one : List X) (f : X → ActionTree) (as' : List ActionTree) (t : List A) (walk : ℕ → List ActionTree → List A)
+    (g : ℕ → A) → map f xs ≡ as' → one ≡ xs → t ≡ walk (length one) (map f one) → walk (length as') as' ≡ tabled 0 (length as') g
+    → t ≡ tabled 0 (length as') g
+counted xs one f as' t walk g all same made is =
+    made ∙ ap (λ ys. walk (length ys) (map f ys)) same ∙ ap (λ n. walk n (map f xs)) (sym (map_length f xs))
+    ∙ ap (λ bs. walk (length bs) bs) all ∙ is
+
+pub plan_made : {X : Type 0} (xs one two three : List X) (f : X → ActionTree) (graph : ActionTrees) (top : List ℕ)
+    (es : List (Option EntryTree)) (fs : List (List ℕ)) (hs : List (Option ℕ)) → map f xs ≡ all_actions graph
+    → one ≡ xs → two ≡ xs → three ≡ xs → top ≡ own_numbers (layered graph)
     → es ≡ all_entered (replicate (length one) None) (map f one) → fs ≡ all_added (replicate (length two) []) (map f two)
-    → hs ≡ all_held (replicate (length three) None) (map f three) → plan_with es fs hs ≡ plan_of as'
-plan_made xs one two three f as' es fs hs all first second third e a h =
-    plan_is (length xs) as' es fs hs (sym (map_length f xs) ∙ ap length all)
-    (e ∙ ap (λ ys. all_entered (replicate (length ys) None) (map f ys)) first ∙ ap (all_entered (replicate (length xs) None)) all)
-    (a ∙ ap (λ ys. all_added (replicate (length ys) []) (map f ys)) second ∙ ap (all_added (replicate (length xs) [])) all)
-    (h ∙ ap (λ ys. all_held (replicate (length ys) None) (map f ys)) third ∙ ap (all_held (replicate (length xs) None)) all)
+    → hs ≡ all_held (replicate (length three) None) (map f three)
+    → plan_with top es fs hs ≡ plan_of graph
+plan_made xs one two three f graph top es fs hs all first second third own e a h =
+    let as' = all_actions graph in
+    let n = length as' in
+    let entries = counted xs one f as' es (λ k bs. all_entered (replicate k None) bs) (entry_for as') all first e (entries_table n as') in
+    let followers = counted xs two f as' fs (λ k bs. all_added (replicate k []) bs) (followers_of as') all second a (followers_table n as') in
+    let holders = counted xs three f as' hs (λ k bs. all_held (replicate k None) bs) (holder_of as') all third h (holders_table n as') in
+    ap (λ z. plan_with z es fs hs) own ∙ ap (λ z. plan_with (own_numbers (layered graph)) z fs hs) entries
+    ∙ ap (λ z. plan_with (own_numbers (layered graph)) (tabled 0 n (entry_for as')) z hs) followers
+    ∙ ap (λ z. plan_with (own_numbers (layered graph)) (tabled 0 n (entry_for as')) (tabled 0 n (followers_of as')) z) holders
 
 -- past the end of the lists that are kept
 pub lists_past : (vs : List (Vec ℕ)) (p n : ℕ) → length vs ≤ p → lists_of vs ≡ add_at (lists_of vs) p n

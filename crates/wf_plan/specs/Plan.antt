@@ -5,7 +5,7 @@ use Rattle.wf_layers.specs.Changes.{owns}
 use Rattle.wf_layers.specs.Definition as layers
 use Rattle.wf_layers.specs.Waiting.{times}
 use Rattle.wf_def.specs.ActionTree.{ActionTree, action_after, action_kind, action_number, ActionTrees, CaseTrees, no_cases, case_then}
-use Rattle.wf_def.specs.AllActions.{has_number}
+use Rattle.wf_def.specs.AllActions.{all_actions, has_number}
 use Rattle.wf_def.specs.Layered.{layered, layered_kind, need_of}
 
 -- ---- the graphs that an action holds
@@ -74,6 +74,7 @@ abbrev pub entry_for : List ActionTree → ℕ → Option EntryTree
 entry_for as' n = option_map entry_of (find (has_number n) as')
 
 pub record PlanTree : Type 0 where
+  pub top : List ℕ
   pub entries : List (Option EntryTree)
   pub followers : List (List ℕ)
   pub holders : List (Option ℕ)
@@ -83,10 +84,11 @@ abbrev pub tabled : {A : Type 0} → ℕ → ℕ → (ℕ → A) → List A
 tabled k zero f = []
 tabled k (suc n) f = f k ∷ tabled (suc k) n f
 
--- of a definition whose actions are numbered from 0 on
-abbrev pub plan_of : List ActionTree → PlanTree
-plan_of as' = record {
-  entries = tabled 0 (length as') (entry_for as');
-  followers = tabled 0 (length as') (followers_of as');
-  holders = tabled 0 (length as') (holder_of as');
+-- of a graph whose actions, at any depth, are numbered from 0 on: the numbers of its own actions, and of each number what is said above
+abbrev pub plan_of : ActionTrees → PlanTree
+plan_of graph = record {
+  top = own_numbers (layered graph);
+  entries = tabled 0 (length (all_actions graph)) (entry_for (all_actions graph));
+  followers = tabled 0 (length (all_actions graph)) (followers_of (all_actions graph));
+  holders = tabled 0 (length (all_actions graph)) (holder_of (all_actions graph));
 }

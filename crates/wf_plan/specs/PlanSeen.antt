@@ -30,6 +30,7 @@ entries_seen es = map (option_map entry_tree) es
 
 abbrev pub plan_tree : Plan → PlanTree
 plan_tree p = record {
+  top = p.top.items;
   entries = entries_seen p.entries.items;
   followers = lists_of p.followers.items;
   holders = p.holders.items;

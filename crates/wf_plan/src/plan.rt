@@ -1,13 +1,12 @@
 //! The plan.
 ghost use Rattle.std.specs.Prelude.{◌≡◌, ◌<◌, IfOk, None, [], length, map, option_map, replicate};
 ghost use Rattle.wf_def.specs.ActionSeen.{action_tree, graph_tree};
-ghost use Rattle.wf_def.specs.AllActions.{all_actions};
 ghost use Rattle.wf_def.specs.Layered.{need_of};
 ghost use Rattle.wf_plan.specs.Plan.{entry_of, plan_of};
 ghost use Rattle.wf_plan.specs.PlanSeen.{at_place, entries_seen, entry_tree, list_at, lists_of, plan_tree, wait_need};
 ghost use Rattle.wf_plan.specs.Walk.{all_added, all_entered, all_held};
 
-use crate::shape::{Shape, shape_of};
+use crate::shape::{Shape, numbers_of, shape_of};
 use crate::tables::{add_entries, hold_all, take_place};
 use std::alloc::{AllocError, Global};
 use wf_def::{Action, Afters, Graph, Statuses, all_actions};
@@ -29,6 +28,7 @@ pub struct Entry {
 /// The actions of a definition by their numbers.
 #[derive(Drop)]
 pub struct Plan {
+    top: Vec<u32>,
     entries: Vec<Option<Entry>>,
     followers: Vec<Vec<u32>>,
     holders: Vec<Option<u32>>,
@@ -115,14 +115,22 @@ fn holders_of(alloc: Global, actions: &[&Action]) -> Result<Vec<Option<u32>>, Al
 impl Plan {
     /// The plan of a definition.
     pub fn of(alloc: Global, graph: &Graph) -> Result<Plan, AllocError>
-        ensures { IfOk result (λ p. plan_tree p ≡ plan_of (all_actions (graph_tree graph.now))) }
+        ensures { IfOk result (λ p. plan_tree p ≡ plan_of (graph_tree graph.now)) }
     {
         let actions = all_actions(alloc, graph)?;
         Ok(Plan {
+            top: numbers_of(alloc, graph)?,
             entries: entries_of(alloc, &actions)?,
             followers: followers_of(alloc, &actions)?,
             holders: holders_of(alloc, &actions)?,
         })
+    }
+
+    /// The actions of the definition's own graph, in their order.
+    pub fn top(&self) -> &[u32]
+        ensures { result.now ≡ (plan_tree self.now).top }
+    {
+        &self.top
     }
 
     /// What an action waits for, and which graphs it holds.

@@ -21,7 +21,8 @@ pub enum Shape {
     Until { count: u32, graph: Vec<u32> },
 }
 
-fn numbers_of(alloc: Global, graph: &Graph) -> Result<Vec<u32>, AllocError>
+// The actions of a graph, in their order.
+pub(crate) fn numbers_of(alloc: Global, graph: &Graph) -> Result<Vec<u32>, AllocError>
     ensures { IfOk result (λ numbers. numbers.items ≡ own_numbers (layered (graph_tree graph.now))) }
 {
     let mut numbers = Vec::new(alloc);
