@@ -1,0 +1,8 @@
+pub mod Terms
+mod ContainerRows
+mod LoopRows
+mod VariableRows
+mod CallRows
+mod EndingRows
+mod ResubmissionRows
+mod PartRows

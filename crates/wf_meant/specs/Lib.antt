@@ -1,0 +1,10 @@
+pub mod Points
+pub mod Rows
+pub mod References
+pub mod Variables
+pub mod Look
+pub mod Status
+pub mod Containers
+pub mod Source
+pub mod Record
+pub mod Resubmitted

@@ -1,0 +1,29 @@
+//! What every definition means, whatever kinds of action it has: the record that a run of it leaves.
+//!
+//! A definition is the tree of `wf_def` here, with all that nests in it. Its meaning is an instance of the layered meaning of `wf_layers`,
+//! whose source `specs/Source` gives: what each action comes to in the rows that are known. What an action does that holds no others is
+//! said by `wf_done`, what containers decide by `wf_opening`; here stands what each point of a definition looks at. `specs/Points` says
+//! where points stand and which instances are earlier, `specs/References` which instances a reference means and what it is given,
+//! `specs/Variables` which writer of a variable was the last, `specs/Look` all that is told. `specs/Status` says how a graph ends,
+//! `specs/Containers` which rows containers end with, and `specs/Record` reads the record of `wf_record` off the table of rows: the run's
+//! status and error, its response, the section `outputs`, and the rows in the order of their addresses.
+//!
+//! The environment of a run, the section `outputs` and how a run ends without a Terminate are those of `wf_meaning`, whose definitions are
+//! of flat definitions of Compose actions. The machine and the program stand on those still.
+//!
+//! It has no code: each public function does nothing, and its contract is a law. Worked definitions of every kind, with the records that
+//! they mean, stand in `proofs/`.
+#![tactic(auto)]
+
+ghost use Rattle.std.specs.Prelude.{◌≡◌};
+ghost use Rattle.wf_def.specs.DefTree.{DefTree};
+ghost use Rattle.wf_meaning.specs.Environment.{Environment};
+ghost use Rattle.wf_meant.specs.Record.{depth_of, meaning, record_of_table, rows_of};
+ghost use Rattle.wf_meant.specs.Source.{table_of};
+
+/// A definition means the record of its table, whose depths are how many actions are before an action; the record has the rows of the
+/// table.
+pub fn a_record_is_of_the_table()
+    ensures record { (d : DefTree) (e : Environment) → meaning d e ≡ record_of_table d e (table_of d e (depth_of d)) }
+    ensures rows { (d : DefTree) (e : Environment) → (meaning d e).rows ≡ rows_of d (table_of d e (depth_of d)) }
+{}
