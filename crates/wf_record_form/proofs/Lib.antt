@@ -1,0 +1,5 @@
+pub mod FittingLemmas
+pub mod NeighbourLemmas
+pub mod OrderLemmas
+pub mod ReadBackLemmas
+mod Worked
