@@ -1,64 +1,12 @@
--- Lines, and the numbers on them.
-use Rattle.std.proofs.Common.{◌≡◌, ℕ, zero, suc, ◌+◌, ◌-◌, ◌*◌, ◌<◌, ◌≤◌, ◌++◌, Bool, true, false, cond, List, [], ◌∷◌, length, take, drop}
-use Rattle.std.proofs.Common.{Option, Some, None, Result, Ok, Err, nat_eq, nat_le, refl, sym, ap, ◌∙◌, subst, append_assoc, append-nil}
-use Rattle.std.proofs.Common.{arith}
+-- The numbers on lines.
+use Rattle.std.proofs.Common.{◌≡◌, ℕ, suc, ◌+◌, ◌-◌, ◌*◌, ◌<◌, ◌≤◌, ◌++◌, Bool, true, false, cond, List, [], ◌∷◌, length}
+use Rattle.std.proofs.Common.{Option, Some, None, Result, Ok, Err, nat_le, refl, sym, ap, ◌∙◌, subst, append_assoc, append-nil, arith}
 use Rattle.std.proofs.lemmas.Bool.Decides.{nat_tests}
 use Rattle.std.proofs.lemmas.Option.{none-some}
-use Rattle.wf_run.specs.Reading.{behind, digit_then, line_length}
-use Rattle.wf_run.specs.Schedule.{digits_from, is_digit, lines_of, number_of, number_then, numbers_from, small, with_byte, without_return}
+use Rattle.wf_lines.specs.Lines.{lines_of, without_return}
+use Rattle.wf_run.specs.Reading.{behind, digit_then}
+use Rattle.wf_run.specs.Schedule.{digits_from, is_digit, number_of, number_then, numbers_from, small}
 use Rattle.wf_run.specs.declared.fault.ScheduleFault.{ScheduleFault}
-
--- ---- lines
-
-abbrev AreSplit : List ℕ → Type 0
-AreSplit bytes = lines_of bytes ≡ take (line_length bytes) bytes ∷ lines_of (drop (suc (line_length bytes)) bytes)
-
-last_byte : (b : ℕ) (ends : Bool) → cond ends ([] ∷ []) ((b ∷ []) ∷ [])
-    ≡ take (cond ends 0 1) (b ∷ []) ∷ lines_of (drop (suc (cond ends 0 1)) (b ∷ []))
-last_byte b true = refl
-last_byte b false = refl
-
-further_byte : (b c : ℕ) (bytes : List ℕ) (ends : Bool) → AreSplit (c ∷ bytes)
-    → cond ends ([] ∷ lines_of (c ∷ bytes)) (with_byte b (lines_of (c ∷ bytes)))
-    ≡ take (cond ends 0 (suc (line_length (c ∷ bytes)))) (b ∷ c ∷ bytes)
-    ∷ lines_of (drop (suc (cond ends 0 (suc (line_length (c ∷ bytes))))) (b ∷ c ∷ bytes))
-further_byte b c bytes true later = refl
-further_byte b c bytes false later = ap (with_byte b) later
-
-split : (b : ℕ) (bytes : List ℕ) → AreSplit (b ∷ bytes)
-split b [] = last_byte b (nat_eq b 10)
-split b (c ∷ bytes) = further_byte b c bytes (nat_eq b 10) (split c bytes)
-
--- the first line, and the lines behind it
-pub first_line : (bytes : List ℕ) → 0 < length bytes
-    → lines_of bytes ≡ take (line_length bytes) bytes ∷ lines_of (drop (line_length bytes + 1) bytes)
-first_line [] lt = absurd (omega (arith, lt))
-first_line (b ∷ bytes) lt =
-    subst (λ n. lines_of (b ∷ bytes) ≡ take (line_length (b ∷ bytes)) (b ∷ bytes) ∷ lines_of (drop n (b ∷ bytes))) next (split b bytes)
-  where
-    next : suc (line_length (b ∷ bytes)) ≡ line_length (b ∷ bytes) + 1
-    next = omega arith
-
-pub drop_end : (xs : List ℕ) (n : ℕ) → length xs ≤ n → drop n xs ≡ []
-drop_end [] zero le = refl
-drop_end [] (suc n) le = refl
-drop_end (x ∷ xs) zero le = absurd (omega (arith, le))
-drop_end (x ∷ xs) (suc n) le = drop_end xs n (omega (arith, le))
-
--- ---- the end of a line
-
-cons_either : (a : ℕ) (e : Bool) (p q : List ℕ) → a ∷ cond e p q ≡ cond e (a ∷ p) (a ∷ q)
-cons_either a true p q = refl
-cons_either a false p q = refl
-
-last_of : (before : List ℕ) (x : ℕ) → without_return (before ++ x ∷ []) ≡ cond (nat_eq x 13) before (before ++ x ∷ [])
-last_of [] x = refl
-last_of (a ∷ []) x = cons_either a (nat_eq x 13) [] (x ∷ [])
-last_of (a ∷ b ∷ before) x = ap (λ rest. a ∷ rest) (last_of (b ∷ before) x)
-    ∙ cons_either a (nat_eq x 13) (b ∷ before) (b ∷ before ++ x ∷ [])
-
-pub last_dropped : (line before : List ℕ) (x : ℕ) → line ≡ before ++ x ∷ [] → without_return line ≡ cond (nat_eq x 13) before line
-last_dropped line before x is = subst (λ (l : List ℕ). without_return l ≡ cond (nat_eq x 13) before l) (sym is) (last_of before x)
 
 -- ---- numbers
 

@@ -1,12 +1,7 @@
 -- How a schedule is read: line by line.
-use Rattle.std.specs.Prelude.{ℕ, zero, suc, ◌+◌, ◌-◌, ◌*◌, List, [], ◌∷◌, ◌++◌, Option, None, Some, Result, Ok, Err, cond, nat_eq}
+use Rattle.std.specs.Prelude.{ℕ, ◌+◌, ◌-◌, ◌*◌, List, ◌++◌, Option, None, Some, Result, Ok, Err, cond}
 use Rattle.wf_run.specs.Schedule.{is_digit, small}
 use Rattle.wf_run.specs.declared.fault.ScheduleFault.{ScheduleFault}
-
--- how many bytes stand before the first line feed
-abbrev pub line_length : List ℕ → ℕ
-line_length [] = 0
-line_length (b ∷ bytes) = cond (nat_eq b 10) 0 (suc (line_length bytes))
 
 -- what a digit comes to behind those that come to n, where it is one and the number is one of a schedule
 abbrev pub digit_then : ℕ → ℕ → Option ℕ

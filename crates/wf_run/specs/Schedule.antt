@@ -1,22 +1,8 @@
 -- Which schedule a file of lines spells: on each line a number, in one to ten decimal digits.
-use Rattle.std.specs.Prelude.{◌≡◌, ℕ, zero, suc, ◌+◌, ◌-◌, ◌*◌, Bool, ◌&&◌, List, [], ◌∷◌, length, Option, None, Some, Result, Ok, Err}
-use Rattle.std.specs.Prelude.{cond, if◌then◌else◌, nat_eq, nat_le}
+use Rattle.std.specs.Prelude.{ℕ, suc, ◌+◌, ◌-◌, ◌*◌, Bool, ◌&&◌, List, [], ◌∷◌, length, Option, None, Some, Result, Ok, Err}
+use Rattle.std.specs.Prelude.{cond, nat_le}
+use Rattle.wf_lines.specs.Lines.{lines_of, without_return}
 use Rattle.wf_run.specs.declared.fault.ScheduleFault.{ScheduleFault}
-
--- The lines of a file. A line feed ends a line, and that of the last line may be left out; a file of no bytes has no lines.
-abbrev pub with_byte : ℕ → List (List ℕ) → List (List ℕ)
-with_byte b [] = (b ∷ []) ∷ []
-with_byte b (line ∷ lines) = (b ∷ line) ∷ lines
-
-abbrev pub lines_of : List ℕ → List (List ℕ)
-lines_of [] = []
-lines_of (b ∷ bytes) = cond (nat_eq b 10) ([] ∷ lines_of bytes) (with_byte b (lines_of bytes))
-
--- A carriage return at the end of a line doesn't count.
-abbrev pub without_return : List ℕ → List ℕ
-without_return [] = []
-without_return (b ∷ []) = cond (nat_eq b 13) [] (b ∷ [])
-without_return (b ∷ c ∷ line) = b ∷ without_return (c ∷ line)
 
 abbrev pub is_digit : ℕ → Bool
 is_digit b = nat_le 48 b && nat_le b 57

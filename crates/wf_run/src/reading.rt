@@ -1,10 +1,11 @@
 //! Schedules as they are read.
-ghost use Rattle.std.specs.Prelude.{◌≡◌, ◌≢◌, ◌≤◌, ◌<◌, ◌+◌, [], ◌∷◌, ◌++◌, Ok, Err, IfErr, IfOk, drop, length};
-ghost use Rattle.wf_run.specs.Reading.{digit_then, line_length};
-ghost use Rattle.wf_run.specs.Schedule.{digits_from, is_digit, lines_of, number_of, schedule_of, small, without_return};
+ghost use Rattle.std.specs.Prelude.{◌≡◌, ◌≢◌, ◌≤◌, Ok, Err, IfErr, IfOk};
+ghost use Rattle.wf_run.specs.Reading.{digit_then};
+ghost use Rattle.wf_run.specs.Schedule.{digits_from, is_digit, number_of, schedule_of, small};
 
 use crate::fault::ScheduleFault;
 use std::alloc::Global;
+use wf_lines::{split_line, without_return};
 use wf_val::Schedule;
 
 fn is_digit(byte: u8) -> bool
@@ -40,24 +41,6 @@ fn digits(line: &[u8]) -> Option<u32>
     Some(sum as u32)
 }
 
-// A line with this last byte, and the bytes before it.
-#[tactic(auto, using(crate::proofs::LineLemmas::last_dropped))]
-fn without_last<'a>(line: &'a [u8], last: u8, before: &'a [u8]) -> &'a [u8]
-    requires { line.now ≡ before.now ++ last ∷ [] }
-    ensures { result.now ≡ without_return line.now }
-{
-    if last == 13 { before } else { line }
-}
-
-fn without_return<'a>(line: &'a [u8]) -> &'a [u8]
-    ensures { result.now ≡ without_return line.now }
-{
-    match line.split_last() {
-        Some((last, before)) => without_last(line, *last, before),
-        None => line,
-    }
-}
-
 // The number that a line is.
 fn number_of(line: &[u8]) -> Option<u32>
     ensures { result ≡ number_of line.now }
@@ -67,44 +50,6 @@ fn number_of(line: &[u8]) -> Option<u32>
     } else {
         None
     }
-}
-
-// How many bytes stand before the first line feed.
-fn line_length(bytes: &[u8]) -> usize
-    ensures length { result ≡ line_length bytes.now }
-    ensures within { result ≤ length bytes.now }
-{
-    let mut count = 0;
-    for byte in bytes {
-        if *byte == 10 {
-            return count;
-        }
-        count += 1;
-    }
-    count
-}
-
-// What comes behind so many bytes and one more.
-#[tactic(auto, using(crate::proofs::LineLemmas::drop_end))]
-fn rest_behind<'a>(bytes: &'a [u8], count: usize) -> &'a [u8]
-    requires { count ≤ length bytes.now }
-    ensures { result.now ≡ drop (count + 1) bytes.now }
-{
-    if count < bytes.len() {
-        &bytes[count + 1..]
-    } else {
-        &bytes[count..]
-    }
-}
-
-// The first line, and what comes behind it.
-fn split_line<'a>(bytes: &'a [u8]) -> (&'a [u8], &'a [u8])
-    requires { 0 < length bytes.now }
-    ensures lines { lines_of bytes.now ≡ result.0.now ∷ lines_of result.1.now }
-    ensures shorter { length result.1.now < length bytes.now }
-{
-    let length = line_length(bytes);
-    (&bytes[..length], rest_behind(bytes, length))
 }
 
 /// The schedule that the bytes of a file are, a number a line.

@@ -1,6 +1,7 @@
 use Rattle.std.proofs.Common.{◌≡◌, ◌+◌, ◌≤◌, length}
+use Rattle.wf_lines.specs.Lines.{lines_of}
 use Rattle.wf_run.specs.Reading.{behind}
-use Rattle.wf_run.specs.Schedule.{lines_of, numbers_from, schedule_of}
+use Rattle.wf_run.specs.Schedule.{numbers_from, schedule_of}
 use Rattle.wf_run.proofs.reading.read_schedule.Given as goal
 
 -- the lines that are left, behind the numbers so far, are the whole
