@@ -1,0 +1,10 @@
+pub mod Frequency
+pub mod Interval
+pub mod Sets
+pub mod Due
+pub mod Next
+pub mod Moments
+pub mod Timetable
+pub mod Asked
+pub mod RecurrenceForm
+pub mod Reading
