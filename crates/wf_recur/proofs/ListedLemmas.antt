@@ -1,15 +1,19 @@
 -- The first of the due moments, as a list.
-use Rattle.std.proofs.Common.{◌≡◌, ◌⊎◌, inl, inr, ℕ, zero, suc, ◌+◌, ◌-◌, ◌*◌, ◌%◌, ◌<◌, ◌≤◌, Bool, true, false, cond, ◌&&◌, ◌||◌, ◌==◌, List, [], ◌∷◌, ◌++◌, length, take, drop, min, Contains, Option, Some, None, refl, sym, ap, ◌∙◌, subst, arith}
+use Rattle.std.proofs.Common.{◌≡◌, ◌⊎◌, inl, inr, ℕ, zero, suc, ◌+◌, ◌-◌, ◌*◌, ◌%◌, ◌<◌, ◌≤◌, Bool, true, false, cond, ◌&&◌, ◌||◌, ◌==◌}
+use Rattle.std.proofs.Common.{List, [], ◌∷◌, ◌++◌, length, take, drop, min, Contains, Option, Some, None, refl, sym, ap, ◌∙◌, subst}
+use Rattle.std.proofs.Common.{arith}
 use Rattle.std.specs.Prelude.{nat_le}
 use Rattle.std.specs.List.{All, filter, range_with_len}
 use Rattle.std.proofs.lemmas.Bool.{and_from, and_parts, cases_lt, cases_order, eq-eqb, eqb-true, le-leb, leb-true, or_cases}
 use Rattle.std.proofs.lemmas.List.{length-take, take-append-drop}
-use Rattle.std.proofs.lemmas.List.Elements.{All-cons, All-contains, All-filter, All-nil, All-tail, All-take, All-weaker, Contains-append_left, Contains-append_right, filter_passes}
+use Rattle.std.proofs.lemmas.List.Elements.{All-cons, All-contains, All-filter, All-nil, All-tail, All-take, All-weaker}
+use Rattle.std.proofs.lemmas.List.Elements.{Contains-append_left, Contains-append_right, filter_passes}
 use Rattle.std.proofs.lemmas.Nat.{mul-le}
 use Rattle.wf_fn_time.specs.Clock.{clock_at}
 use Rattle.wf_fn_time.specs.Moments.{last_tick}
 use Rattle.wf_recur.specs.Due.{IsDue, IsDueBy, IsMonthsLater, IsOnSchedule, day_of, kind_of, months_later, start_or, week_of}
-use Rattle.wf_recur.specs.Moments.{any_below, is_due, is_due_by, is_full_minute, is_hour, is_minute, is_moment, is_months_later, is_on_schedule, is_weekday, moments_due}
+use Rattle.wf_recur.specs.Moments.{any_below, is_due, is_due_by, is_full_minute, is_hour, is_minute, is_moment, is_months_later}
+use Rattle.wf_recur.specs.Moments.{is_on_schedule, is_weekday, moments_due}
 use Rattle.wf_recur.specs.Next.{AreNext, IsRising}
 use Rattle.wf_recur.specs.declared.recurrence.Kind.{Kind}
 use Rattle.wf_recur.specs.declared.recurrence.Recurrence.{Recurrence}
@@ -157,7 +161,8 @@ in-filter p a (suc n) k is le lt =
           let P : ℕ → Type 0 = λ j. Contains (filter p (range_with_len a (suc n))) j in
           subst P same (first-in (p a) a (filter p (range_with_len (a + 1) n)) (ap p same ∙ is))
       | inr other ↦ elim other [
-        | inl less ↦ in-if (p a) a k (filter p (range_with_len (a + 1) n)) (in-filter p (a + 1) n k is (omega (arith, less)) (omega (arith, lt)))
+        | inl less ↦
+            in-if (p a) a k (filter p (range_with_len (a + 1) n)) (in-filter p (a + 1) n k is (omega (arith, less)) (omega (arith, lt)))
         | inr more ↦ absurd (omega (arith, le, more))
       ]
     ]
@@ -207,10 +212,12 @@ listed-next r from n positive within =
             All-contains (λ k. from ≤ k) (filter p range) m
                 (All-filter p (λ k. from ≤ k) range (range-from from (last_tick + 1 - from))) in_all,
           );
-      few = let most : length (take n (filter p range)) ≡ min n (length (filter p range)) = length-take n (filter p range) in omega (arith, most);
+      few = let most : length (take n (filter p range)) ≡ min n (length (filter p range)) = length-take n (filter p range) in
+          omega (arith, most);
       whole = λ m due le.
           in-take n (filter p range) m rising
-          (in-filter p from (last_tick + 1 - from) m (from-due r (start_or r from) m positive due) le (omega (arith, due.in_years, within)));
+          (in-filter p from (last_tick + 1 - from) m (from-due r (start_or r from) m positive due) le
+          (omega (arith, due.in_years, within)));
     }
 
 -- what is listed is what comes next

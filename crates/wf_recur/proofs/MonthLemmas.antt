@@ -1,5 +1,6 @@
 -- Moments that are so many months behind a start: more months lead no further back.
-use Rattle.std.proofs.Common.{◌≡◌, ◌⊎◌, inl, inr, ℕ, zero, suc, ◌+◌, ◌-◌, ◌*◌, ◌/◌, ◌%◌, ◌<◌, ◌≤◌, Bool, true, false, cond, Option, Some, None, refl, sym, ap, ◌∙◌, subst, arith, min}
+use Rattle.std.proofs.Common.{◌≡◌, ◌⊎◌, inl, inr, ℕ, zero, suc, ◌+◌, ◌-◌, ◌*◌, ◌/◌, ◌%◌, ◌<◌, ◌≤◌, Bool, true, false, cond, Option, Some}
+use Rattle.std.proofs.Common.{None, refl, sym, ap, ◌∙◌, subst, arith, min}
 use Rattle.std.specs.Prelude.{ℤ, pos, ◌&&◌, nat_le, nat_lt, option_map}
 use Rattle.std.proofs.lemmas.Bool.{and_from, and_parts, cases_lt, cond-true, le-leb, leb-true, lt-ltb, ltb-true, ltb-false}
 use Rattle.std.proofs.lemmas.Nat.{mul-le}
@@ -48,8 +49,9 @@ number-is : (day k : ℕ) → day_number (day_in_month day k) ≡ days_before da
 number-is day k =
     let less : k % 12 + 1 - 1 ≡ k % 12 = omega arith in
     let more : k % 12 + 1 ≡ suc (k % 12) = omega arith in
-    ap (λ m. days_of_first_years (k / 12 - 1) + (days_of_months (pos (k / 12)) m + min day (days_in_month (pos (k / 12)) (k % 12 + 1)) - 1)) less
-    ∙ ap (λ m. days_of_first_years (k / 12 - 1) + (days_of_months (pos (k / 12)) (k % 12) + min day (days_in_month (pos (k / 12)) m) - 1)) more
+    let first = days_of_first_years (k / 12 - 1) in
+    ap (λ m. first + (days_of_months (pos (k / 12)) m + min day (days_in_month (pos (k / 12)) (k % 12 + 1)) - 1)) less
+    ∙ ap (λ m. first + (days_of_months (pos (k / 12)) (k % 12) + min day (days_in_month (pos (k / 12)) m) - 1)) more
 
 at-place : (day k y m : ℕ) → k / 12 ≡ y → k % 12 ≡ m → day_number (day_in_month day k) ≡ days_before day y m
 at-place day k y m year month =

@@ -1,5 +1,6 @@
 -- Minutes of a schedule, and the moments that they are.
-use Rattle.std.proofs.Common.{◌≡◌, ◌⊎◌, inl, inr, ℕ, suc, ◌+◌, ◌-◌, ◌*◌, ◌/◌, ◌%◌, ◌<◌, ◌≤◌, Bool, true, false, Option, Some, None, refl, sym, ap, ◌∙◌, subst, arith}
+use Rattle.std.proofs.Common.{◌≡◌, ◌⊎◌, inl, inr, ℕ, suc, ◌+◌, ◌-◌, ◌*◌, ◌/◌, ◌%◌, ◌<◌, ◌≤◌, Bool, true, false, Option, Some, None, refl}
+use Rattle.std.proofs.Common.{sym, ap, ◌∙◌, subst, arith}
 use Rattle.std.proofs.lemmas.Bool.{cases_lt, cond-true, le-leb}
 use Rattle.std.specs.Prelude.{if◌then◌else◌}
 use Rattle.wf_fn_time.specs.Clock.{clock_at}
@@ -88,7 +89,8 @@ abbrev pub IsDueInYears : Timetable → ℕ → Type 0
 IsDueInYears t minute = (minute ≤ last_minute) × IsDueMinute t minute
 
 -- where no minute from one on is due no moment from there on is
-pub none-scheduled : (w : Bool) (r : Recurrence) (b at from : ℕ) → kind_of r ≡ kind w → at ≤ from * 600000000 → from * 600000000 < at + 600000000
+pub none-scheduled : (w : Bool) (r : Recurrence) (b at from : ℕ) → kind_of r ≡ kind w → at ≤ from * 600000000
+    → from * 600000000 < at + 600000000
     → IsLeastFrom (IsDueInYears (timetable_of r w b)) from None → IsLeastFrom (IsDue r b) at None
 none-scheduled w r b at from is low high none = λ m due le.
     let minute = to-minute w r b m is due in
@@ -107,12 +109,14 @@ scheduled w r b at from y is start low high least =
       late,
       λ m due le.
           let minute = to-minute w r b m is due in
-          let first : y ≤ m / 600000000 = least.2 (m / 600000000) (omega (arith, due.in_years), minute.1) (omega (arith, minute.0, le, high)) in
+          let first : y ≤ m / 600000000 =
+          least.2 (m / 600000000) (omega (arith, due.in_years), minute.1) (omega (arith, minute.0, le, high)) in
           omega (arith, first, minute.0),
     )
 
 -- a minute from a start on is of a day from its day on
-pub from-start : (w : Bool) (r : Recurrence) (b at from : ℕ) → b ≤ at → at ≤ from * 600000000 → IsFromStart (timetable_of r w b) (from / 1440)
+pub from-start : (w : Bool) (r : Recurrence) (b at from : ℕ) → b ≤ at → at ≤ from * 600000000
+    → IsFromStart (timetable_of r w b) (from / 1440)
 from-start false r b at from start low = omega (arith, start, low)
 from-start true r b at from start low = omega (arith, start, low)
 

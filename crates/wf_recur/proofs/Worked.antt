@@ -338,7 +338,8 @@ read-no_interval = refl
 read-neither : recurrence_of (trigger_of (of [])) ≡ Err (RecurrenceFault.Form (codes "/recurrence/frequency"))
 read-neither = refl
 
-read-year : recurrence_of (with_member (codes "frequency") (word (codes "Year"))) ≡ Err (RecurrenceFault.Form (codes "/recurrence/frequency"))
+read-year : recurrence_of (with_member (codes "frequency") (word (codes "Year")))
+    ≡ Err (RecurrenceFault.Form (codes "/recurrence/frequency"))
 read-year = refl
 
 read-second : recurrence_of (with_member (codes "frequency") (word (codes "sEcond"))) ≡ Ok (each Frequency.Second 1)
@@ -368,7 +369,8 @@ read-interval_greatest = refl
 read-interval_more : recurrence_of (with_member (codes "interval") (n 10000000)) ≡ Err (RecurrenceFault.Form (codes "/recurrence/interval"))
 read-interval_more = refl
 
-read-interval_text : recurrence_of (with_member (codes "interval") (word (codes "1"))) ≡ Err (RecurrenceFault.Form (codes "/recurrence/interval"))
+read-interval_text : recurrence_of (with_member (codes "interval") (word (codes "1")))
+    ≡ Err (RecurrenceFault.Form (codes "/recurrence/interval"))
 read-interval_text = refl
 
 read-start : recurrence_of (with_member (codes "startTime") (word (codes "0001-01-01T00:01")))

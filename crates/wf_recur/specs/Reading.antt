@@ -1,6 +1,7 @@
 -- The recurrence that a trigger has, or why it has none whose moments can be told: it is of another type, something isn't of the form,
 -- it counts in another zone.
-use Rattle.std.specs.Prelude.{ℕ, List, [], ◌∷◌, Bool, true, false, Option, Some, None, Result, Ok, Err, codes, replicate, unwrap_or, if◌then◌else◌}
+use Rattle.std.specs.Prelude.{ℕ, List, [], ◌∷◌, Bool, true, false, Option, Some, None, Result, Ok, Err, codes, replicate, unwrap_or}
+use Rattle.std.specs.Prelude.{if◌then◌else◌}
 use Rattle.std.specs.Str.{str_eq_ignore_ascii_case}
 use Rattle.wf_json.specs.Pointer.{least}
 use Rattle.wf_places.specs.Form.{places}
@@ -88,4 +89,5 @@ of_form t None =
 -- all, in the order of the faults
 abbrev pub recurrence_of : ValueTree → Result Recurrence RecurrenceFault
 recurrence_of t =
-    if is_recurrence (get (codes "type") t) then of_form t (least (places recurrence_form Part.Trigger t)) else Err RecurrenceFault.NotRecurrence
+    if is_recurrence (get (codes "type") t) then of_form t (least (places recurrence_form Part.Trigger t))
+    else Err RecurrenceFault.NotRecurrence

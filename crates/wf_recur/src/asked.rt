@@ -1,6 +1,7 @@
 //! What a value in a recurrence says; none where it isn't what is asked for.
 ghost use Rattle.std.specs.Prelude.{◌≡◌};
-ghost use Rattle.wf_recur.specs.Asked.{below, frequency_in, interval_in, is_list, is_text, moment_in, number_in, place_in, short_number, weekday_in, weekday_of};
+ghost use Rattle.wf_recur.specs.Asked.{below, frequency_in, interval_in, is_list, is_text, moment_in, number_in, place_in, short_number};
+ghost use Rattle.wf_recur.specs.Asked.{weekday_in, weekday_of};
 ghost use Rattle.wf_val.specs.Get.{is_object};
 ghost use Rattle.wf_val.specs.Seen.{tree};
 

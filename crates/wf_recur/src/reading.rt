@@ -1,6 +1,7 @@
 //! Recurrences, read from the value of their trigger.
 ghost use Rattle.std.specs.Prelude.{◌≡◌, ◌≢◌, IfOk, IfErr, Ok, Err, map, option_map};
-ghost use Rattle.wf_recur.specs.Reading.{frequency_or_second, interval_or_one, is_recurrence, is_utc, meant, member_of, recurrence_of, start_or_none, text_in, with_member, with_value, with_values};
+ghost use Rattle.wf_recur.specs.Reading.{frequency_or_second, interval_or_one, is_recurrence, is_utc, meant, member_of, recurrence_of};
+ghost use Rattle.wf_recur.specs.Reading.{start_or_none, text_in, with_member, with_value, with_values};
 ghost use Rattle.wf_recur.specs.declared.fault.RecurrenceFault.TheVariants.{Memory};
 ghost use Rattle.wf_val.specs.Seen.{tree};
 

@@ -4,7 +4,8 @@ ghost use Rattle.wf_fn_time.specs.Moments.{last_tick};
 ghost use Rattle.wf_recur.specs.Due.{IsDue, kind_of};
 ghost use Rattle.wf_recur.specs.Next.{IsLeastFrom};
 ghost use Rattle.wf_recur.specs.declared.recurrence.Kind.{Kind};
-ghost use Rattle.wf_recur.specs.Timetable.{IsDueByDays, IsDueByWeeks, IsDueDay, IsDueMinute, IsDueTime, IsFromStart, Passes, last_minute, timetable_of};
+ghost use Rattle.wf_recur.specs.Timetable.{IsDueByDays, IsDueByWeeks, IsDueDay, IsDueMinute, IsDueTime, IsFromStart, Passes, last_minute};
+ghost use Rattle.wf_recur.specs.Timetable.{timetable_of};
 
 use crate::multiples::next_multiple;
 use crate::recurrence::Recurrence;

@@ -10,6 +10,7 @@ returns c =
     let step : c.min-step.result ≡ min (c.args.interval * c.args.unit) (2 ^ 62) =
     omega (arith, product, c.saturating_mul.ensures, c.min-step.ensures) in
     let P : ℕ → Type 0 = λ start. IsLeastFrom (IsMultipleFrom start c.min-step.result) c.args.at (Some c.next_multiple.result) in
-    let Q : Option ℕ → Type 0 = λ m. IsLeastFrom (λ m. (m ≤ last_tick) × ((m - c.args.start) % (c.args.interval * c.args.unit) ≡ 0)) c.args.at m in
+    let multiple : ℕ → Type 0 = λ m. (m ≤ last_tick) × ((m - c.args.start) % (c.args.interval * c.args.unit) ≡ 0) in
+    let Q : Option ℕ → Type 0 = λ m. IsLeastFrom multiple c.args.at m in
     subst Q (sym c.of.ensures) (capped-least c.args.start (c.args.interval * c.args.unit) c.min-step.result c.args.at c.next_multiple.result
     step (subst P c.get-2.ensures.value c.next_multiple.ensures.least))
