@@ -1,7 +1,7 @@
 """The rules V9 to V21: which names an expression may use where it stands. Decided apart from the program, after docs/RULES.md; rules.py,
 which stands on this, has the rules before.
 
-They are looked at only where V1 to V8 hold. V13, V15 and V16, on what may happen side by side, aren't looked at yet."""
+They are looked at only where V1 to V8 hold. V13, V15 and V16 are about two actions, which mustn't be under way side by side."""
 import functions
 import rules
 import templates
@@ -59,6 +59,12 @@ def kind_of(node, path):
     return "items" if (node.kind, step[1:2]) in (("select", ("select",)), ("query", ("where",))) else "inputs"
 
 
+# The graph of a container in which an action stands, at whatever depth.
+def branch(node, holder):
+    line = node.line()
+    return line[line.index(holder) + 1].graph
+
+
 class Whole:
     def __init__(self, definition):
         self.definition = definition
@@ -86,6 +92,15 @@ class Whole:
     def is_before(self, one, other):
         return any(holder.graph == late.graph and holder.name in self.above[late.graph][late.name]
                    for holder in one.line() for late in other.line())
+
+    # Whether they stand in different branches of one If or Switch.
+    def is_apart(self, one, other):
+        shared = [holder for holder in one.within if holder in other.within and holder.kind in ("if", "switch")]
+        return any(branch(one, holder) != branch(other, holder) for holder in shared)
+
+    # Whether the two are never under way side by side.
+    def is_settled(self, one, other):
+        return self.is_before(one, other) or self.is_before(other, one) or self.is_apart(one, other)
 
     def may_name(self, site, name):
         node = self.by_name.get(name)
@@ -177,6 +192,53 @@ def initialised_late(whole):
             yield path
 
 
+# The variables that the expressions of an action read at sites of these kinds.
+def read_at(whole, node, *kinds):
+    return {name for site in whole.sites if site.node is node and site.kind in kinds for name in site.named("variables")}
+
+
+def all_written(node):
+    return {initial["name"] for initial in initials(node)} | {written(node)} - {None}
+
+
+# Whether the iterations of a loop come one after the other.
+def is_sequential(loop):
+    options = [rules.low(option.strip(" ")) for option in loop.action.get("operationOptions", "").split(",")]
+    turns = rules.at(loop.action, "runtimeConfiguration", "concurrency", "repetitions", absent=20)
+    return loop.kind == "until" or "sequential" in options or turns == 1
+
+
+# Of two actions the path whose pointer is less.
+def lesser(one, other):
+    return min(one.path, other.path, key=lambda path: rules.pointer(path).encode())
+
+
+# What a container evaluates as it opens comes before all inside it, and an Until's expression after all inside that; but nothing says so
+# of tracked properties.
+def side_by_side(whole):
+    reads = [(node, read_at(whole, node, "inputs", "items", "test"), read_at(whole, node, "tracked")) for node in whole.nodes]
+    for writer in whole.nodes:
+        names = all_written(writer)
+        if names and not all(map(is_sequential, writer.loops())):
+            yield writer.path
+        for other, found, late in reads if names else ():
+            touched = all_written(other) | late | (set() if other in writer.within else found)
+            if other is not writer and names & touched and not whole.is_settled(writer, other):
+                yield lesser(writer, other)
+
+
+def under_way_at_the_end(whole):
+    for end in whole.nodes:
+        others = [other for other in whole.nodes if other is not end and other not in end.within]
+        if end.kind == "terminate" and not all(whole.is_settled(other, end) for other in others):
+            yield end.path
+
+
+def two_responses(whole):
+    responses = [node for node in whole.nodes if node.kind == "response"]
+    yield from (lesser(one, other) for one in responses for other in responses if one is not other and not whole.is_settled(one, other))
+
+
 def items(whole):
     for site in whole.sites:
         if site.kind == "trigger":
@@ -229,7 +291,10 @@ def broken(definition, given):
     yield 10, parameters(whole, given)
     yield 11, variables(whole)
     yield 12, initialised_late(whole)
+    yield 13, side_by_side(whole)
     yield 14, items(whole)
+    yield 15, under_way_at_the_end(whole)
+    yield 16, two_responses(whole)
     yield 17, ends(whole)
     yield 18, loops_left(whole)
     yield 19, results(whole)

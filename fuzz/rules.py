@@ -383,17 +383,10 @@ RULES = [form, schema, limits, names, types, lacking, expressions, run_after]
 
 # ---- what isn't built
 
-# The actions that a command doesn't take yet. `whole` stands for the rules by themselves, which take all.
+# The actions that a command doesn't take yet; `check` takes all.
 def unbuilt(definition, command):
     for path, action, _ in actions(definition):
-        kind = type_of(action)
-        if command == "whole":
-            missing = False
-        elif command == "check":
-            missing = kind.endswith("variable") or kind in ("terminate", "response")
-        else:
-            missing = kind != "compose" or action.get("trackedProperties")
-        if missing:
+        if command != "check" and (type_of(action) != "compose" or action.get("trackedProperties")):
             yield path
 
 
