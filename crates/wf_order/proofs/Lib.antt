@@ -6,3 +6,9 @@ pub mod WalkLemmas
 pub mod WorkedRows
 pub mod SeenLaws
 pub mod InsideLaws
+pub mod TurnLaws
+pub mod ExcludedLaws
+pub mod HeldLemmas
+pub mod AccessLaws
+pub mod LoopLaws
+mod WorkedTurns

@@ -1,15 +1,19 @@
 -- What is before an action is seen by it, where the indexes of the loops round both are the same; and what a container sees is seen by what
 -- stands inside it.
-use Rattle.std.proofs.Common.{◌≡◌, ℕ, suc, Bool, true, false, ◌&&◌, ◌||◌, cond, List, [], ◌∷◌, ◌++◌, length, Option, Some, ◌⊎◌, inl, inr, refl, sym, ap, subst, ◌∙◌, append_assoc, arith, nat_eq}
+use Rattle.std.proofs.Common.{◌≡◌, ℕ, suc, Bool, true, false, ◌&&◌, ◌||◌, cond, List, [], ◌∷◌, ◌++◌, length, Option, Some, ◌⊎◌, inl, inr}
+use Rattle.std.proofs.Common.{refl, sym, ap, subst, ◌∙◌, append_assoc, arith, nat_eq}
 use Rattle.std.proofs.lemmas.Bool.{eq-eqb, eqb-true}
-use Rattle.wf_layers.specs.Definition.{Need, Names, Kind, Leaf, Scope, Choice, Foreach, Until, Branches, no_branch, branch, Graph, done, add, holds, has, has_any, has_own, needs_in, needs_any, needs_of, IsBefore, next, more, Closed, ClosedIn, ClosedAny}
+use Rattle.wf_layers.specs.Definition.{Need, Names, Kind, Leaf, Scope, Choice, Foreach, Until, Branches, no_branch, branch, Graph, done}
+use Rattle.wf_layers.specs.Definition.{add, holds, has, has_any, has_own, needs_in, needs_any, needs_of, IsBefore, next, more, Closed}
+use Rattle.wf_layers.specs.Definition.{ClosedIn, ClosedAny}
 use Rattle.wf_layers.specs.Address.{Address, starts, is_in, is_within, owner, Lower, earlier_in, earlier_any, together, IsEarlier, SeenIn}
 use Rattle.wf_layers.specs.Seen.{Once, OnceIn, OnceAny}
 use Rattle.wf_layers.proofs.Basics.{and_in, and_of}
 use Rattle.wf_paths.proofs.PathLemmas.{or_left, or_right, or_split}
 use Rattle.wf_order.specs.Indexes.{HaveSameIndexes, loops_any, loops_in, loops_round}
 use Rattle.wf_order.specs.Order.{Among, Before, around, around_any, around_in, up}
-use Rattle.wf_order.proofs.OrderLaws.{around-branch, around-branches, around-head, around-inner, around-rest, at_first, behind_first, branch_passed, clash, first_passed, in_first, kind_passed, moved, not_first, renamed, stands, two}
+use Rattle.wf_order.proofs.OrderLaws.{around-branch, around-branches, around-head, around-inner, around-rest, at_first, behind_first}
+use Rattle.wf_order.proofs.OrderLaws.{branch_passed, clash, first_passed, in_first, kind_passed, moved, not_first, renamed, stands, two}
 use Rattle.wf_order.proofs.RelationLemmas.{among-append, around_has, branch_has, kind_has, own_has}
 
 -- ---- actions of one graph
@@ -183,17 +187,17 @@ ancestor_level g once closed p a (more {q = q} f h) =
 
 -- ---- where an action stands whose container, or that itself, is known
 
-abbrev up_in : Kind → ℕ → List ℕ
+abbrev pub up_in : Kind → ℕ → List ℕ
 up_in kind x = around_in kind x ++ x ∷ []
 
-last_or : (xs : List ℕ) (x c : ℕ) → Among (xs ++ x ∷ []) c → Among xs c ⊎ (x ≡ c)
+pub last_or : (xs : List ℕ) (x c : ℕ) → Among (xs ++ x ∷ []) c → Among xs c ⊎ (x ≡ c)
 last_or xs x c among = elim (among-append xs (x ∷ []) c among) [
   | inl first ↦ inl first
   | inr last ↦ elim last [ inl is ↦ inr is | inr none ↦ elim none [ ] ]
 ]
 
 -- inside the first action
-inner_up : (n : ℕ) (after : List Need) (kind : Kind) (rest : Graph) → Once (add n after kind rest) → (x c : ℕ)
+pub inner_up : (n : ℕ) (after : List Need) (kind : Kind) (rest : Graph) → Once (add n after kind rest) → (x c : ℕ)
     → Among (up (add n after kind rest) x) c
     → holds kind c ≡ true → (holds kind x ≡ true) × Among (up_in kind x) c
 inner_up n after kind rest once x c among held = elim (stands n kind rest x) [
@@ -217,12 +221,12 @@ inner_up n after kind rest once x c among held = elim (stands n kind rest x) [
 ]
 
 -- or behind it
-record Behind (n : ℕ) (kind : Kind) (rest : Graph) (x c : ℕ) : Type 0 where
-  other : nat_eq n x ≡ false
-  out : holds kind x ≡ false
-  among : Among (up rest x) c
+pub record Behind (n : ℕ) (kind : Kind) (rest : Graph) (x c : ℕ) : Type 0 where
+  pub other : nat_eq n x ≡ false
+  pub out : holds kind x ≡ false
+  pub among : Among (up rest x) c
 
-rest_up : (n : ℕ) (after : List Need) (kind : Kind) (rest : Graph) → Once (add n after kind rest) → (x c : ℕ)
+pub rest_up : (n : ℕ) (after : List Need) (kind : Kind) (rest : Graph) → Once (add n after kind rest) → (x c : ℕ)
     → Among (up (add n after kind rest) x) c
     → has rest c ≡ true → Behind n kind rest x c
 rest_up n after kind rest once x c among there = elim (stands n kind rest x) [
@@ -250,10 +254,10 @@ rest_up n after kind rest once x c among there = elim (stands n kind rest x) [
 ]
 
 -- in the first branch, or in a later one
-abbrev up_any : Branches → ℕ → List ℕ
+abbrev pub up_any : Branches → ℕ → List ℕ
 up_any bs x = around_any bs x ++ x ∷ []
 
-branch_up : (b : Graph) (rest : Branches) → OnceAny (branch b rest) → (x c : ℕ) → Among (up_any (branch b rest) x) c → has b c ≡ true
+pub branch_up : (b : Graph) (rest : Branches) → OnceAny (branch b rest) → (x c : ℕ) → Among (up_any (branch b rest) x) c → has b c ≡ true
     → (has b x ≡ true) × Among (up b x) c
 branch_up b rest once x c among held = elim (two (has b x)) [
   | inl in_x ↦ (in_x, moved (up_any (branch b rest) x) (up b x) c (ap (λ (xs : List ℕ). xs ++ x ∷ []) (around-branch b rest x in_x)) among)
@@ -265,7 +269,7 @@ branch_up b rest once x c among held = elim (two (has b x)) [
       ]
 ]
 
-branches_up : (b : Graph) (rest : Branches) → OnceAny (branch b rest) → (x c : ℕ) → Among (up_any (branch b rest) x) c → has_any rest c
+pub branches_up : (b : Graph) (rest : Branches) → OnceAny (branch b rest) → (x c : ℕ) → Among (up_any (branch b rest) x) c → has_any rest c
     ≡ true
     → (has b x ≡ false) × Among (up_any rest x) c
 branches_up b rest once x c among there = elim (two (has b x)) [
@@ -320,13 +324,13 @@ owned (add n after kind rest) once i x c own among begins = elim (or_split (nat_
       ∙ owned rest once.3 i x c later behind'.among begins
 ]
 
-starts_front : (i k at : List ℕ) → starts (i ++ k) at ≡ true → starts i at ≡ true
+pub starts_front : (i k at : List ℕ) → starts (i ++ k) at ≡ true → starts i at ≡ true
 starts_front [] k at is = refl
 starts_front (a ∷ i) k [] is = is
 starts_front (a ∷ i) k (b ∷ at) is =
     let h = and_in (nat_eq a b) (starts (i ++ k) at) is in and_of (nat_eq a b) (starts i at) h.0 (starts_front i k at h.1)
 
-starts_more : (i j k at : List ℕ) → starts (i ++ (j ++ k)) at ≡ true → starts ((i ++ j) ++ k) at ≡ true
+pub starts_more : (i j k at : List ℕ) → starts (i ++ (j ++ k)) at ≡ true → starts ((i ++ j) ++ k) at ≡ true
 starts_more i j k at is = subst (λ (xs : List ℕ). starts xs at ≡ true) (sym (append_assoc i j k)) is
 
 pub within : (g : Graph) (i : List ℕ) (x : Address) → has g x.name ≡ true → starts i x.at ≡ true → is_within g i x ≡ true
@@ -334,20 +338,21 @@ within g i x there begins = and_of (has g x.name) (starts i x.at) there begins
 
 -- ---- what is before is earlier
 
-loops-inner : (n : ℕ) (after : List Need) (kind : Kind) (rest : Graph) (x y : ℕ) → holds kind x ≡ true → holds kind y ≡ true
+pub loops-inner : (n : ℕ) (after : List Need) (kind : Kind) (rest : Graph) (x y : ℕ) → holds kind x ≡ true → holds kind y ≡ true
     → loops_round (add n after kind rest) x y ≡ loops_in kind x y
 loops-inner n after kind rest x y one other =
     ap (λ (b : Bool). cond b (loops_in kind x y) (loops_round rest x y)) (and_of (holds kind x) (holds kind y) one other)
 
-loops-rest : (n : ℕ) (after : List Need) (kind : Kind) (rest : Graph) (x y : ℕ) → holds kind x ≡ false
+pub loops-rest : (n : ℕ) (after : List Need) (kind : Kind) (rest : Graph) (x y : ℕ) → holds kind x ≡ false
     → loops_round (add n after kind rest) x y ≡ loops_round rest x y
 loops-rest n after kind rest x y out = ap (λ (b : Bool). cond (b && holds kind y) (loops_in kind x y) (loops_round rest x y)) out
 
-loops-branch : (b : Graph) (rest : Branches) (x y : ℕ) → has b x ≡ true → has b y ≡ true → loops_any (branch b rest) x y ≡ loops_round b x y
+pub loops-branch : (b : Graph) (rest : Branches) (x y : ℕ) → has b x ≡ true → has b y ≡ true
+    → loops_any (branch b rest) x y ≡ loops_round b x y
 loops-branch b rest x y one other = ap (λ (c : Bool). cond c (loops_round b x y) (loops_any rest x y))
     (and_of (has b x) (has b y) one other)
 
-loops-branches : (b : Graph) (rest : Branches) (x y : ℕ) → has b x ≡ false → loops_any (branch b rest) x y ≡ loops_any rest x y
+pub loops-branches : (b : Graph) (rest : Branches) (x y : ℕ) → has b x ≡ false → loops_any (branch b rest) x y ≡ loops_any rest x y
 loops-branches b rest x y out = ap (λ (c : Bool). cond (c && has b y) (loops_round b x y) (loops_any rest x y)) out
 
 module _ (low : ℕ → ℕ → Type 0) (x y : Address) (one other : ℕ) (is : low one other) where
@@ -458,7 +463,7 @@ module _ (low : ℕ → ℕ → Type 0) (x y : Address) (one other : ℕ) (is : 
         inr (any_earlier rest once.2 i k side of_x.1 of_y.1 (count ∙ loops-branches b rest x.name y.name of_x.0) begins)
 
 -- what is in no graph has nothing round it
-around_none : (g : Graph) (m c : ℕ) → Among (up g m) c → has g c ≡ true → has g m ≡ true
+pub around_none : (g : Graph) (m c : ℕ) → Among (up g m) c → has g c ≡ true → has g m ≡ true
 around_none done m c among there = absurd (cc)
 around_none (add n after kind rest) m c among there = elim (stands n kind rest m) [
   | at_first is ↦ or_left (nat_eq n m || holds kind m) (has rest m) (or_left (nat_eq n m) (holds kind m) is)

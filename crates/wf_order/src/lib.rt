@@ -11,14 +11,18 @@
 //! graph and numbers are below their count, which is so in every definition that was read.
 //!
 //! Of iterations it says how many loops are round two actions (`specs/Indexes`): where the indexes in these are the same, what is before is
-//! seen in the sense of `wf_layers`; of two iterations of one loop the loop itself decides. It judges no definition.
+//! seen in the sense of `wf_layers`; of two iterations of one loop the loop itself decides. So where all loops round a writer of a variable
+//! go one iteration after the other (`specs/Turns`), accesses that are ordered or exclude each other as actions are so at all their
+//! addresses. It judges no definition.
 #![tactic(auto)]
 
+mod instances;
 mod laws;
 mod order;
 mod place;
 mod walk;
 
+pub use instances::{accesses_are_in_order, branches_exclude, no_loop_is_round_two, turns_decide};
 pub use laws::{
     before_is_an_order, order_is_exact, what_a_container_sees_is_seen_inside,
     what_is_before_is_seen, what_stands_inside_goes_along,
