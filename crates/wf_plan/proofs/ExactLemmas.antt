@@ -30,7 +30,7 @@ among_second : (q : ℕ) (ns ms : List ℕ) → is_among q ms ≡ true → is_am
 among_second q [] ms h = h
 among_second q (n ∷ ns) ms h = or_second (nat_eq n q) (is_among q (ns ++ ms)) (among_second q ns ms h)
 
-among_or : (q : ℕ) (ns ms : List ℕ) → is_among q (ns ++ ms) ≡ true → (is_among q ns ≡ true) ⊎ (is_among q ms ≡ true)
+pub among_or : (q : ℕ) (ns ms : List ℕ) → is_among q (ns ++ ms) ≡ true → (is_among q ns ≡ true) ⊎ (is_among q ms ≡ true)
 among_or q [] ms h = inr h
 among_or q (n ∷ ns) ms h =
     ⊎_elim (λ t. inl (or_first (nat_eq n q) (is_among q ns) t))
@@ -38,7 +38,7 @@ among_or q (n ∷ ns) ms h =
     (either (nat_eq n q) (is_among q (ns ++ ms)) h)
 
 -- one number, some times
-among_same : (q b k : ℕ) → is_among q (replicate k b) ≡ true → b ≡ q
+pub among_same : (q b k : ℕ) → is_among q (replicate k b) ≡ true → b ≡ q
 among_same q b zero h = absurd (true≢false (sym h))
 among_same q b (suc k) h = ⊎_elim (λ t. eqb-true b q t) (λ t. among_same q b k t) (either (nat_eq b q) (is_among q (replicate k b)) h)
 

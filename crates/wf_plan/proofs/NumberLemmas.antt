@@ -31,7 +31,7 @@ passed : (m : ℕ) (kind : Kind) (rest : Graph) → ((q : ℕ) → (nat_eq m q |
 passed m kind rest apart x there =
     neither (nat_eq m x) (holds kind x) (not_true (nat_eq m x || holds kind x) (λ t. true≢false (sym there ∙ apart x t)))
 
-once_last : (cases : CaseTrees) (b : Graph) → OnceAny (layered_cases cases (layers.branch b layers.no_branch)) → Once b
+pub once_last : (cases : CaseTrees) (b : Graph) → OnceAny (layered_cases cases (layers.branch b layers.no_branch)) → Once b
 once_last no_cases b once = once.1
 once_last (case_then name value graph rest) b once = once_last rest b once.2
 

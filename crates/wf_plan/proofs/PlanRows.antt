@@ -1,6 +1,6 @@
--- Worked rows of a plan. 0 waits for nothing; 1 is an If that waits for it, with 2 and behind it 3 in its first branch, and no action in the
--- other; 4 is a Foreach that waits for 0 and 1, and 5 is in it.
-use Rattle.std.proofs.Common.{◌≡◌, ℕ, true, false, List, [], ◌∷◌, Some, None, refl}
+-- Worked rows of a plan. 0 waits for nothing; 1 is an If that waits for it, with 2 and behind it 3 in its first branch, and no action in
+-- the other; 4 is a Foreach that waits for 0 and 1, and 5 is in it.
+use Rattle.std.proofs.Common.{◌≡◌, ℕ, true, false, List, [], ◌∷◌, Some, None, refl, true≢false}
 use Rattle.wf_layers.specs.Definition as layers
 use Rattle.wf_template.specs.CondTree.{CondTree}
 use Rattle.wf_template.specs.DataTree.{DataTree}
@@ -8,6 +8,7 @@ use Rattle.wf_def.specs.ActionTree.{ActionTree, action, KindTree, initialize, br
 use Rattle.wf_def.specs.AllActions.{all_actions}
 use Rattle.wf_def.specs.declared.after.After.{After}
 use Rattle.wf_def.specs.declared.after.Statuses.{Statuses}
+use Rattle.wf_plan.specs.Once.{AreApart, AreDistinct}
 use Rattle.wf_plan.specs.Plan as plan
 use Rattle.wf_plan.specs.Plan.{entry_for, followers_of, holder_of, plan_of}
 
@@ -75,3 +76,13 @@ module _ (test : CondTree) (items : DataTree) where
 
   whole : (plan_of graph).holders ≡ None ∷ None ∷ Some 1 ∷ Some 1 ∷ None ∷ Some 4 ∷ []
   whole = refl
+
+  apart : AreApart all
+  apart = (refl, (refl, (refl, (refl, (refl, (refl, tt))))))
+
+-- one that names another twice stands twice among those that wait for it
+twice : followers_of (one 7 (0 ∷ 0 ∷ []) (initialize []) ∷ []) 0 ≡ 7 ∷ 7 ∷ []
+twice = refl
+
+twice_is_not_once : AreDistinct (7 ∷ 7 ∷ []) → ⊥
+twice_is_not_once once = true≢false once.0

@@ -262,7 +262,8 @@ plan_made xs one two three f graph top es fs hs all first second third own e a h
     let as' = all_actions graph in
     let n = length as' in
     let entries = counted xs one f as' es (λ k bs. all_entered (replicate k None) bs) (entry_for as') all first e (entries_table n as') in
-    let followers = counted xs two f as' fs (λ k bs. all_added (replicate k []) bs) (followers_of as') all second a (followers_table n as') in
+    let followers = counted xs two f as' fs (λ k bs. all_added (replicate k []) bs) (followers_of as') all second a
+    (followers_table n as') in
     let holders = counted xs three f as' hs (λ k bs. all_held (replicate k None) bs) (holder_of as') all third h (holders_table n as') in
     ap (λ z. plan_with z es fs hs) own ∙ ap (λ z. plan_with (own_numbers (layered graph)) z fs hs) entries
     ∙ ap (λ z. plan_with (own_numbers (layered graph)) (tabled 0 n (entry_for as')) z hs) followers

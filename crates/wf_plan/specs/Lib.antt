@@ -2,3 +2,4 @@ pub mod Plan
 pub mod PlanSeen
 pub mod Walk
 pub mod Exact
+pub mod Once

@@ -1,12 +1,18 @@
-//! What a plan has in the words of the laws of order. The call tells a caller so, and does nothing.
+//! What a plan has in the words of the laws of order. Each call tells a caller so, and does nothing.
 ghost use Rattle.wf_layers.specs.Seen.{Once};
 ghost use Rattle.wf_def.specs.ActionTree.{ActionTrees};
 ghost use Rattle.wf_def.specs.AllActions.{all_actions};
 ghost use Rattle.wf_def.specs.Layered.{layered};
 ghost use Rattle.wf_plan.specs.Exact.{IsExact};
+ghost use Rattle.wf_plan.specs.Once.{StandOnce};
 
 /// Where each number stands once, what the list of all actions says of a number is what the graph does: what the action waits for, which
 /// graphs it holds, who waits for it, and what holds it.
 pub fn plans_are_exact()
     ensures { (graph : ActionTrees) → Once (layered graph) → IsExact (layered graph) (all_actions graph) }
+{}
+
+/// There all actions are apart, and where each names an action once at most, no number stands twice among those that wait for another.
+pub fn actions_stand_once()
+    ensures { (graph : ActionTrees) → Once (layered graph) → StandOnce graph }
 {}

@@ -13,6 +13,6 @@ mod plan;
 mod shape;
 mod tables;
 
-pub use laws::plans_are_exact;
+pub use laws::{actions_stand_once, plans_are_exact};
 pub use plan::{Entry, Plan, Wait};
 pub use shape::Shape;

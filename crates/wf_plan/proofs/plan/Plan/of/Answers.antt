@@ -8,4 +8,5 @@ returns c =
     plan_made c.in_ok-actions.actions.items c.deref.result.now c.deref-2.result.now c.deref-3.result.now (λ a. action_tree a.now)
     (graph_tree c.args.graph.now) c.in_ok-numbers_of.field-0.items (entries_seen c.in_ok-entries_of.field-0.items)
     (lists_of c.in_ok-followers_of.field-0.items) c.in_ok-holders_of.field-0.items c.in_ok-actions.ensures c.deref.ensures.value
-    c.deref-2.ensures.value c.deref-3.ensures.value c.in_ok-numbers_of.ensures c.in_ok-entries_of.ensures c.in_ok-followers_of.ensures c.in_ok-holders_of.ensures
+    c.deref-2.ensures.value c.deref-3.ensures.value c.in_ok-numbers_of.ensures c.in_ok-entries_of.ensures c.in_ok-followers_of.ensures
+    c.in_ok-holders_of.ensures
