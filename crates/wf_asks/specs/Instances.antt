@@ -1,5 +1,5 @@
 -- Instances of actions: their order, and lists by instances as tables.
-use Rattle.std.specs.Prelude.{ℕ, List, ◌∷◌, Bool, Option, option_map}
+use Rattle.std.specs.Prelude.{ℕ, List, ◌∷◌, Bool, option_map}
 use Rattle.std.specs.Cmp.{IsTotalOrder}
 use Rattle.std.specs.Cmp.Lexicographic.{slice_cmp}
 use Rattle.std.specs.Ordering.{nat_cmp, eq_by_cmp}

@@ -1,12 +1,12 @@
 //! What an engine keeps of a state beside its tables, so that no event looks at more than it changes.
 //!
 //! The machine of `wf_layers` says which event each action has by walking over what the action waits for and over the graphs that it
-//! holds. An engine that did so at each step would take a time that grows with the square of a run. So it keeps counts: of each action of
-//! an open graph, how much it still waits for; of each graph in an open container, how many of its actions lack a row (`specs/Counted`);
-//! and of a Foreach, how many begun iterations aren't finished. By these the event of an action is told without a walk (`specs/Event`), and the
-//! ready set, which has the enabled events, is looked at anew at a few addresses alone (`specs/Ready`). The laws say, of each kind of event
-//! and whatever the source of answers is, what an engine has to change so that all of it is that of the next state. They hold of each state
-//! that is reached (`specs/Reached`), by a run that begins or by one that goes on from an old record.
+//! holds. An engine that did so at each step would take a time that grows with the square of a run. So it keeps counts: of each action
+//! of an open graph, how much it still waits for; of each graph in an open container, how many of its actions lack a row
+//! (`specs/Counted`); and of a Foreach, how many begun iterations aren't finished. By these the event of an action is told without a walk
+//! (`specs/Event`), and the ready set, which has the enabled events, is looked at anew at a few addresses alone (`specs/Ready`). The laws
+//! say, of each kind of event and whatever the source of answers is, what an engine has to change so that all of it is that of the next
+//! state. They hold of each state that is reached (`specs/Reached`), by a run that begins or by one that goes on from an old record.
 //!
 //! It has no code. Each public function has an empty body, and its contract is a law. How an engine keeps its counts, and that it changes
 //! them as said here, is the engine's part.
@@ -87,8 +87,8 @@ pub fn followers_are_there<Row, Begun, Decision, Verdict>()
         → (q : ℕ) → is_named (needs_of d q) n ≡ true → (before : List Need) × (other : Kind) × IsThere d m s q i before other }
 {}
 
-/// A ready set that is looked at anew at some addresses, and left alone elsewhere, is that of the new state, where each of them stands in an
-/// open graph, and each that stands there and may have changed is one of them.
+/// A ready set that is looked at anew at some addresses, and left alone elsewhere, is that of the new state, where each of them stands in
+/// an open graph, and each that stands there and may have changed is one of them.
 pub fn the_ready_set_is_refreshed<Row, Begun, Decision, Verdict>()
     ensures { (d : Graph) (depth : ℕ → ℕ) (m : Source Row Begun Decision Verdict) (s : State Row Begun Decision Verdict)
         → IsReached d depth m s → (e : Event) (s' : State Row Begun Decision Verdict) → Step d m s e s'

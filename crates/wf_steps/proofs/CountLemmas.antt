@@ -42,7 +42,8 @@ found_there k (x ∷ xs) c e =
 -- a count of more than one is kept
 pub kept_count : (k : Instance) (xs : List CountAt) → 1 < or_zero (count_in xs (address_of k))
     → find_key instance_cmp place_of k xs ≡ None → ⊥
-kept_count k xs more none = let z : or_zero (count_in xs (address_of k)) ≡ 0 = ap (λ o. or_zero (option_map (λ (c : CountAt). c.count) o)) none in
+kept_count k xs more none = let z : or_zero (count_in xs (address_of k))
+    ≡ 0 = ap (λ o. or_zero (option_map (λ (c : CountAt). c.count) o)) none in
     omega (arith, more, z)
 
 some_kept : (o : Option ℕ) → 1 < or_zero o → less 1 o ≡ Some (or_zero o - 1)

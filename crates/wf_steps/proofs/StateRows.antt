@@ -15,7 +15,7 @@ use Rattle.wf_steps.specs.declared.entries.OpenAt.{OpenAt}
 abbrev at : ℕ → List ℕ → Instance
 at n i = record { action = n; at = i }
 
--- 0 has ended; 1 is a Foreach with a begun iteration, in which 2 runs and made an attempt; 3 waits for both
+-- 0 has ended; 1 is open with two begun iterations, in the first of which 2 runs and made an attempt; 3 waits for both
 abbrev rows : List (RowAt ℕ)
 rows = record { instance = at 0 []; row = 7 } ∷ []
 
@@ -23,7 +23,7 @@ abbrev running : List (LeafAt ℕ)
 running = record { instance = at 2 (0 ∷ []); begun = 5; tries = 1 } ∷ []
 
 abbrev opens : List (OpenAt ℕ Bool)
-opens = record { instance = at 1 []; decision = 3; next = 1; test = None; unfinished = 1 } ∷ []
+opens = record { instance = at 1 []; decision = 3; next = 2; test = Some true; unfinished = 1 } ∷ []
 
 abbrev waits : List CountAt
 waits = record { instance = at 3 []; count = 1 } ∷ []
@@ -46,7 +46,7 @@ runs = refl
 runs_in_no_other : s.running (address 2 (1 ∷ [])) ≡ None
 runs_in_no_other = refl
 
-is_open : s.opens (address 1 []) ≡ Some (record { decision = 3; next = 1; test = None })
+is_open : s.opens (address 1 []) ≡ Some (record { decision = 3; next = 2; test = Some true })
 is_open = refl
 
 not_open : s.opens (address 2 (0 ∷ [])) ≡ None

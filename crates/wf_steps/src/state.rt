@@ -42,7 +42,8 @@ impl<'a, A: Acts> Model for State<'a, A> {
 
 // What happens next to a leaf that starts: an attempt, or its end.
 fn next_kind<A: Acts>(acts: &A, place: &Instance, begun: &A::Begun, made: u64) -> EventKind
-    ensures { result ≡ cond (nat_lt made ((A.source acts.now).tries (address_of place.now) (A.begun_tree begun.now))) EventKind.Try EventKind.End }
+    ensures { result ≡ cond (nat_lt made ((A.source acts.now).tries (address_of place.now) (A.begun_tree begun.now))) EventKind.Try
+        EventKind.End }
 {
     if acts.has_try(place, begun, made) {
         EventKind::Try

@@ -12,6 +12,7 @@ invariant-loop-action l =
       distinct : AreDistinct rest;
       place : l.next.at ≡ l.fn.place.at;
       room : l.fn.counts.1 ≤ l.counts.1;
-      counts : (x : Address) → cond (is_among x.name rest && same_at l.fn.place.at x.at) (less 1 (count_in l.counts.0 x)) (count_in l.counts.0 x)
+      counts : (x : Address)
+          → cond (is_among x.name rest && same_at l.fn.place.at x.at) (less 1 (count_in l.counts.0 x)) (count_in l.counts.0 x)
           ≡ cond (is_among x.name l.followers && same_at l.fn.place.at x.at) (less 1 (count_in l.fn.counts.0 x)) (count_in l.fn.counts.0 x);
     }
