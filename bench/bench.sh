@@ -2,8 +2,9 @@
 # Times `wflow run` beside `jq -c .` on the same definition, and prints the ratio of the two, on definitions that run and on ones that
 # are refused after all rules were looked at, or that were made to be dear for one rule; then `wflow check` beside it, on definitions that
 # name much, with how the time grows from a half of them on; then `wflow run` on large inputs beside it on these; then `wflow trace` beside
-# `wflow run`, and how its time grows. Then times the parsing of texts as templates by itself, beside reading their bytes alone, with the
-# ratio of these two, and beside `jq -c .` on the same text as JSON. Then times functions on long texts beside Python's own,
+# `wflow run`, and how its time grows; then `wflow list` on large histories beside it on these. Then times the parsing of texts as
+# templates by itself, beside reading their bytes alone, with the ratio of these two, and beside `jq -c .` on the same text as JSON. Then
+# times functions on long texts beside Python's own,
 # functions on lists and objects beside jq's, once by what a call costs and once by whole runs on both sides, and what templates come to, in
 # the looks of rows, beside `jq -c .` on the same rows.
 #
@@ -221,6 +222,28 @@ for name, whole, count in shapes:
     ours = least(trace)
     print("%-34s %9.3f %9.3f %7.1f %5d MiB  %.40s" % (
         name, least([program, "run"] + trace[2:4]), ours, ours / least(half), memory(trace), said))
+
+# Histories of 64 MiB, of many small records and of fewer large ones, beside jq on the same lines.
+def kept(count, value):
+    row = {"at": [], "attempts": [200], "code": "OK", "error": None, "inputs": value, "outputs": value, "status": "Succeeded", "tracked": {}}
+    left = {"definition": "0" * 64, "error": None, "form": 2, "outputs": {}, "parameters": {}, "response": None, "status": "Succeeded",
+            "trigger": {"name": None, "outputs": None}}
+    path = os.path.join(folder, "history")
+    with open(path, "w") as out:
+        for k in range(count):
+            rows = [row | {"name": name} for name in ("A", "B", "C")]
+            out.write(json.dumps(left | {"rows": rows, "run": "r%d" % k}, separators=(",", ":"), sort_keys=True) + "\n")
+    return path
+
+
+print()
+print("%-34s %9s %9s %9s %7s %9s  %s" % ("listed", "bytes", "wflow s", "jq s", "ratio", "memory", "said"))
+for name, count, value in (("100,000 records", 100000, None), ("1,000 records", 1000, [{"id": k, "open": True} for k in range(470)])):
+    path = kept(count, value)
+    said = subprocess.run([program, "list", path], stdout=subprocess.PIPE).stdout.decode().splitlines()[-1]
+    ours, theirs = least([program, "list", path]), least(["jq", "-c", ".", path])
+    print("%-34s %9d %9.3f %9.3f %7.1f %5d MiB  %.40s" % (
+        name, os.path.getsize(path), ours, theirs, ours / theirs, memory([program, "list", path]), said))
 
 # What each text is parsed as is told too, so that a parser that gives up early can't be taken for a fast one.
 program = os.path.join(top, "crates", "template_rows", "out", "template_rows")

@@ -8,6 +8,7 @@ import json
 import re
 import sys
 
+import histories
 from fuzz import wanted
 
 USAGE = (
@@ -16,7 +17,7 @@ USAGE = (
     " | list HISTORY | drill N | session DEF INPUTS | fires DEF TRIGGER FROM N\n"
 )
 # How many words each command has; and what is read, with bytes that it can't be.
-COUNTS = {"check": (2,), "run": (3, 4), "trace": (4,)}
+COUNTS = {"check": (2,), "run": (3, 4), "trace": (4,), "list": (2,)}
 ESCAPED = {"n": "\n", "r": "\r", "t": "\t", "\\": "\\"}
 STAGES = [(b"definition", b""), (b"inputs", b""), (b"schedule", b"\n")]
 
@@ -44,6 +45,8 @@ def said(files, words):
         return 2, USAGE.encode()
     command, held = words[0], []
     try:
+        if command == "list":
+            return histories.said(files.read(words[1]))
         for name, (next_stage, _) in zip(words[1:-1], STAGES[1:]):
             held.append(files.read(name))
             refused = wanted(command, *held, *(unfit for _, unfit in STAGES[len(held):]))
@@ -83,7 +86,7 @@ def main():
         elif word == "words":
             files = Files(held, trouble.get("read"))
             status, whole = said(files, rest.split())
-            part = taken(whole, trouble.get("pieces", len(whole)), trouble.get("write", 0))
+            part = taken(whole, trouble.get("pieces", len(whole) or 1), trouble.get("write", 0))
             cut = part != whole
             print("words %s: status %d, failed reads %d, failed writes %d, left in the source %d" % (
                 rest, 4 if cut else status, files.faults, cut, len("untouched")))

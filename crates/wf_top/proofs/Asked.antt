@@ -11,9 +11,10 @@ use Rattle.wf_outside.specs.Outside.{Held}
 use Rattle.wf_top.specs.Plan.{Plan, Says, Reads, ComesTo, AsksAmong}
 use Rattle.wf_answers.specs.Inputs.{InputsTree}
 use Rattle.wf_def.specs.DefTree.{DefTree}
-use Rattle.wf_top.specs.Form.{definition_form, inputs_form, schedule_form}
+use Rattle.wf_history.specs.History.{ListedTree}
+use Rattle.wf_top.specs.Form.{definition_form, inputs_form, listing_form, schedule_form}
 use Rattle.wf_top.specs.Commands.{plan, plan_of, accepted, judged_definition, judged_inputs, judged_schedule, made_runs, run, scheduled}
-use Rattle.wf_top.specs.Commands.{text_of_runs}
+use Rattle.wf_top.specs.Commands.{judged_history, text_of_runs}
 use Rattle.wf_top.specs.Served.{FailedAt}
 use Rattle.wf_top.specs.Words.{command_of, is_traced, makes_runs, schedule_word, word}
 use Rattle.wf_top.specs.declared.words.Command.{Command}
@@ -71,12 +72,16 @@ run_length words is = grind (arith, common_steps)
 trace_length : (words : List (List ℕ)) → command_of words ≡ Some Trace → 3 < length words
 trace_length words is = grind (arith, common_steps)
 
+list_length : (words : List (List ℕ)) → command_of words ≡ Some Command.List → 1 < length words
+list_length words is = grind (arith, common_steps)
+
 -- each command that makes runs has a second file
 pub second_length : (command : Command) (words : List (List ℕ)) → makes_runs command ≡ true → command_of words ≡ Some command
     → 2 < length words
 second_length Check words makes is = absurd (cc)
 second_length Run words makes is = run_length words is
 second_length Trace words makes is = let more : 3 < length words = trace_length words is in omega arith
+second_length Command.List words makes is = absurd (cc)
 
 run_asks : (words : List (List ℕ)) (traced : Bool) (d : DefTree) → 2 < length words →
     AsksAmong words (run traced (word words 2) (schedule_word words) d)
@@ -90,6 +95,7 @@ accepted_asks : (command : Command) (words : List (List ℕ)) (d : DefTree) → 
 accepted_asks Check words d is = tt
 accepted_asks Run words d is = run_asks words (is_traced Run) d (second_length Run words refl is)
 accepted_asks Trace words d is = run_asks words (is_traced Trace) d (second_length Trace words refl is)
+accepted_asks Command.List words d is = tt
 
 definition_asks : (command : Command) (words : List (List ℕ)) (form : Result DefTree FormFault) → command_of words ≡ Some command →
     AsksAmong words (judged_definition command words form)
@@ -101,9 +107,18 @@ some_length : (command : Command) (words : List (List ℕ)) → command_of words
 some_length Check words is = check_length words is
 some_length Run words is = let more : 2 < length words = second_length Run words refl is in omega arith
 some_length Trace words is = let more : 2 < length words = second_length Trace words refl is in omega arith
+some_length Command.List words is = list_length words is
+
+history_asks : (words : List (List ℕ)) (form : Result (List ListedTree) FormFault) → AsksAmong words (judged_history form)
+history_asks words (Ok listing) = tt
+history_asks words (Err fault) = tt
 
 plan_asks : (command : Command) (words : List (List ℕ)) → command_of words ≡ Some command → AsksAmong words (plan command words)
 unfolding plan
+plan_asks Command.List words is = (
+  Contains-get_or words 1 [] (list_length words is),
+  λ file. history_asks words (listing_form file),
+)
 plan_asks command words is = (
   Contains-get_or words 1 [] (some_length command words is),
   λ file. definition_asks command words (definition_form command file) is,

@@ -7,17 +7,18 @@ use Rattle.std.specs.Io.KnownBytes.{Appends}
 use Rattle.wf_answers.specs.Inputs.{InputsTree}
 use Rattle.wf_def.specs.DefTree.{DefTree}
 use Rattle.wf_outside.specs.Outside.{Held, IsCalm}
-use Rattle.wf_top.specs.Commands.{accepted, accepted_line, judged_definition, judged_inputs, judged_schedule, made_runs, plan, plan_of, run}
-use Rattle.wf_top.specs.Commands.{scheduled, text_of_runs, too_large}
+use Rattle.wf_history.specs.History.{ListedTree}
+use Rattle.wf_top.specs.Commands.{accepted, accepted_line, defined, judged_definition, judged_history, judged_inputs, judged_schedule}
+use Rattle.wf_top.specs.Commands.{listing_text, made_runs, plan, plan_of, run, scheduled, text_of_runs, too_large}
 use Rattle.wf_top.specs.Fault.{fault_line}
-use Rattle.wf_top.specs.Form.{definition_form, inputs_form, schedule_form}
+use Rattle.wf_top.specs.Form.{definition_form, inputs_form, listing_form, schedule_form}
 use Rattle.wf_plain.specs.Plain.{plain_of}
 use Rattle.wf_printed.proofs.RunLemmas.{never_memory}
-use Rattle.wf_top.specs.Limits.{definition_bytes, inputs_bytes, schedule_bytes}
+use Rattle.wf_top.specs.Limits.{definition_bytes, history_bytes, inputs_bytes, schedule_bytes}
 use Rattle.wf_top.specs.Plan.{Plan, Reads, MaySay, MayGive, said_by, within}
-use Rattle.wf_top.specs.Ran.{Checked, GivesDefinition, GivesInputs, GivesNumbers, GivesSchedule, Holds, HoldsDefinition, HoldsSchedule}
-use Rattle.wf_top.specs.Ran.{IsGiven, IsWhole, PassesAll, Ran}
-use Rattle.wf_top.specs.Ran.{RefusedCost, RefusedDefinition, RefusedInputs, RefusedSchedule, RefusedTrigger}
+use Rattle.wf_top.specs.Ran.{Checked, GivesDefinition, GivesHistory, GivesInputs, GivesNumbers, GivesSchedule, Holds, HoldsDefinition}
+use Rattle.wf_top.specs.Ran.{HoldsHistory, HoldsSchedule, IsGiven, IsWhole, Listed, PassesAll, Ran}
+use Rattle.wf_top.specs.Ran.{RefusedCost, RefusedDefinition, RefusedHistory, RefusedInputs, RefusedSchedule, RefusedTrigger}
 use Rattle.wf_top.proofs.Outcomes.{misused_at}
 use Rattle.wf_top.specs.Served.{Comes, Outcome, IsSaid, Misused, Serves, Speaks, Spent, Unread, Writes, number, said_of, say, status_of}
 use Rattle.wf_top.specs.Served.{text_of}
@@ -53,6 +54,10 @@ data CommandOutcome (held : Held) (words : List (List ℕ)) (status : ℕ) (text
   costs : (command : Command) (d : DefTree) (inputs : InputsTree) (schedule : List ℕ) → IsGiven held words command d inputs →
       GivesSchedule held words (Ok schedule) → status ≡ 8 →
       text_of_runs (is_traced command) d inputs schedule ≡ Err RunsFault.TooLarge → text ≡ too_large →
+      CommandOutcome held words status text
+  no_history : (fault : FormFault) → GivesHistory held words (Err fault) → status ≡ 7 → text ≡ fault_line (codes "history ") fault →
+      CommandOutcome held words status text
+  lists : (listing : List ListedTree) → GivesHistory held words (Ok listing) → status ≡ 0 → text ≡ listing_text listing →
       CommandOutcome held words status text
 
 -- want of memory is no fault of runs
@@ -101,23 +106,40 @@ module _ (held : Held) (words : List (List ℕ)) (verdict : Verdict) (text : Lis
     after_inputs makes given file may (Err fault) is saying =
         no_inputs command d fault makes given (file, may, is) (ap number saying.0) saying.1
 
-  after_accepted : (command : Command) (d : DefTree) → GivesDefinition held words command (Ok d) →
-      MaySay held (accepted command words d) verdict text → Ends
-  after_accepted Check d given saying = checks d given (ap number saying.0) saying.1
-  after_accepted Run d given saying = after_inputs Run d refl given saying.0 saying.1 (inputs_form saying.0) refl saying.2
-  after_accepted Trace d given saying = after_inputs Trace d refl given saying.0 saying.1 (inputs_form saying.0) refl saying.2
+  -- a command that has a definition
+  abbrev IsOfDefinition : Command → Type 0
+  IsOfDefinition command = command ≡ Command.List → ⊥
 
-  after_definition : (command : Command) → command_of words ≡ Some command → (file : Option (List ℕ)) →
+  after_accepted : (command : Command) (d : DefTree) → IsOfDefinition command → GivesDefinition held words command (Ok d) →
+      MaySay held (accepted command words d) verdict text → Ends
+  after_accepted Check d has given saying = checks d given (ap number saying.0) saying.1
+  after_accepted Run d has given saying = after_inputs Run d refl given saying.0 saying.1 (inputs_form saying.0) refl saying.2
+  after_accepted Trace d has given saying = after_inputs Trace d refl given saying.0 saying.1 (inputs_form saying.0) refl saying.2
+  after_accepted Command.List d has given saying = absurd (has refl)
+
+  after_definition : (command : Command) → IsOfDefinition command → command_of words ≡ Some command → (file : Option (List ℕ)) →
       MayGive held (word words 1) definition_bytes file → (form : Result DefTree FormFault) → definition_form command file ≡ form →
       MaySay held (judged_definition command words form) verdict text → Ends
-  after_definition command names file may (Ok d) is saying = after_accepted command d (names, (file, may, is)) saying
-  after_definition command names file may (Err fault) is saying =
+  after_definition command has names file may (Ok d) is saying = after_accepted command d has (names, (file, may, is)) saying
+  after_definition command has names file may (Err fault) is saying =
       no_definition command fault (names, (file, may, is)) (ap number saying.0) saying.1
+
+  definition_comes : (command : Command) → IsOfDefinition command → command_of words ≡ Some command →
+      MaySay held (defined (word words 1) command words) verdict text → Ends
+  definition_comes command has names saying =
+      after_definition command has names saying.0 saying.1 (definition_form command saying.0) refl saying.2
+
+  after_history : command_of words ≡ Some Command.List → (file : Option (List ℕ)) → MayGive held (word words 1) history_bytes file →
+      (form : Result (List ListedTree) FormFault) → listing_form file ≡ form → MaySay held (judged_history form) verdict text → Ends
+  after_history names file may (Ok listing) is saying = lists listing (names, (file, may, is)) (ap number saying.0) saying.1
+  after_history names file may (Err fault) is saying = no_history fault (names, (file, may, is)) (ap number saying.0) saying.1
 
   command_comes : (command : Command) → command_of words ≡ Some command → MaySay held (plan command words) verdict text → Ends
   unfolding plan
-  command_comes command names saying =
-      after_definition command names saying.0 saying.1 (definition_form command saying.0) refl saying.2
+  command_comes Check names saying = definition_comes Check (λ is. cc) names saying
+  command_comes Run names saying = definition_comes Run (λ is. cc) names saying
+  command_comes Trace names saying = definition_comes Trace (λ is. cc) names saying
+  command_comes Command.List names saying = after_history names saying.0 saying.1 (listing_form saying.0) refl saying.2
 
 -- What was said, and what it says of the files: its status was answered, and its text taken.
 record Spoke (held : Held) (words : List (List ℕ)) (before after : Option (List ℕ)) (result : ℕ) : Type 0 where
@@ -166,6 +188,9 @@ module _ (held : Held) (words : List (List ℕ)) (old new : List (List ℕ)) (be
   six_spoken : result ≡ 6 → IsSpoken result
   six_spoken is = (λ h. omega arith, λ h. omega arith, λ h. omega arith, λ h. omega arith)
 
+  seven_spoken : result ≡ 7 → IsSpoken result
+  seven_spoken is = (λ h. omega arith, λ h. omega arith, λ h. omega arith, λ h. omega arith)
+
   eight_spoken : result ≡ 8 → IsSpoken result
   eight_spoken is = (λ h. omega arith, λ h. omega arith, λ h. omega arith, λ h. omega arith)
 
@@ -186,6 +211,9 @@ module _ (held : Held) (words : List (List ℕ)) (old new : List (List ℕ)) (be
       )
   checked_by names zero text written (no_run command d inputs schedule fault given timed is made said) = absurd (omega (arith, zero, is))
   checked_by names zero text written (costs command d inputs schedule given timed is made said) = absurd (omega (arith, zero, is))
+  checked_by names zero text written (no_history fault given is said) = absurd (omega (arith, zero, is))
+  checked_by names zero text written (lists listing given is said) =
+      absurd (let e : Check ≡ Command.List = one_command _ _ names given.0 in cc)
 
   pub serves_checked : HasServed → command_of words ≡ Some Check → result ≡ 0 → Checked held words before after
   serves_checked serves names zero =
@@ -211,6 +239,9 @@ module _ (held : Held) (words : List (List ℕ)) (old new : List (List ℕ)) (be
         })
     ran_by names zero text written (no_run c d inputs schedule fault given timed is made said) = absurd (omega (arith, zero, is))
     ran_by names zero text written (costs c d inputs schedule given timed is made said) = absurd (omega (arith, zero, is))
+    ran_by names zero text written (no_history fault given is said) = absurd (omega (arith, zero, is))
+    ran_by names zero text written (lists listing given is said) =
+        absurd (let e : Command.List ≡ command = one_command _ _ given.0 names in cc)
 
     pub serves_ran : HasServed → command_of words ≡ Some command → result ≡ 0 → Ran held words command before after
     serves_ran serves names zero = let s = spoke serves (zero_spoken zero) in ran_by names zero s.text s.written s.says
@@ -225,6 +256,8 @@ module _ (held : Held) (words : List (List ℕ)) (old new : List (List ℕ)) (be
   definition_by one text written (runs command d inputs schedule given timed is made) = absurd (omega (arith, one, is))
   definition_by one text written (no_run command d inputs schedule fault given timed is made said) = absurd (omega (arith, one, is))
   definition_by one text written (costs command d inputs schedule given timed is made said) = absurd (omega (arith, one, is))
+  definition_by one text written (no_history fault given is said) = absurd (omega (arith, one, is))
+  definition_by one text written (lists listing given is said) = absurd (omega (arith, one, is))
 
   pub serves_definition : HasServed → result ≡ 1 → RefusedDefinition held words before after
   serves_definition serves one = let s = spoke serves (one_spoken one) in definition_by one s.text s.written s.says
@@ -268,6 +301,8 @@ module _ (held : Held) (words : List (List ℕ)) (old new : List (List ℕ)) (be
     },
   ))
   inputs_by six text written (costs command d inputs schedule given timed is made said) = absurd (omega (arith, six, is))
+  inputs_by six text written (no_history fault given is said) = absurd (omega (arith, six, is))
+  inputs_by six text written (lists listing given is said) = absurd (omega (arith, six, is))
 
   pub serves_inputs : HasServed → result ≡ 6 → RefusedSix
   serves_inputs serves six = let s = spoke serves (six_spoken six) in inputs_by six s.text s.written s.says
@@ -290,9 +325,47 @@ module _ (held : Held) (words : List (List ℕ)) (old new : List (List ℕ)) (be
     runs_refused = made;
     written = rw said at written;
   }
+  cost_by eight text written (no_history fault given is said) = absurd (omega (arith, eight, is))
+  cost_by eight text written (lists listing given is said) = absurd (omega (arith, eight, is))
 
   pub serves_cost : HasServed → result ≡ 8 → RefusedCost held words before after
   serves_cost serves eight = let s = spoke serves (eight_spoken eight) in cost_by eight s.text s.written s.says
+
+  listed_by : command_of words ≡ Some Command.List → result ≡ 0 → (text : List ℕ) → Appends before after text →
+      CommandOutcome held words result text → Listed held words before after
+  listed_by names zero text written (no_definition command fault given is said) = absurd (omega (arith, zero, is))
+  listed_by names zero text written (checks d given is said) =
+      absurd (let e : Check ≡ Command.List = one_command _ _ given.0 names in cc)
+  listed_by names zero text written (no_inputs command d fault makes given handed is said) = absurd (omega (arith, zero, is))
+  listed_by names zero text written (no_schedule command d inputs fault given timed is said) = absurd (omega (arith, zero, is))
+  listed_by names zero text written (runs command d inputs schedule given timed is made) = absurd (
+      let e : Command.List ≡ command = one_command _ _ names given.definition_given.0 in
+      let makes : makes_runs command ≡ true = given.makes in cc
+      )
+  listed_by names zero text written (no_run command d inputs schedule fault given timed is made said) = absurd (omega (arith, zero, is))
+  listed_by names zero text written (costs command d inputs schedule given timed is made said) = absurd (omega (arith, zero, is))
+  listed_by names zero text written (no_history fault given is said) = absurd (omega (arith, zero, is))
+  listed_by names zero text written (lists listing given is said) =
+      record { listing = listing; history_given = given; written = rw said at written }
+
+  pub serves_listed : HasServed → command_of words ≡ Some Command.List → result ≡ 0 → Listed held words before after
+  serves_listed serves names zero = let s = spoke serves (zero_spoken zero) in listed_by names zero s.text s.written s.says
+
+  history_by : result ≡ 7 → (text : List ℕ) → Appends before after text → CommandOutcome held words result text →
+      RefusedHistory held words before after
+  history_by seven text written (no_definition command fault given is said) = absurd (omega (arith, seven, is))
+  history_by seven text written (checks d given is said) = absurd (omega (arith, seven, is))
+  history_by seven text written (no_inputs command d fault makes given handed is said) = absurd (omega (arith, seven, is))
+  history_by seven text written (no_schedule command d inputs fault given timed is said) = absurd (omega (arith, seven, is))
+  history_by seven text written (runs command d inputs schedule given timed is made) = absurd (omega (arith, seven, is))
+  history_by seven text written (no_run command d inputs schedule fault given timed is made said) = absurd (omega (arith, seven, is))
+  history_by seven text written (costs command d inputs schedule given timed is made said) = absurd (omega (arith, seven, is))
+  history_by seven text written (no_history fault given is said) =
+      record { fault = fault; history_given = given; written = rw said at written }
+  history_by seven text written (lists listing given is said) = absurd (omega (arith, seven, is))
+
+  pub serves_history : HasServed → result ≡ 7 → RefusedHistory held words before after
+  serves_history serves seven = let s = spoke serves (seven_spoken seven) in history_by seven s.text s.written s.says
 
 -- ---- completeness
 
@@ -303,15 +376,35 @@ read_on : (bytes_of : List ℕ → Option (List ℕ)) (name : List ℕ) (limit :
 read_on bytes_of name limit next bytes is = ap (λ file. option_and_then (λ bs. said_by bytes_of (next (within limit bs))) file) is
 
 module _ (bytes_of : List ℕ → Option (List ℕ)) (words : List (List ℕ)) where
-  -- a command goes on with the definition that DEF holds
-  plan_said : (command : Command) (d : DefTree) → HoldsDefinition bytes_of words command d →
-      said_by bytes_of (plan command words) ≡ said_by bytes_of (accepted command words d)
-  unfolding plan
-  plan_said command d holds =
+  -- a command that has a definition goes on with the one that DEF holds
+  definition_said : (command : Command) (d : DefTree) → HoldsDefinition bytes_of words command d →
+      said_by bytes_of (defined (word words 1) command words) ≡ said_by bytes_of (accepted command words d)
+  definition_said command d holds =
       let file = holds.held in
       read_on bytes_of (word words 1) definition_bytes (λ file. judged_definition command words (definition_form command file))
       file.0 file.1
       ∙ ap (λ found. said_by bytes_of (judged_definition command words found)) file.2
+
+  -- `check` and the commands that make runs have a definition
+  check_plan : plan Check words ≡ defined (word words 1) Check words
+  unfolding plan
+  check_plan = refl
+
+  runs_plan : (command : Command) → makes_runs command ≡ true → plan command words ≡ defined (word words 1) command words
+  unfolding plan
+  runs_plan Check makes = refl
+  runs_plan Run makes = refl
+  runs_plan Trace makes = refl
+  runs_plan Command.List makes = absurd (cc)
+
+  -- `list` lists the records that HISTORY holds
+  list_said : (listing : List ListedTree) → HoldsHistory bytes_of words listing →
+      said_by bytes_of (plan Command.List words) ≡ Some (Done, listing_text listing)
+  unfolding plan
+  list_said listing holds =
+      let file = holds.held in
+      read_on bytes_of (word words 1) history_bytes (λ file. judged_history (listing_form file)) file.0 file.1
+      ∙ ap (λ found. said_by bytes_of (judged_history found)) file.2
 
   -- the runs are made under the schedule that SCHEDULE holds
   schedule_said : (traced : Bool) (d : DefTree) (inputs : InputsTree) (named : Option (List ℕ)) (schedule : List ℕ) →
@@ -336,6 +429,7 @@ module _ (bytes_of : List ℕ → Option (List ℕ)) (words : List (List ℕ)) w
   accepted_said Check d makes = absurd (cc)
   accepted_said Run d makes = refl
   accepted_said Trace d makes = refl
+  accepted_said Command.List d makes = absurd (cc)
 
   -- what the words say, by the plan of their command
   say_by : (command : Command) (text : List ℕ) → command_of words ≡ Some command →
@@ -345,7 +439,11 @@ module _ (bytes_of : List ℕ → Option (List ℕ)) (words : List (List ℕ)) w
       ∙ ap (λ (outcome : Option (Verdict × List ℕ)). option_map (λ s. (number s.0, s.1)) outcome) said
 
   says_accepted : (d : DefTree) → HoldsDefinition bytes_of words Check d → say bytes_of words ≡ Some (0, accepted_line d)
-  says_accepted d holds = say_by Check (accepted_line d) holds.names (plan_said Check d holds)
+  says_accepted d holds =
+      say_by Check (accepted_line d) holds.names (ap (λ p. said_by bytes_of p) check_plan ∙ definition_said Check d holds)
+
+  says_listed : (listing : List ListedTree) → HoldsHistory bytes_of words listing → say bytes_of words ≡ Some (0, listing_text listing)
+  says_listed listing holds = say_by Command.List (listing_text listing) holds.names (list_said listing holds)
 
   says_runs : (text : List ℕ) → PassesAll bytes_of words text → say bytes_of words ≡ Some (0, text)
   says_runs text passes =
@@ -353,7 +451,8 @@ module _ (bytes_of : List ℕ → Option (List ℕ)) (words : List (List ℕ)) w
       let d = passes.definition in
       let traced = is_traced command in
       say_by command text passes.definition_held.names
-      (plan_said command d passes.definition_held
+      (ap (λ p. said_by bytes_of p) (runs_plan command passes.makes)
+      ∙ definition_said command d passes.definition_held
       ∙ ap (λ p. said_by bytes_of p) (accepted_said command d passes.makes)
       ∙ run_said traced d passes.inputs passes.inputs_held
       ∙ schedule_said traced d passes.inputs (schedule_word words) passes.schedule passes.schedule_held
@@ -380,6 +479,14 @@ pub serves_accepted : (held : Held) (words : List (List ℕ)) (old new : List (L
 serves_accepted None words old new before after count later result said = tt
 serves_accepted (Some bytes_of) words old new before after count later result said = λ d held same calm.
     whole_from (say bytes_of words) before after (accepted_line d) result (says_accepted bytes_of words d held) (said same calm)
+
+pub serves_list : (held : Held) (words : List (List ℕ)) (old new : List (List ℕ)) (before after : Option (List ℕ))
+    (count later result : ℕ) → IsTold held words old new before after count later result →
+    IfSome held (λ bytes_of. (listing : List ListedTree) → HoldsHistory bytes_of words listing → new ≡ old → IsCalm count later →
+    IsWhole before after (listing_text listing) result)
+serves_list None words old new before after count later result said = tt
+serves_list (Some bytes_of) words old new before after count later result said = λ listing held same calm.
+    whole_from (say bytes_of words) before after (listing_text listing) result (says_listed bytes_of words listing held) (said same calm)
 
 pub serves_whole : (held : Held) (words : List (List ℕ)) (old new : List (List ℕ)) (before after : Option (List ℕ))
     (count later result : ℕ) → IsTold held words old new before after count later result →

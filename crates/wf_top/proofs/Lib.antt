@@ -1,6 +1,8 @@
 pub mod Asked
 pub mod Outcomes
 pub mod Following
+pub mod Listed
 pub mod Written
 pub mod CommandOutcomes
 mod Worked
+mod WorkedList

@@ -5,7 +5,7 @@ use Rattle.std.specs.Option.{option_map, option_and_then, IfSome}
 use Rattle.std.specs.Io.KnownBytes.{Appends}
 use Rattle.wf_outside.specs.Outside.{Held, Rose, IsCalm}
 use Rattle.wf_top.specs.declared.said.Verdict.{Verdict}
-use Rattle.wf_top.specs.declared.said.Verdict.TheVariants.{Done, Definition, Inputs, TooLarge}
+use Rattle.wf_top.specs.declared.said.Verdict.TheVariants.{Done, Definition, History, Inputs, TooLarge}
 use Rattle.wf_top.specs.Plan.{Plan, Says, Reads, MaySay, said_by, within}
 use Rattle.wf_top.specs.Served.{number, Outcome, Misused, Speaks, Unread, Spent, status_of, text_of, Comes, Writes, Serves, FailedAt}
 use Rattle.wf_top.specs.Served.{IsSaid, said_of, cannot_read}
@@ -15,12 +15,14 @@ pub number_le : (verdict : Verdict) → number verdict ≤ 8
 number_le Done = omega arith
 number_le Definition = omega arith
 number_le Inputs = omega arith
+number_le History = omega arith
 number_le TooLarge = omega arith
 
 number_apart : (verdict : Verdict) → (number verdict ≡ 2 → ⊥) × (number verdict ≡ 3 → ⊥)
 number_apart Done = (λ h. cc, λ h. cc)
 number_apart Definition = (λ h. cc, λ h. cc)
 number_apart Inputs = (λ h. cc, λ h. cc)
+number_apart History = (λ h. cc, λ h. cc)
 number_apart TooLarge = (λ h. cc, λ h. cc)
 
 -- a list isn't itself with one more

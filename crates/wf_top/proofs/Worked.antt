@@ -165,7 +165,7 @@ command-capital = refl
 command-longer : command_of (words_of (codes "checks") 1) ≡ None
 command-longer = refl
 
-command-not_built : command_of (words_of (codes "list") 1) ≡ None
+command-not_built : command_of (words_of (codes "drill") 1) ≡ None
 command-not_built = refl
 
 command-none : command_of [] ≡ None

@@ -1,20 +1,22 @@
 -- What each command says: its plan, in the order of its tests.
-use Rattle.std.specs.Prelude.{ℕ, List, [], ◌∷◌, ◌++◌, length, Bool, Option, None, Some, Result, Ok, Err, codes, decimal}
+use Rattle.std.specs.Prelude.{ℕ, List, [], ◌∷◌, ◌++◌, length, flat_map, Bool, Option, None, Some, Result, Ok, Err, codes, decimal}
 use Rattle.std.specs.Option.{option_map}
 use Rattle.wf_answers.specs.Inputs.{InputsTree}
 use Rattle.wf_def.specs.DefTree.{DefTree}
 use Rattle.wf_def.specs.Names.{graph_names}
+use Rattle.wf_history.specs.History.{ListedTree}
 use Rattle.wf_plain.specs.Plain.{plain_of}
 use Rattle.wf_printed.specs.Runs.{runs_text}
 use Rattle.wf_printed.specs.declared.fault.RunsFault.{RunsFault}
 use Rattle.wf_top.specs.Fault.{fault_line}
-use Rattle.wf_top.specs.Form.{definition_form, inputs_form, schedule_form}
-use Rattle.wf_top.specs.Limits.{definition_bytes, inputs_bytes, schedule_bytes}
+use Rattle.wf_record.specs.Record.{run_status_name}
+use Rattle.wf_top.specs.Form.{definition_form, inputs_form, listing_form, schedule_form}
+use Rattle.wf_top.specs.Limits.{definition_bytes, history_bytes, inputs_bytes, schedule_bytes}
 use Rattle.wf_top.specs.Plan.{Plan, Says, Reads}
 use Rattle.wf_top.specs.Trigger.{trigger_line}
 use Rattle.wf_top.specs.Words.{command_of, is_traced, schedule_word, word}
 use Rattle.wf_top.specs.declared.fault.FormFault.{FormFault}
-use Rattle.wf_top.specs.declared.said.Verdict.TheVariants.{Done, Definition, Inputs, TooLarge}
+use Rattle.wf_top.specs.declared.said.Verdict.TheVariants.{Done, Definition, History, Inputs, TooLarge}
 use Rattle.wf_top.specs.declared.words.Command.{Command}
 use Rattle.wf_top.specs.declared.words.Command.TheVariants.{Check, Run, Trace}
 
@@ -61,6 +63,8 @@ abbrev pub accepted : Command → List (List ℕ) → DefTree → Plan
 accepted Check words d = Says Done (accepted_line d)
 accepted Run words d = run (is_traced Run) (word words 2) (schedule_word words) d
 accepted Trace words d = run (is_traced Trace) (word words 2) (schedule_word words) d
+-- This is never met: `list` reads no definition.
+accepted Command.List words d = Says Done (accepted_line d)
 
 -- DEF is read and judged: the command goes on with it, or it is refused for its fault.
 abbrev pub judged_definition : Command → List (List ℕ) → Result DefTree FormFault → Plan
@@ -72,8 +76,26 @@ abbrev pub defined : List ℕ → Command → List (List ℕ) → Plan
 defined definition command words =
     Reads definition definition_bytes (λ file. judged_definition command words (definition_form command file))
 
+-- what `list` writes of a record: its run, how that ended, and how many rows it has
+abbrev pub listed_line : ListedTree → List ℕ
+listed_line l = codes "run " ++ l.run ++ 32 ∷ run_status_name l.status ++ codes " rows " ++ decimal l.rows ++ 10 ∷ []
+
+-- a line for each record, in their order
+unfoldable pub listing_text : List ListedTree → List ℕ
+listing_text listing = flat_map listed_line listing
+
+-- HISTORY is read and judged: its records are listed, or it is refused for its fault.
+abbrev pub judged_history : Result (List ListedTree) FormFault → Plan
+judged_history (Err fault) = Says History (fault_line (codes "history ") fault)
+judged_history (Ok listing) = Says Done (listing_text listing)
+
+-- what `list` says of the history that is the file of this name
+abbrev pub list : List ℕ → Plan
+list history = Reads history history_bytes (λ file. judged_history (listing_form file))
+
 -- what a command with its words says
 unfoldable pub plan : Command → List (List ℕ) → Plan
+plan Command.List words = list (word words 1)
 plan command words = defined (word words 1) command words
 
 -- what the words ask for, or None where they are no command

@@ -1,8 +1,9 @@
 -- What a file holds of a form.
-use Rattle.std.specs.Prelude.{ℕ, List, Option, None, Some, Result, Ok, Err}
+use Rattle.std.specs.Prelude.{ℕ, List, Option, None, Some, Result, Ok, Err, map}
 use Rattle.wf_answers.specs.Inputs as answers
 use Rattle.wf_answers.specs.declared.fault.InputsFault.{InputsFault}
 use Rattle.wf_def.specs.DefTree.{DefTree}
+use Rattle.wf_history.specs.History.{Kept, ListedTree, listed, records_of}
 use Rattle.wf_json.specs.Read.{read_value}
 use Rattle.wf_json.specs.declared.fault.JsonFault.{JsonFault}
 use Rattle.wf_plain.specs.Unbuilt.{not_yet}
@@ -38,6 +39,8 @@ abbrev pub purpose_of : Command → Purpose
 purpose_of Check = Purpose.Check
 purpose_of Run = Purpose.Run
 purpose_of Trace = Purpose.Run
+-- This is never met: `list` reads no definition.
+purpose_of Command.List = Purpose.Check
 
 -- the least pointer of what isn't built for a command
 unfoldable pub unbuilt_for : Command → DefTree → Option (List ℕ)
@@ -92,3 +95,13 @@ or_schedule_fault (Err fault) = Err (schedule_fault fault)
 abbrev pub schedule_form : Form (List ℕ)
 schedule_form None = Err FormFault.TooLong
 schedule_form (Some bytes) = or_schedule_fault (schedules.schedule_of bytes)
+
+-- what is said of the records on the lines of a history, or the first line that is none
+abbrev pub or_line_fault : Result (List Kept) ℕ → Result (List ListedTree) FormFault
+or_line_fault (Ok records) = Ok (map listed records)
+or_line_fault (Err number) = Err (FormFault.Line number)
+
+-- the form of histories, by what is said of each record
+abbrev pub listing_form : Form (List ListedTree)
+listing_form None = Err FormFault.TooLong
+listing_form (Some bytes) = or_line_fault (records_of bytes)

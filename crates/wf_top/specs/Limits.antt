@@ -12,3 +12,7 @@ inputs_bytes = 67108864
 -- the greatest length of a file of a schedule, in bytes: 64 MiB
 abbrev pub schedule_bytes : ℕ
 schedule_bytes = 67108864
+
+-- the greatest length of a file of a history, in bytes: 64 MiB
+abbrev pub history_bytes : ℕ
+history_bytes = 67108864

@@ -3,11 +3,12 @@ use Rattle.std.specs.Prelude.{◌≡◌, ◌⊎◌, ℕ, List, [], true, Option,
 use Rattle.std.specs.Io.KnownBytes.{Appends}
 use Rattle.wf_answers.specs.Inputs.{InputsTree}
 use Rattle.wf_def.specs.DefTree.{DefTree}
+use Rattle.wf_history.specs.History.{ListedTree}
 use Rattle.wf_outside.specs.Outside.{Held}
-use Rattle.wf_top.specs.Commands.{accepted_line, text_of_runs, too_large}
+use Rattle.wf_top.specs.Commands.{accepted_line, listing_text, text_of_runs, too_large}
 use Rattle.wf_top.specs.Fault.{fault_line}
-use Rattle.wf_top.specs.Form.{Form, definition_form, inputs_form, schedule_form}
-use Rattle.wf_top.specs.Limits.{definition_bytes, inputs_bytes, schedule_bytes}
+use Rattle.wf_top.specs.Form.{Form, definition_form, inputs_form, listing_form, schedule_form}
+use Rattle.wf_top.specs.Limits.{definition_bytes, history_bytes, inputs_bytes, schedule_bytes}
 use Rattle.wf_top.specs.Plan.{MayGive, within}
 use Rattle.wf_top.specs.Served.{out_of_memory}
 use Rattle.wf_top.specs.Trigger.{trigger_line}
@@ -38,6 +39,11 @@ GivesNumbers held (Some name) found = Gives held name schedule_bytes schedule_fo
 
 abbrev pub GivesSchedule : Held → List (List ℕ) → Result (List ℕ) FormFault → Type 0
 GivesSchedule held words found = GivesNumbers held (schedule_word words) found
+
+-- what HISTORY gave to `list`
+abbrev pub GivesHistory : Held → List (List ℕ) → Result (List ListedTree) FormFault → Type 0
+GivesHistory held words found =
+    (command_of words ≡ Some Command.List) × Gives held (word words 1) history_bytes listing_form found
 
 -- DEF gave a definition that `check` accepts, and the line with the number of its actions was taken, and nothing else.
 pub record Checked (held : Held) (words : List (List ℕ)) (before after : Option (List ℕ)) : Type 0 where
@@ -111,6 +117,18 @@ RefusedTrigger held words before after =
 abbrev pub RefusedCost : Held → List (List ℕ) → Option (List ℕ) → Option (List ℕ) → Type 0
 RefusedCost held words before after = RefusedRuns held words before after RunsFault.TooLarge too_large
 
+-- HISTORY gave records, and a line for each of them was taken, in their order, and nothing else.
+pub record Listed (held : Held) (words : List (List ℕ)) (before after : Option (List ℕ)) : Type 0 where
+  pub listing : List ListedTree
+  pub history_given : GivesHistory held words (Ok listing)
+  pub written : Appends before after (listing_text listing)
+
+-- HISTORY gave no records, and its fault was taken.
+pub record RefusedHistory (held : Held) (words : List (List ℕ)) (before after : Option (List ℕ)) : Type 0 where
+  pub fault : FormFault
+  pub history_given : GivesHistory held words (Err fault)
+  pub written : Appends before after (fault_line (codes "history ") fault)
+
 -- A file of this name is there, and this is found in it.
 abbrev pub Holds : {T : Type 0} → (List ℕ → Option (List ℕ)) → List ℕ → ℕ → Form T → T → Type 0
 Holds bytes_of name limit form t = (bytes : List ℕ) × (bytes_of name ≡ Some bytes) × (form (within limit bytes) ≡ Ok t)
@@ -124,6 +142,11 @@ pub record HoldsDefinition (bytes_of : List ℕ → Option (List ℕ)) (words : 
 abbrev pub HoldsSchedule : (List ℕ → Option (List ℕ)) → Option (List ℕ) → List ℕ → Type 0
 HoldsSchedule bytes_of None schedule = schedule ≡ []
 HoldsSchedule bytes_of (Some name) schedule = Holds bytes_of name schedule_bytes schedule_form schedule
+
+-- The words are `list`, and a file HISTORY is there and holds records of which this is said.
+pub record HoldsHistory (bytes_of : List ℕ → Option (List ℕ)) (words : List (List ℕ)) (listing : List ListedTree) : Type 0 where
+  pub names : command_of words ≡ Some Command.List
+  pub held : Holds bytes_of (word words 1) history_bytes listing_form listing
 
 -- All tests of `run` or `trace` pass: the words are that, the files hold a definition, inputs and a schedule, and the runs can be made.
 pub record PassesAll (bytes_of : List ℕ → Option (List ℕ)) (words : List (List ℕ)) (text : List ℕ) : Type 0 where

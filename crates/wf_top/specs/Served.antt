@@ -7,7 +7,7 @@ use Rattle.wf_top.specs.Plan.{Plan, MaySay, ComesTo, said_by}
 use Rattle.wf_top.specs.Commands.{plan_of}
 use Rattle.wf_json.specs.Json.{string}
 use Rattle.wf_top.specs.declared.said.Verdict.{Verdict}
-use Rattle.wf_top.specs.declared.said.Verdict.TheVariants.{Done, Definition, Inputs, TooLarge}
+use Rattle.wf_top.specs.declared.said.Verdict.TheVariants.{Done, Definition, History, Inputs, TooLarge}
 use Rattle.wf_top.specs.declared.said.Said.{Said}
 use Rattle.wf_top.specs.declared.load.Stop.{Stop}
 use Rattle.wf_top.specs.declared.load.Stop.TheVariants.{CannotRead, Memory}
@@ -17,6 +17,7 @@ abbrev pub number : Verdict → ℕ
 number Done = 0
 number Definition = 1
 number Inputs = 6
+number History = 7
 number TooLarge = 8
 
 abbrev pub usage : List ℕ

@@ -23,16 +23,19 @@ abbrev pub command_of : List (List ℕ) → Option Command
 command_of words =
     if is_command (codes "check") 1 words then Some Check else
     (if is_command (codes "run") 2 words || is_command (codes "run") 3 words then Some Run else
-    (if is_command (codes "trace") 3 words then Some Trace else None))
+    (if is_command (codes "trace") 3 words then Some Trace else
+    (if is_command (codes "list") 1 words then Some Command.List else None)))
 
 -- the command makes the runs that inputs start
 abbrev pub makes_runs : Command → Bool
 makes_runs Check = false
 makes_runs Run = true
 makes_runs Trace = true
+makes_runs Command.List = false
 
 -- the command writes the events of each run above its record
 abbrev pub is_traced : Command → Bool
 is_traced Check = false
 is_traced Run = false
 is_traced Trace = true
+is_traced Command.List = false

@@ -10,6 +10,7 @@ ghost use Rattle.wf_top.specs.Words.{command_of};
 use crate::DEFINITION_LIMIT;
 use crate::accepted::accepted_line;
 use crate::form::definition_form;
+use crate::listing::list;
 use crate::load::{Stop, load};
 use crate::runs::run;
 use crate::said::{Said, Verdict, say_fault};
@@ -46,7 +47,7 @@ fn accepted<F: Files>(
 {
     let schedule = schedule_word(words);
     match command {
-        Command::Check => say_accepted(alloc, checked),
+        Command::Check | Command::List => say_accepted(alloc, checked),
         Command::Run => run(alloc, files, false, &words[2], schedule, checked),
         Command::Trace => run(alloc, files, true, &words[2], schedule, checked),
     }
@@ -84,5 +85,10 @@ pub fn follow<F: Files>(
     ensures follows { Follows (F.held files.old) (plan command words.now) (F.failed files.old) (F.failed files.new) result }
     ensures same { F.held files.new ≡ F.held files.old }
 {
-    defined(alloc, words, command, files, &words[1])
+    match command {
+        Command::List => list(alloc, files, &words[1]),
+        Command::Check | Command::Run | Command::Trace => {
+            defined(alloc, words, command, files, &words[1])
+        }
+    }
 }

@@ -1,14 +1,17 @@
 // What a file holds of a form, or why it holds nothing of it.
-ghost use Rattle.std.specs.Prelude.{◌≡◌, ◌≢◌, IfOk, IfErr, OnOk, None, Some, Ok, Err, option_map};
+ghost use Rattle.std.specs.Prelude.{◌≡◌, ◌≢◌, IfOk, IfErr, OnOk, None, Some, Ok, Err, map, option_map};
 ghost use Rattle.wf_answers.specs.InputsSeen.{inputs_tree};
+ghost use Rattle.wf_history.specs.Seen.{listed_tree};
 ghost use Rattle.wf_reading.specs.ReadSeen.{def_tree};
-ghost use Rattle.wf_top.specs.Form.{broken_in, definition_form, definition_of, inputs_form, purpose_of, schedule_form, unbuilt_for};
+ghost use Rattle.wf_top.specs.Form.{broken_in, definition_form, definition_of, inputs_form, listing_form, purpose_of, schedule_form};
+ghost use Rattle.wf_top.specs.Form.{unbuilt_for};
 ghost use Rattle.wf_val.specs.Seen.{tree};
 
 use crate::fault::FormFault;
 use crate::words::Command;
 use std::alloc::{AllocError, Global};
 use wf_answers::{Inputs, read_inputs};
+use wf_history::{HistoryFault, Listing, list};
 use wf_plain::{Purpose, not_yet};
 use wf_reading::{Def, RuleFault, read_def};
 use wf_rules::{Checked, check};
@@ -20,7 +23,7 @@ fn purpose_of(command: Command) -> Purpose
     ensures { result ≡ purpose_of command }
 {
     match command {
-        Command::Check => Purpose::Check,
+        Command::Check | Command::List => Purpose::Check,
         Command::Run | Command::Trace => Purpose::Run,
     }
 }
@@ -92,4 +95,18 @@ pub fn schedule_form(alloc: Global, file: Option<Vec<u8>>) -> Result<Schedule, F
     let bytes = file.ok_or(FormFault::TooLong)?;
     let schedule = read_schedule(alloc, &bytes)?;
     Ok(schedule)
+}
+
+/// What is said of each record of the history that a file holds; `None` stands for a file over its limit.
+#[tactic(auto, using(crate::proofs::Listed::records_listed, crate::proofs::Listed::line_told))]
+pub fn listing_form(alloc: Global, file: Option<Vec<u8>>) -> Result<Listing, FormFault>
+    ensures form { IfOk result (λ listing. listing_form (option_map (λ bytes. bytes.items) file) ≡ Ok (map listed_tree listing)) }
+    ensures fault { IfErr result (λ fault. fault ≢ FormFault.Memory → listing_form (option_map (λ bytes. bytes.items) file) ≡ Err fault) }
+{
+    let bytes = file.ok_or(FormFault::TooLong)?;
+    match list(alloc, &bytes) {
+        Ok(listing) => Ok(listing),
+        Err(HistoryFault::Line { number }) => Err(FormFault::Line { number }),
+        Err(_) => Err(FormFault::Memory),
+    }
 }

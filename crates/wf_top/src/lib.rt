@@ -5,14 +5,15 @@
 //! which limit, and what follows from its bytes. Everything that is claimed of a command is a clause of this one call.
 //!
 //! The crate reads definitions by `wf_reading`, asks `wf_plain` whether all is built that a command asks for, has the rules between a
-//! definition's parts judged by `wf_rules`, reads inputs by `wf_answers` and schedules by `wf_run`, and has the runs made and printed by
-//! `wf_printed`. It opens no file and no stream itself; that is left to the objects which it is lent.
+//! definition's parts judged by `wf_rules`, reads inputs by `wf_answers`, schedules by `wf_run` and histories by `wf_history`, and has the
+//! runs made and printed by `wf_printed`. It opens no file and no stream itself; that is left to the objects which it is lent.
 #![tactic(auto)]
 
 mod accepted;
 mod commands;
 mod fault;
 mod form;
+mod listing;
 mod load;
 mod put;
 mod quoted;
@@ -33,3 +34,6 @@ const INPUTS_LIMIT: u64 = 67_108_864;
 
 /// The greatest length of a schedule's file, in bytes: 64 MiB.
 const SCHEDULE_LIMIT: u64 = 67_108_864;
+
+/// The greatest length of a history's file, in bytes: 64 MiB.
+const HISTORY_LIMIT: u64 = 67_108_864;

@@ -16,6 +16,8 @@ pub enum Verdict {
     Definition = 1,
     /// The inputs or the schedule aren't of their form, or the definition's trigger starts no run by the inputs.
     Inputs = 6,
+    /// The history isn't of its form.
+    History = 7,
     /// The runs cost too much.
     TooLarge = 8,
 }

@@ -3,8 +3,10 @@ ghost use Rattle.std.specs.Prelude.{◌≡◌, ◌⊎◌, ◌<◌, ◌≤◌, �
 ghost use Rattle.std.specs.Io.KnownBytes.{Appends};
 ghost use Rattle.wf_outside.specs.Outside.{IsCalm, Rose};
 ghost use Rattle.wf_def.specs.DefTree.{DefTree};
-ghost use Rattle.wf_top.specs.Commands.{accepted_line, plan_of};
-ghost use Rattle.wf_top.specs.Ran.{Checked, HoldsDefinition, IsWhole, PassesAll, Ran, RefusedCost, RefusedDefinition, RefusedInputs, RefusedSchedule, RefusedTrigger};
+ghost use Rattle.wf_history.specs.History.{ListedTree};
+ghost use Rattle.wf_top.specs.Commands.{accepted_line, listing_text, plan_of};
+ghost use Rattle.wf_top.specs.Ran.{Checked, HoldsDefinition, HoldsHistory, IsWhole, Listed, PassesAll, Ran};
+ghost use Rattle.wf_top.specs.Ran.{RefusedCost, RefusedDefinition, RefusedHistory, RefusedInputs, RefusedSchedule, RefusedTrigger};
 ghost use Rattle.wf_top.specs.Served.{FailedAt, IsSaid, Serves, cannot_read, say};
 ghost use Rattle.wf_top.specs.Words.{command_of, makes_runs};
 
@@ -90,6 +92,15 @@ pub fn serve_words<F: Files, I: Source, O: Sink>(
         F.failed files.new ≡ F.failed files.old → IsCalm (O.faults out.old) (O.faults out.new) →
         IsWhole (O.taken out.old) (O.taken out.new) text result) }
 
+    // At `list HISTORY` 0 comes where a history was read, and the sink took exactly a line for each of its records, in their order; and
+    // where all its tests pass, that comes and nothing else, but for want of memory.
+    ensures listed { command_of words.now ≡ Some Command.List → result ≡ 0
+        → Listed (F.held files.old) words.now (O.taken out.old) (O.taken out.new) }
+    ensures complete_list { IfSome (F.held files.old) (λ bytes_of. (listing : List ListedTree) →
+        HoldsHistory bytes_of words.now listing →
+        F.failed files.new ≡ F.failed files.old → IsCalm (O.faults out.old) (O.faults out.new) →
+        IsWhole (O.taken out.old) (O.taken out.new) (listing_text listing) result) }
+
     // 1 comes where the first file gave no definition that the command takes.
     ensures refused_definition { result ≡ 1 → RefusedDefinition (F.held files.old) words.now (O.taken out.old) (O.taken out.new) }
 
@@ -98,6 +109,9 @@ pub fn serve_words<F: Files, I: Source, O: Sink>(
     ensures refused_inputs { result ≡ 6 → RefusedInputs (F.held files.old) words.now (O.taken out.old) (O.taken out.new)
         ⊎ RefusedSchedule (F.held files.old) words.now (O.taken out.old) (O.taken out.new)
         ⊎ RefusedTrigger (F.held files.old) words.now (O.taken out.old) (O.taken out.new) }
+
+    // 7 comes at `list`, where the file gave no history.
+    ensures refused_history { result ≡ 7 → RefusedHistory (F.held files.old) words.now (O.taken out.old) (O.taken out.new) }
 
     // 8 comes where the runs cost too much.
     ensures too_large { result ≡ 8 → RefusedCost (F.held files.old) words.now (O.taken out.old) (O.taken out.new) }

@@ -13,6 +13,8 @@ pub enum Command {
     Run,
     /// `trace DEF INPUTS SCHEDULE`: does the same, and prints the events of each run above its record.
     Trace,
+    /// `list HISTORY`: says in a line what each record of a history is.
+    List,
 }
 
 /// The command that the words after the program's name are, or `None` where they are no command. It takes no memory.
@@ -24,6 +26,7 @@ pub fn parse_words(words: &[Text]) -> Option<Command>
         ("check", 1) => Some(Command::Check),
         ("run", 2 | 3) => Some(Command::Run),
         ("trace", 3) => Some(Command::Trace),
+        ("list", 1) => Some(Command::List),
         _ => None,
     }
 }

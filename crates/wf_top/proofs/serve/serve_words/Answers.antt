@@ -3,8 +3,8 @@ use Rattle.std.specs.Option.{option_map}
 use Rattle.wf_top.specs.Commands.{plan}
 use Rattle.wf_top.proofs.Asked.{failed_word}
 use Rattle.wf_top.proofs.Outcomes.{serves_le, serves_told, serves_two, serves_misused, serves_three, serves_unread, no_command}
-use Rattle.wf_top.proofs.CommandOutcomes.{serves_accepted, serves_checked, serves_cost, serves_definition, serves_inputs, serves_ran}
-use Rattle.wf_top.proofs.CommandOutcomes.{serves_whole}
+use Rattle.wf_top.proofs.CommandOutcomes.{serves_accepted, serves_checked, serves_cost, serves_definition, serves_history, serves_inputs}
+use Rattle.wf_top.proofs.CommandOutcomes.{serves_list, serves_listed, serves_ran, serves_whole}
 use Rattle.wf_top.proofs.serve.serve_words.Goals as goal
 
 pub returns-clause-status : goal.returns-clause-status
@@ -44,11 +44,21 @@ pub returns-clause-complete : goal.returns-clause-complete
 returns-clause-complete g c =
     serves_whole _ _ _ _ _ _ _ _ _ (serves_told _ _ _ _ _ _ _ _ _ c.serve.ensures.outcome c.serve.ensures.only)
 
+pub returns-clause-listed : goal.returns-clause-listed
+returns-clause-listed g c = serves_listed _ _ _ _ _ _ _ c.serve.ensures.outcome
+
+pub returns-clause-complete_list : goal.returns-clause-complete_list
+returns-clause-complete_list g c =
+    serves_list _ _ _ _ _ _ _ _ _ (serves_told _ _ _ _ _ _ _ _ _ c.serve.ensures.outcome c.serve.ensures.only)
+
 pub returns-clause-refused_definition : goal.returns-clause-refused_definition
 returns-clause-refused_definition g c = serves_definition _ _ _ _ _ _ _ c.serve.ensures.outcome
 
 pub returns-clause-refused_inputs : goal.returns-clause-refused_inputs
 returns-clause-refused_inputs g c = serves_inputs _ _ _ _ _ _ _ c.serve.ensures.outcome
+
+pub returns-clause-refused_history : goal.returns-clause-refused_history
+returns-clause-refused_history g c = serves_history _ _ _ _ _ _ _ c.serve.ensures.outcome
 
 pub returns-clause-too_large : goal.returns-clause-too_large
 returns-clause-too_large g c = serves_cost _ _ _ _ _ _ _ c.serve.ensures.outcome
