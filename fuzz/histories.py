@@ -1,14 +1,14 @@
 #!/usr/bin/env python3
-"""Runs the row program of records on random values, and `wflow list` on random histories, and compares each answer with the one that is owed.
+"""Runs the row program of records on random values, and `wflow list` on random histories, and compares each answer with the one owed.
 
   fuzz/histories.py [--count N] [--seed N] [--program PATH] [--rows PATH]
   fuzz/histories.py --owed <crates/record_rows/stdin >crates/record_rows/stdout
 
-The first makes N records, changed at a place or two or not at all, runs crates/record_rows/out/record_rows, or the program of --rows, once on
-all of them, and then puts them into files of some lines, on which it runs bin/wflow, or the program of --program. The second writes what the
-rows owe. What a row means stands at the head of crates/record_rows/src/main.rt. The judge, which is apart from the program, lists all places
-at which a value isn't a record by docs/FORMATS.md and takes the least at the end. It fails too where of ten rows fewer than one is a record,
-or fewer than one isn't. The last line is 'N passed, M failed'."""
+The first makes N records, changed at a place or two or not at all, runs crates/record_rows/out/record_rows, or the program of --rows, once
+on all of them, and then puts them into files of some lines, on which it runs bin/wflow, or the program of --program. The second writes
+what the rows owe. What a row means stands at the head of crates/record_rows/src/main.rt. The judge, which is apart from the program, lists
+all places at which a value isn't a record by docs/FORMATS.md and takes the least at the end. It fails too where of ten rows, or files,
+fewer than one is taken, or fewer than one isn't. The last line is 'N passed, M failed'."""
 import argparse
 import collections
 import copy
@@ -197,8 +197,10 @@ def said(data):
 # ---- random records
 
 NAMES = ["A", "B", "Call", "Call/0", "a", "Send mail", "é", "😀", "x" * 80, "0", "~"]
-VALUES = [None, True, 0, -1, 7, 2**63 - 1, "", "text", "é", [], [1, [2]], {}, {"body": "b", "headers": {}, "statusCode": 200}, {"a/b": {"~": []}}]
-ODD = VALUES + ["x" * 80, "x" * 81, "a\nb", "\x7f", "Succeeded", "failed", "Skipped", "unknown", 1, 2, 3, 91, 92, 99, 100, 599, 600, "0" * 64, "A" * 64]
+VALUES = [None, True, 0, -1, 7, 2**63 - 1, "", "text", "é", [], [1, [2]], {}, {"body": "b", "headers": {}, "statusCode": 200},
+          {"a/b": {"~": []}}]
+ODD = VALUES + ["x" * 80, "x" * 81, "a\nb", "\x7f", "Succeeded", "failed", "Skipped", "unknown", "0" * 64, "A" * 64,
+                1, 2, 3, 91, 92, 99, 100, 599, 600]
 
 
 def nested(depth):
@@ -308,7 +310,8 @@ def listed(program, files):
             statuses["list %d" % status] += 1
             if (ended.returncode, ended.stdout) != (status, text):
                 failed += 1
-                print("list: status %d, %r\n  owed %d, %r\n  %r" % (ended.returncode, ended.stdout[:200], status, text[:200], data[:600]))
+                print("list: status %d, %r\n  owed %d, %r\n  %r" % (
+                    ended.returncode, ended.stdout[:200], status, text[:200], data[:600]))
     return failed, statuses
 
 
@@ -328,13 +331,14 @@ def main():
     rng = random.Random(words.seed)
     rows = [compact(changed(rng, any_record(rng))).encode() for _ in range(words.count)]
     failed, counts = compared(words.rows, rows)
-    files = [history(rng, [line for line in (rng.choice(rows) for _ in range(size)) if rng.random() < 0.2 or not fault_of(read(line, len(line)))])
-             for size in (rng.choice([0, 1, 2, 4]) for _ in range(words.count // 10))]
+    records = [line for line in rows if not owed(line).startswith(("Form", "Version"))]
+    files = [history(rng, [rng.choice(lines) for _ in range(rng.choice([0, 1, 2, 4]))])
+             for _ in range(words.count // 20) for lines in (records, rows)]
     wrong, statuses = listed(words.program, files)
     failed += wrong
     print("seed %d, owed %s" % (words.seed, dict(sorted((counts + statuses).items()))))
-    for word, count, of in (("record", counts["record"], len(rows)), ("Form", counts["Form"], len(rows)), ("list 0", statuses["list 0"], len(files)),
-                            ("list 7", statuses["list 7"], len(files))):
+    for word, count, of in (("record", counts["record"], len(rows)), ("Form", counts["Form"], len(rows)),
+                            ("list 0", statuses["list 0"], len(files)), ("list 7", statuses["list 7"], len(files))):
         if count * 10 < of:
             failed += 1
             print("only %d are owed '%s'" % (count, word))
