@@ -92,7 +92,8 @@ refused-means = refl
 abbrev no-inputs : DefTree
 no-inputs = of_actions (
     act "A" 0 [] (connector
-    (obj ((codes "body", of (apply "div" (num 1 ∷ num 0 ∷ []))) ∷ (codes "method", txt "GET") ∷ (codes "uri", txt "u") ∷ [])) Policy.Standard)
+    (obj ((codes "body", of (apply "div" (num 1 ∷ num 0 ∷ []))) ∷ (codes "method", txt "GET") ∷
+    (codes "uri", txt "u") ∷ [])) Policy.Standard)
     ∷ [])
 
 no-inputs-means : rows_in no-inputs (replied "A" [] 1 (Outcome.Code 200) (fields []) null ∷ []) ≡

@@ -10,7 +10,7 @@ use Rattle.wf_template.specs.TemplateTree.{plain, whole}
 use Rattle.wf_template.specs.CondTree.{holds, all_of, not_of, compare_by, cond_trees}
 use Rattle.wf_def.specs.ActionTree.{compose, scope, branch, switch, switch_else, foreach, action_trees, case_trees}
 use Rattle.wf_def.specs.DefTree.{DefTree}
-use Rattle.wf_record.specs.declared.status.Status.TheVariants.{Succeeded, Failed, Skipped}
+use Rattle.wf_record.specs.declared.status.Status.TheVariants.{Failed}
 use Rattle.wf_record.specs.declared.status.RunStatus.{RunStatus}
 use Rattle.wf_meant.specs.Record.{meaning}
 use Rattle.wf_meant.proofs.Terms.{act, after, apply, answered, ask, ended, failure_of, fell, fields, many, nat, num, of, of_actions, ran}
@@ -23,11 +23,13 @@ caught = of_actions (
     ∷ act "S" 1 [] (scope (action_trees (act "T" 2 [] (compose (of (apply "div" (num 1 ∷ num 0 ∷ [])))) ∷ [])))
     ∷ [])
 
-caught-means : rows_in caught [] ≡
+caught-means : meaning caught (answered []) ≡
+    record_is RunStatus.Succeeded null null (fields []) (
     ran "H" [] (words "Failed") (words "Failed")
     ∷ ended "S" [] Failed (codes "ActionFailed") null null
     ∷ fell "T" [] (EvalFault.Range Fun.Div)
-    ∷ []
+    ∷ [])
+unfolding meaning
 caught-means = refl
 
 -- Nothing catches it, and what waits for its success is Skipped: a Scope that Succeeded would let it run.

@@ -1,32 +1,42 @@
 -- Worked values of the parts of a meaning: points, indexes, decisions that close, and depths.
-use Rattle.std.proofs.Common.{◌≡◌, ℕ, true, false, Some, None, List, [], ◌∷◌, map, refl}
-use Rattle.std.specs.Prelude.{codes}
+use Prim.Native.String.{String}
+use Rattle.std.proofs.Common.{◌≡◌, true, false, Some, None, List, [], ◌∷◌, map, refl}
+use Rattle.std.specs.Prelude.{bytes_eq, codes, decimal}
+use Rattle.wf_val.specs.Address.{address_text}
 use Rattle.wf_val.specs.Arguments.{wrong_type}
-use Rattle.wf_val.specs.ValueTree.{null, boolean}
+use Rattle.wf_val.specs.ValueTree.{null}
 use Rattle.wf_val.specs.declared.fault.EvalFault.{EvalFault}
 use Rattle.wf_val.specs.declared.function.Fun.{Fun}
+use Rattle.wf_template.specs.ExprTree.{member}
 use Rattle.wf_template.specs.TemplateTree.{whole}
+use Rattle.wf_retry.specs.declared.policy.Outcome.{Outcome}
+use Rattle.wf_retry.specs.declared.policy.Policy.{Policy}
+use Rattle.wf_answers.specs.AnswerTree.{AnswerTree}
 use Rattle.wf_template.specs.CondTree.{holds}
 use Rattle.wf_layers.specs.Address.{Table, address}
-use Rattle.wf_def.specs.ActionTree.{compose, scope, switch_else, foreach, until, action_trees, no_cases, no_actions}
+use Rattle.wf_def.specs.ActionTree.{compose, connector, switch_else, foreach, until, action_trees, no_cases, no_actions}
 use Rattle.wf_def.specs.DefTree.{DefTree}
-use Rattle.wf_record.specs.Record.{Row}
+use Rattle.wf_record.specs.Record.{RecordTree, Row, RowTree}
+use Rattle.wf_record.specs.declared.attempt.Try.{Try}
+use Rattle.wf_record.specs.declared.status.RunStatus.{RunStatus}
 use Rattle.wf_record.specs.declared.status.Status.{Status}
 use Rattle.wf_record.specs.declared.status.Status.TheVariants.{Succeeded, Failed, Skipped, TimedOut, Cancelled}
-use Rattle.wf_opening.specs.Decisions.{nothing, held, chosen, each, too_many, faulty}
+use Rattle.wf_opening.specs.Decisions.{nothing, chosen, each, too_many, faulty}
 use Rattle.wf_opening.specs.Verdicts.{met, astray}
 use Rattle.wf_done.specs.Done as done
-use Rattle.wf_meaning.specs.Environment.{Environment, Layer}
-use Rattle.wf_meant.specs.Containers.{closed, closed_as, cut_short, failed_by, iterations_value}
-use Rattle.wf_meant.specs.Look.{index_in, name_of}
+use Rattle.wf_meaning.specs.Environment.{Environment}
+use Rattle.wf_meant.specs.Containers.{closed, closed_as, failed_by, iterations_value}
+use Rattle.wf_meant.specs.Look.{index_in, name_of, told_at, told_in_test, told_to_outputs}
 use Rattle.wf_meant.specs.Points.{point_of, point_of_outputs, point_of_test, sees}
-use Rattle.wf_meant.specs.Record.{depth_of, rows_of}
+use Rattle.wf_meant.specs.Record.{depth_of, meaning}
 use Rattle.wf_meant.specs.References.{every, last_of, latest, one, shared, spots_by}
-use Rattle.wf_meant.specs.Rows.{row_of, skipped}
-use Rattle.wf_meant.specs.Source.{table_of}
+use Rattle.wf_meant.specs.Resubmitted.{pinned}
+use Rattle.wf_meant.specs.Rows.{row_of}
 use Rattle.wf_meant.specs.Status.{graph_status}
 use Rattle.wf_meant.specs.Variables.{indexes_from, instances_at, seen_by}
-use Rattle.wf_meant.proofs.Terms.{act, alone, answered, failure_of, nat, num, of, of_actions, ran, success_of, unrun, value, values, words}
+use Rattle.wf_meant.proofs.Terms.{act, alone, answered, as_second, called, ended, fields, giving, inputs_again, nat, num, obj, of}
+use Rattle.wf_meant.proofs.Terms.{of_actions}
+use Rattle.wf_meant.proofs.Terms.{record_is, replied, success_of, value, values, words}
 
 -- A; a sequential Foreach L after A, of C and of a concurrent Foreach M of D after C; an Until U after L, of E.
 abbrev nested : DefTree
@@ -191,7 +201,8 @@ closed-until-out : closed (until (holds (whole (num 1))) 3 true no_actions) [] n
     failed_by (codes "LimitReached") (iterations_value 3)
 closed-until-out = refl
 
-closed-until-astray : closed (until (holds (whole (num 1))) 3 true no_actions) [] nothing 1 (Some (astray (wrong_type Fun.Condition 0))) without ≡
+closed-until-astray : closed (until (holds (whole (num 1))) 3 true no_actions) [] nothing 1
+    (Some (astray (wrong_type Fun.Condition 0))) without ≡
     record (done.faulted (wrong_type Fun.Condition 0)) { outputs = iterations_value 1 }
 closed-until-astray = refl
 
@@ -218,3 +229,50 @@ depths-nested = refl
 
 names-nested : map (name_of nested) (0 ∷ 4 ∷ 9 ∷ []) ≡ codes "A" ∷ codes "L" ∷ [] ∷ []
 names-nested = refl
+
+-- ---- words: at the address of an instance; of a test with the index of its iteration behind it; and of the section `outputs`
+
+place-of-instance : (told_at nested (answered []) (address 2 (4 ∷ 5 ∷ [])) without).place ≡
+    address_text (record { name = codes "D"; at = 4 ∷ 5 ∷ [] })
+place-of-instance = refl
+
+place-of-test : (told_in_test nested (answered []) (address 6 []) 2 without).place ≡ address_text (record { name = codes "U"; at = 2 ∷ [] })
+place-of-test = refl
+
+place-of-outputs : (told_to_outputs nested (answered []) without).place ≡ codes "@outputs"
+place-of-outputs = refl
+
+-- ---- an action goes by the last layer that has it, the section `outputs` and the record by the last layer
+
+abbrev two-calls : DefTree
+two-calls = giving ((codes "r", of (member (member (alone "workflow") (codes "run") false) (codes "name") false)) ∷ []) (of_actions (
+    act "A" 0 [] (connector (obj []) Policy.Standard) ∷ act "B" 1 [] (connector (obj []) Policy.Standard) ∷ []))
+
+abbrev replies : String → String → List AnswerTree
+replies a b =
+    replied "A" [] 1 (Outcome.Code 200) (fields []) (words a) ∷ replied "B" [] 1 (Outcome.Code 200) (fields []) (words b) ∷ []
+
+abbrev with_layer : Environment
+with_layer = record (answered (replies "a" "b")) {
+  layers = record { redone = bytes_eq (codes "A"); inputs = inputs_again (replies "a2" "b2") } ∷ [];
+}
+
+abbrev called_row : String → String → RowTree
+called_row s body = called (Try.Code 200 ∷ []) (ended s [] Succeeded (decimal 200) (fields [])
+    (fields ((codes "body", words body) ∷ (codes "headers", fields []) ∷ (codes "statusCode", value 200) ∷ [])))
+
+layer-counts : meaning two-calls with_layer ≡ as_second
+    (record_is RunStatus.Succeeded null null (fields ((codes "r", words "r2") ∷ [])) (called_row "A" "a2" ∷ called_row "B" "b" ∷ []))
+unfolding meaning
+layer-counts = refl
+
+-- ---- a resubmission has the trigger and the parameters of the older run, and the name of the new one
+
+abbrev older : RecordTree
+older = record (record_is RunStatus.Failed null null null []) { trigger = words "t"; parameters = (codes "p", value 1) ∷ [] }
+
+resubmitted-start : pinned (of_actions []) older (inputs_again []) [] ≡ record
+    (as_second (record_is RunStatus.Succeeded null null (fields []) []))
+    { trigger = words "t"; parameters = (codes "p", value 1) ∷ [] }
+unfolding pinned
+resubmitted-start = refl

@@ -12,15 +12,13 @@ use Rattle.wf_answers.specs.AnswerTree.{AnswerTree}
 use Rattle.wf_answers.specs.Inputs.{InputsTree}
 use Rattle.wf_trigger.specs.Starts.{StartTree}
 use Rattle.wf_def.specs.ActionTree.{ActionTree, action, InitialTree, KindTree, action_trees}
-use Rattle.wf_def.specs.DefTree.{DefTree, OutputTree}
+use Rattle.wf_def.specs.DefTree.{DefTree}
 use Rattle.wf_def.specs.declared.after.After.{After}
 use Rattle.wf_def.specs.declared.sort.Sort.{Sort}
 use Rattle.wf_record.specs.Record.{RecordTree, RowTree}
 use Rattle.wf_record.specs.declared.attempt.Try.{Try}
 use Rattle.wf_record.specs.declared.status.Status.{Status}
-use Rattle.wf_record.specs.declared.status.Status.TheVariants.{Succeeded}
 use Rattle.wf_record.specs.declared.status.RunStatus.{RunStatus}
-use Rattle.wf_data.specs.Made.{MadeTree}
 use Rattle.wf_done.specs.Done as done
 use Rattle.wf_meaning.specs.Environment.{Environment, fresh}
 use Rattle.wf_meant.specs.Record.{depth_of, rows_of}

@@ -63,7 +63,8 @@ module _ (d : DefTree) (e : Environment) where
   -- a Terminate before the action Succeeded: it stands in no loop, so it has one address
   abbrev pub is_halted : ℕ → Table Row → Bool
   is_halted y known =
-      list_any (λ a. is_terminate (action_kind a) && is_before d (action_number a) y && has_succeeded (known (address (action_number a) [])))
+      list_any (λ a. is_terminate (action_kind a) && is_before d (action_number a) y && has_succeeded
+      (known (address (action_number a) [])))
       (all_actions d.top)
 
   -- ---- all of it; nothing is kept of an older run
