@@ -23,7 +23,8 @@ no_both false c f = refl
 any_none : (bs : Branches) (x y : ℕ) → has_any bs y ≡ false → paces_any bs x y ≡ []
 any_none no_branch x y off = refl
 any_none (branch b rest) x y off =
-    unless (has b x && has b y) (paces_round b x y) (paces_any rest x y) (no_both (has b x) (has b y) (front_off (has b y) (has_any rest y) off))
+    unless (has b x && has b y) (paces_round b x y) (paces_any rest x y)
+    (no_both (has b x) (has b y) (front_off (has b y) (has_any rest y) off))
     ∙ any_none rest x y (back_off (has b y) (has_any rest y) off)
 
 mutual
@@ -64,19 +65,22 @@ mutual
     | inl hy ↦ elim (two (holds kind x)) [
       | inl hx ↦ omega (
         arith,
-        ap length (when (holds kind x && holds kind y) (paces_in kind x y) (paces_round rest x y) (and_of (holds kind x) (holds kind y) hx hy)),
+        ap length (when (holds kind x && holds kind y) (paces_in kind x y) (paces_round rest x y)
+            (and_of (holds kind x) (holds kind y) hx hy)),
         ap length (when (holds kind y) (loops_in m kind y) (loops_of rest y) hy),
         few_in m kind once.2 x y,
       )
       | inr off ↦ omega (
         arith,
-        ap length (unless (holds kind x && holds kind y) (paces_in kind x y) (paces_round rest x y) (ap (λ (c : Bool). c && holds kind y) off)
+        ap length (unless (holds kind x && holds kind y) (paces_in kind x y) (paces_round rest x y)
+            (ap (λ (c : Bool). c && holds kind y) off)
             ∙ paces_none rest x y (once.1 y (or_second (nat_eq m y) (holds kind y) hy))),
       )
     ]
     | inr off ↦ omega (
       arith,
-      ap length (unless (holds kind x && holds kind y) (paces_in kind x y) (paces_round rest x y) (no_both (holds kind x) (holds kind y) off)),
+      ap length (unless (holds kind x && holds kind y) (paces_in kind x y) (paces_round rest x y)
+          (no_both (holds kind x) (holds kind y) off)),
       ap length (unless (holds kind y) (loops_in m kind y) (loops_of rest y) off),
       few_of rest once.3 x y,
     )

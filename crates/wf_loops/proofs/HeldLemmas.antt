@@ -36,7 +36,8 @@ and_off : (b : Bool) → (b && false) ≡ false
 and_off true = refl
 and_off false = refl
 
-pub not_first : (rest : Branches) (x : ℕ) (b : Graph) → has_any rest x ≡ true → ((m : ℕ) → has b m ≡ true → has_any rest m ≡ false) → has b x ≡ false
+pub not_first : (rest : Branches) (x : ℕ) (b : Graph) → has_any rest x ≡ true → ((m : ℕ) → has b m ≡ true → has_any rest m ≡ false)
+    → has b x ≡ false
 not_first rest x b there apart = elim (two (has b x)) [
   | inl t ↦ absurd (true≢false (sym there ∙ apart x t))
   | inr f ↦ f
@@ -48,7 +49,8 @@ not_own x m kind off hx = elim (two (nat_eq m x)) [
   | inr f ↦ f
 ]
 
-pub passed : (m : ℕ) (kind : Kind) (rest : Graph) → ((q : ℕ) → (nat_eq m q || holds kind q) ≡ true → has rest q ≡ false) → (x : ℕ) → has rest x ≡ true
+pub passed : (m : ℕ) (kind : Kind) (rest : Graph) → ((q : ℕ) → (nat_eq m q || holds kind q) ≡ true → has rest q ≡ false) → (x : ℕ)
+    → has rest x ≡ true
     → (nat_eq m x ≡ false) × (holds kind x ≡ false)
 passed m kind rest apart x there = (
   first (two (nat_eq m x)),
@@ -99,7 +101,8 @@ module _ (n x : ℕ) (k : Kind) (inner : holds k x ≡ true) where
           }
     ]
 
-    pub told_of : (g : Graph) → Once g → kind_of g n ≡ Some k → Told (paces_round g x n) (loops_of g n) (left_round g x n) (kind_of g x) n k x
+    pub told_of : (g : Graph) → Once g → kind_of g n ≡ Some k → Told (paces_round g x n) (loops_of g n) (left_round g x n)
+        (kind_of g x) n k x
     told_of done once e = absurd (none-some k e)
     told_of (add m after kind rest) once e = elim (stands m kind rest n k e) [
       | at_first t is ↦
@@ -118,7 +121,8 @@ module _ (n x : ℕ) (k : Kind) (inner : holds k x ≡ true) where
       | in_first t is ↦
           let h = told_in m kind once.2 is in
           let hx = holds_in kind n x k is inner in record {
-            many = ap length (when (holds kind x && holds kind n) (paces_in kind x n) (paces_round rest x n) (and_of (holds kind x) (holds kind n) hx t))
+            many = ap length (when (holds kind x && holds kind n) (paces_in kind x n) (paces_round rest x n)
+                (and_of (holds kind x) (holds kind n) hx t))
                 ∙ (h.many ∙ ap length (sym (when (holds kind n) (loops_in m kind n) (loops_of rest n) t)));
             leaves = when (holds kind x) (cond (holds kind n) (left_in kind x n) (loops_in m kind x)) (left_round rest x n) hx
                 ∙ (when (holds kind n) (left_in kind x n) (loops_in m kind x) t ∙ h.leaves);
@@ -131,9 +135,11 @@ module _ (n x : ℕ) (k : Kind) (inner : holds k x ≡ true) where
           let rn = kind_has rest n k is in
           let out = passed m kind rest once.1 x rx in
           let away = passed m kind rest once.1 n rn in record {
-            many = ap length (unless (holds kind x && holds kind n) (paces_in kind x n) (paces_round rest x n) (ap (λ (c : Bool). c && holds kind n) out.1))
+            many = ap length (unless (holds kind x && holds kind n) (paces_in kind x n) (paces_round rest x n)
+                (ap (λ (c : Bool). c && holds kind n) out.1))
                 ∙ (h.many ∙ ap length (sym (unless (holds kind n) (loops_in m kind n) (loops_of rest n) away.1)));
-            leaves = unless (holds kind x) (cond (holds kind n) (left_in kind x n) (loops_in m kind x)) (left_round rest x n) out.1 ∙ h.leaves;
+            leaves = unless (holds kind x) (cond (holds kind n) (left_in kind x n) (loops_in m kind x)) (left_round rest x n) out.1
+                ∙ h.leaves;
             kind = unless (nat_eq m x) (Some kind) (cond (holds kind x) (kind_in kind x) (kind_of rest x)) out.0
                 ∙ (unless (holds kind x) (kind_in kind x) (kind_of rest x) out.1 ∙ h.kind);
           }

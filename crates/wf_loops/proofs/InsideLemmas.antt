@@ -20,7 +20,8 @@ pub data Stands (n : ℕ) (kind : Kind) (rest : Graph) (m : ℕ) (k : Kind) : Ty
 pub stands : (n : ℕ) (kind : Kind) (rest : Graph) (m : ℕ) (k : Kind)
     → cond (nat_eq n m) (Some kind) (cond (holds kind m) (kind_in kind m) (kind_of rest m)) ≡ Some k → Stands n kind rest m k
 stands n kind rest m k e = elim (two (nat_eq n m)) [
-  | inl t ↦ let s : Some kind ≡ Some k = sym (when (nat_eq n m) (Some kind) (cond (holds kind m) (kind_in kind m) (kind_of rest m)) t) ∙ e in
+  | inl t ↦ let s : Some kind ≡ Some k = sym (when (nat_eq n m) (Some kind) (cond (holds kind m) (kind_in kind m) (kind_of rest m)) t)
+      ∙ e in
       at_first t cc
   | inr f ↦
       let e' = sym (unless (nat_eq n m) (Some kind) (cond (holds kind m) (kind_in kind m) (kind_of rest m)) f) ∙ e in
@@ -96,7 +97,8 @@ module _ (low : ℕ → ℕ → Type 0) (y x : Address) (k : Kind) (inner : hold
 
   sides : (g : Graph) (i : List ℕ) (z : Address) → (together low g i y z → together low g i x z) → Once g → kind_of g y.name ≡ Some k
       → starts i y.at ≡ true → Sides g i y z → Sides g i x z
-  sides g i z deeper once e s (inl lower) = inl (subst (λ (o : Option ℕ). Lower low o (owner g i z)) (sym (owner_inside g i once e s)) lower)
+  sides g i z deeper once e s (inl lower) = inl (subst (λ (o : Option ℕ). Lower low o (owner g i z))
+      (sym (owner_inside g i once e s)) lower)
   sides g i z deeper once e s (inr t) = inr (deeper t)
 
   mutual
@@ -141,7 +143,8 @@ module _ (low : ℕ → ℕ → Type 0) (y x : Address) (k : Kind) (inner : hold
         → together low g i y z → together low g i x z
     inside_of done i z once e s h = absurd h
     inside_of (add n after kind rest) i z once e s (inl h) = elim (stands n kind rest y.name k e) [
-      | at_first t is ↦ absurd (true≢false (sym (earlier_has low kind i y z h.2).0 ∙ subst (λ (m : ℕ). holds kind m ≡ false) (eqb-true n y.name t) once.0))
+      | at_first t is ↦ absurd (true≢false (sym (earlier_has low kind i y z h.2).0 ∙ subst (λ (m : ℕ). holds kind m ≡ false)
+          (eqb-true n y.name t) once.0))
       | in_first t is ↦ inl (
         h.0,
         in_of n kind i x (or_second (nat_eq n x.name) (holds kind x.name) (holds_in kind y.name x.name k is inner)) (from i s),
@@ -150,8 +153,10 @@ module _ (low : ℕ → ℕ → Type 0) (y x : Address) (k : Kind) (inner : hold
       | behind_first is ↦ absurd (true≢false (sym h.1 ∙ not_in n kind rest i y once.1 (kind_has rest y.name k is)))
     ]
     inside_of (add n after kind rest) i z once e s (inr h) = elim (stands n kind rest y.name k e) [
-      | at_first t is ↦ absurd (true≢false (sym (together_has low rest i y z h.1) ∙ once.1 y.name (or_first (nat_eq n y.name) (holds kind y.name) t)))
-      | in_first t is ↦ absurd (true≢false (sym (together_has low rest i y z h.1) ∙ once.1 y.name (or_second (nat_eq n y.name) (holds kind y.name) t)))
+      | at_first t is ↦ absurd (true≢false (sym (together_has low rest i y z h.1) ∙ once.1 y.name
+          (or_first (nat_eq n y.name) (holds kind y.name) t)))
+      | in_first t is ↦ absurd (true≢false (sym (together_has low rest i y z h.1) ∙ once.1 y.name
+          (or_second (nat_eq n y.name) (holds kind y.name) t)))
       | behind_first is ↦ inr (h.0, inside_of rest i z once.3 is s h.1)
     ]
 

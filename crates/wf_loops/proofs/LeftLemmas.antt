@@ -31,7 +31,8 @@ mutual
   loops_has_any no_branch x l ls e = absurd (nothing_first e)
   loops_has_any (branch b rest) x l ls e = elim (two (has b x)) [
     | inl t ↦ or_first (has b l) (has_any rest l) (loops_has b x l ls (sym (when (has b x) (loops_of b x) (loops_any rest x) t) ∙ e))
-    | inr f ↦ or_second (has b l) (has_any rest l) (loops_has_any rest x l ls (sym (unless (has b x) (loops_of b x) (loops_any rest x) f) ∙ e))
+    | inr f ↦ or_second (has b l) (has_any rest l) (loops_has_any rest x l ls
+        (sym (unless (has b x) (loops_of b x) (loops_any rest x) f) ∙ e))
   ]
 
   pub loops_has : (g : Graph) (x l : ℕ) (ls : List ℕ) → loops_of g x ≡ l ∷ ls → has g l ≡ true
@@ -110,13 +111,15 @@ module _ (low : ℕ → ℕ → Type 0) (x z : Address) (l : ℕ) (ls a : List �
   owner_left done i once e s t = absurd (nothing_first e)
   owner_left (add n after kind rest) i once e s t = elim (two (holds kind x.name)) [
     | inl h ↦
-        let e' = sym (when (holds kind x.name) (cond (holds kind z.name) (left_in kind x.name z.name) (loops_in n kind x.name)) (left_round rest x.name z.name) h) ∙ e in
+        let e' = sym (when (holds kind x.name) (cond (holds kind z.name) (left_in kind x.name z.name) (loops_in n kind x.name))
+        (left_round rest x.name z.name) h) ∙ e in
         when (is_in n kind i Loop) (Some n) (owner rest i Loop)
         (and_of (nat_eq n l || holds kind l) (starts i a) (first_holds n kind x.name z.name l ls e') s)
         ∙ sym (when (is_in n kind i x) (Some n) (owner rest i x)
         (and_of (nat_eq n x.name || holds kind x.name) (starts i x.at) (or_second (nat_eq n x.name) (holds kind x.name) h) t))
     | inr f ↦
-        let e' = sym (unless (holds kind x.name) (cond (holds kind z.name) (left_in kind x.name z.name) (loops_in n kind x.name)) (left_round rest x.name z.name) f) ∙ e in
+        let e' = sym (unless (holds kind x.name) (cond (holds kind z.name) (left_in kind x.name z.name) (loops_in n kind x.name))
+        (left_round rest x.name z.name) f) ∙ e in
         let h = left_has rest x.name z.name l ls e' in
         unless (is_in n kind i Loop) (Some n) (owner rest i Loop) (not_in n kind rest i Loop once.1 h.1)
         ∙ (owner_left rest i once.3 e' s t
@@ -128,7 +131,8 @@ module _ (low : ℕ → ℕ → Type 0) (x z : Address) (l : ℕ) (ls a : List �
 
   sides : (g : Graph) (i : List ℕ) → (together low g i x z → together low g i Loop z) → Once g → left_round g x.name z.name ≡ l ∷ ls
       → starts i a ≡ true → starts i x.at ≡ true → Sides g i x → Sides g i Loop
-  sides g i deeper once e s t (inl lower) = inl (subst (λ (o : Option ℕ). Lower low o (owner g i z)) (sym (owner_left g i once e s t)) lower)
+  sides g i deeper once e s t (inl lower) = inl (subst (λ (o : Option ℕ). Lower low o (owner g i z))
+      (sym (owner_left g i once e s t)) lower)
   sides g i deeper once e s t (inr h) = inr (deeper h)
 
   loop_within : (g : Graph) (i : List ℕ) → left_round g x.name z.name ≡ l ∷ ls → starts i a ≡ true → is_within g i Loop ≡ true
@@ -183,18 +187,22 @@ module _ (low : ℕ → ℕ → Type 0) (x z : Address) (l : ℕ) (ls a : List �
         let bx = within_has b i x h.0 in
         let bz = within_has b i z h.1 in
         let t = within_starts b i x h.0 in
-        let e' = sym (when (has b x.name) (cond (has b z.name) (left_round b x.name z.name) (loops_of b x.name)) (left_any rest x.name z.name) bx
+        let e' = sym (when (has b x.name) (cond (has b z.name) (left_round b x.name z.name) (loops_of b x.name))
+        (left_any rest x.name z.name) bx
         ∙ when (has b z.name) (left_round b x.name z.name) (loops_of b x.name) bz) ∙ e in
         let dep' = subst (λ (ps : List Pace). Depth ps i)
-        (when (has b x.name && has b z.name) (paces_round b x.name z.name) (paces_any rest x.name z.name) (and_of (has b x.name) (has b z.name) bx bz)) dep in
+        (when (has b x.name && has b z.name) (paces_round b x.name z.name) (paces_any rest x.name z.name)
+        (and_of (has b x.name) (has b z.name) bx bz)) dep in
         let s = front_of i (paces_round b x.name z.name) dep' t in
         inl (loop_within b i e' s, h.1, sides b i (left_together b i once.1 e' dep' t) once.1 e' s t h.2)
     left_earlier_any (branch b rest) i once e dep (inr h) = elim (two (has b x.name)) [
       | inl t ↦ absurd (true≢false (sym (earlier_has_any low rest i x z h).0 ∙ once.0 x.name t))
       | inr f ↦ inr (left_earlier_any rest i once.2
-          (sym (unless (has b x.name) (cond (has b z.name) (left_round b x.name z.name) (loops_of b x.name)) (left_any rest x.name z.name) f) ∙ e)
+          (sym (unless (has b x.name) (cond (has b z.name) (left_round b x.name z.name) (loops_of b x.name))
+          (left_any rest x.name z.name) f) ∙ e)
           (subst (λ (ps : List Pace). Depth ps i)
-          (unless (has b x.name && has b z.name) (paces_round b x.name z.name) (paces_any rest x.name z.name) (ap (λ (c : Bool). c && has b z.name) f)) dep)
+          (unless (has b x.name && has b z.name) (paces_round b x.name z.name) (paces_any rest x.name z.name)
+          (ap (λ (c : Bool). c && has b z.name) f)) dep)
           h)
     ]
 
@@ -204,26 +212,32 @@ module _ (low : ℕ → ℕ → Type 0) (x z : Address) (l : ℕ) (ls a : List �
     left_together (add n after kind rest) i once e dep t (inl h) = elim (two (holds kind x.name)) [
       | inl hx ↦
           let hz = (earlier_has low kind i x z h.2).1 in
-          let e' = sym (when (holds kind x.name) (cond (holds kind z.name) (left_in kind x.name z.name) (loops_in n kind x.name)) (left_round rest x.name z.name) hx
+          let e' = sym (when (holds kind x.name) (cond (holds kind z.name) (left_in kind x.name z.name) (loops_in n kind x.name))
+          (left_round rest x.name z.name) hx
           ∙ when (holds kind z.name) (left_in kind x.name z.name) (loops_in n kind x.name) hz) ∙ e in
           let dep' = subst (λ (ps : List Pace). Depth ps i)
-          (when (holds kind x.name && holds kind z.name) (paces_in kind x.name z.name) (paces_round rest x.name z.name) (and_of (holds kind x.name) (holds kind z.name) hx hz)) dep in
+          (when (holds kind x.name && holds kind z.name) (paces_in kind x.name z.name) (paces_round rest x.name z.name)
+          (and_of (holds kind x.name) (holds kind z.name) hx hz)) dep in
           inl (
             h.0,
-            and_of (nat_eq n l || holds kind l) (starts i a) (or_second (nat_eq n l) (holds kind l) (left_has_in kind x.name z.name l ls e'))
+            and_of (nat_eq n l || holds kind l) (starts i a) (or_second (nat_eq n l) (holds kind l)
+                (left_has_in kind x.name z.name l ls e'))
                 (front_of i (paces_in kind x.name z.name) dep' t),
             left_earlier kind i once.2 e' dep' h.2,
           )
       | inr f ↦ absurd (true≢false (sym (earlier_has low kind i x z h.2).0 ∙ f))
     ]
     left_together (add n after kind rest) i once e dep t (inr h) = elim (two (holds kind x.name)) [
-      | inl hx ↦ absurd (true≢false (sym (together_has low rest i x z h.1) ∙ once.1 x.name (or_second (nat_eq n x.name) (holds kind x.name) hx)))
+      | inl hx ↦ absurd (true≢false (sym (together_has low rest i x z h.1) ∙ once.1 x.name
+          (or_second (nat_eq n x.name) (holds kind x.name) hx)))
       | inr f ↦ inr (
         h.0,
         left_together rest i once.3
-            (sym (unless (holds kind x.name) (cond (holds kind z.name) (left_in kind x.name z.name) (loops_in n kind x.name)) (left_round rest x.name z.name) f) ∙ e)
+            (sym (unless (holds kind x.name) (cond (holds kind z.name) (left_in kind x.name z.name) (loops_in n kind x.name))
+            (left_round rest x.name z.name) f) ∙ e)
             (subst (λ (ps : List Pace). Depth ps i)
-            (unless (holds kind x.name && holds kind z.name) (paces_in kind x.name z.name) (paces_round rest x.name z.name) (ap (λ (c : Bool). c && holds kind z.name) f)) dep)
+            (unless (holds kind x.name && holds kind z.name) (paces_in kind x.name z.name) (paces_round rest x.name z.name)
+            (ap (λ (c : Bool). c && holds kind z.name) f)) dep)
             t h.1,
       )
     ]

@@ -43,6 +43,7 @@ module _ (low : ℕ → ℕ → Type 0) where
   pub together_has : (g : Graph) (i : List ℕ) (y z : Address) → together low g i y z → has g y.name ≡ true
   together_has done i y z t = absurd t
   together_has (add n after kind rest) i y z (inl h) =
-      or_first (nat_eq n y.name || holds kind y.name) (has rest y.name) (and_in (nat_eq n y.name || holds kind y.name) (starts i y.at) h.1).0
+      or_first (nat_eq n y.name || holds kind y.name) (has rest y.name)
+      (and_in (nat_eq n y.name || holds kind y.name) (starts i y.at) h.1).0
   together_has (add n after kind rest) i y z (inr h) =
       or_second (nat_eq n y.name || holds kind y.name) (has rest y.name) (together_has rest i y z h.1)

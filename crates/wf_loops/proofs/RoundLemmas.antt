@@ -43,7 +43,8 @@ data SplitIn (m : ℕ) (kind : Kind) (n l : ℕ) (ps : List ℕ) : Type 0 where
   inner : holds kind l ≡ true → loops_in m kind l ≡ ps → Among (around_in kind n) l → SplitIn m kind n l ps
 
 mutual
-  split_in : (m : ℕ) (kind : Kind) → OnceIn kind → (n : ℕ) (ps : List ℕ) (l : ℕ) (qs : List ℕ) → loops_in m kind n ≡ ps ++ l ∷ qs → SplitIn m kind n l ps
+  split_in : (m : ℕ) (kind : Kind) → OnceIn kind → (n : ℕ) (ps : List ℕ) (l : ℕ) (qs : List ℕ) → loops_in m kind n ≡ ps ++ l ∷ qs
+      → SplitIn m kind n l ps
   split_in m Leaf once n ps l qs e = absurd (none_split ps l qs e)
   split_in m (Scope g) once n ps l qs e =
       let h = split_of g once n ps l qs e in inner (around_has g n l h.contains) h.outer h.contains
@@ -109,7 +110,8 @@ mutual
           ];
           contains = elim (two (nat_eq m n)) [
             | inl same ↦ absurd (none_split ps l qs (sym (loops_none rest n (once.1 n (or_first (nat_eq m n) (holds kind n) same))) ∙ e'))
-            | inr other ↦ subst (λ (xs : List ℕ). Among xs l) (sym (unless (nat_eq m n) [] (cond (holds kind n) (m ∷ around_in kind n) (around rest n)) other
+            | inr other ↦ subst (λ (xs : List ℕ). Among xs l) (sym
+                (unless (nat_eq m n) [] (cond (holds kind n) (m ∷ around_in kind n) (around rest n)) other
                 ∙ unless (holds kind n) (m ∷ around_in kind n) (around rest n) f)) h.contains
           ];
         }

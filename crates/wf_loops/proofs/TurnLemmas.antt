@@ -21,7 +21,8 @@ both_any no_branch x y xs ys e = absurd (true≢false (sym e))
 both_any (branch b rest) x y xs ys e = elim (two (has b x && has b y)) [
   | inl t ↦ let h = and_in (has b x) (has b y) t in (or_first (has b x) (has_any rest x) h.0, or_first (has b y) (has_any rest y) h.1)
   | inr f ↦
-      let h = both_any rest x y xs ys (subst (λ (ps : List Pace). Decides ps xs ys) (unless (has b x && has b y) (paces_round b x y) (paces_any rest x y) f) e) in
+      let h = both_any rest x y xs ys (subst (λ (ps : List Pace). Decides ps xs ys)
+      (unless (has b x && has b y) (paces_round b x y) (paces_any rest x y) f) e) in
       (or_second (has b x) (has_any rest x) h.0, or_second (has b y) (has_any rest y) h.1)
 ]
 
@@ -33,7 +34,8 @@ both_of (add n after kind rest) x y xs ys e = elim (two (holds kind x && holds k
     or_first (nat_eq n y || holds kind y) (has rest y) (or_second (nat_eq n y) (holds kind y) h.1),
   )
   | inr f ↦
-      let h = both_of rest x y xs ys (subst (λ (ps : List Pace). Decides ps xs ys) (unless (holds kind x && holds kind y) (paces_in kind x y) (paces_round rest x y) f) e) in
+      let h = both_of rest x y xs ys (subst (λ (ps : List Pace). Decides ps xs ys)
+      (unless (holds kind x && holds kind y) (paces_in kind x y) (paces_round rest x y) f) e) in
       (or_second (nat_eq n x || holds kind x) (has rest x) h.0, or_second (nat_eq n y || holds kind y) (has rest y) h.1)
 ]
 
@@ -65,7 +67,8 @@ module _ (low : ℕ → ℕ → Type 0) where
       ⊎ ((j : ℕ) × (m : ℕ) × (pace ≡ InTurn) × (j < m) × (is_within g (i ++ j ∷ []) x ≡ true) × (is_within g (i ++ m ∷ []) y ≡ true))
 
   turned : (pace : Pace) (g : Graph) (x y : Address) (i xs ys : List ℕ)
-      → ((j : ℕ) (us vs : List ℕ) → At (i ++ j ∷ []) us x → At (i ++ j ∷ []) vs y → Decides (paces_round g x.name y.name) us vs → together low g (i ++ j ∷ []) x y)
+      → ((j : ℕ) (us vs : List ℕ) → At (i ++ j ∷ []) us x → At (i ++ j ∷ []) vs y → Decides (paces_round g x.name y.name) us vs
+      → together low g (i ++ j ∷ []) x y)
       → At i xs x → At i ys y → has g x.name ≡ true → has g y.name ≡ true → Decides (pace ∷ paces_round g x.name y.name) xs ys
       → Turned pace g i x y
   turned pace g x y i [] ys deeper is js hx hy e = absurd (true≢false (sym e))
@@ -128,15 +131,18 @@ module _ (low : ℕ → ℕ → Type 0) where
           (unless (has b x.name && has b y.name) (paces_round b x.name y.name) (paces_any rest x.name y.name) f) e))
     ]
 
-    pub turn_of : (g : Graph) (x y : Address) (i xs ys : List ℕ) → Once g → At i xs x → At i ys y → Decides (paces_round g x.name y.name) xs ys
+    pub turn_of : (g : Graph) (x y : Address) (i xs ys : List ℕ) → Once g → At i xs x → At i ys y → Decides
+        (paces_round g x.name y.name) xs ys
         → together low g i x y
     turn_of done x y i xs ys once is js e = absurd (true≢false (sym e))
     turn_of (add n after kind rest) x y i xs ys once is js e = elim (two (holds kind x.name && holds kind y.name)) [
       | inl t ↦
           let h = and_in (holds kind x.name) (holds kind y.name) t in
           inl (
-            and_of (nat_eq n y.name || holds kind y.name) (starts i y.at) (or_second (nat_eq n y.name) (holds kind y.name) h.1) (at_starts i ys y js),
-            and_of (nat_eq n x.name || holds kind x.name) (starts i x.at) (or_second (nat_eq n x.name) (holds kind x.name) h.0) (at_starts i xs x is),
+            and_of (nat_eq n y.name || holds kind y.name) (starts i y.at) (or_second (nat_eq n y.name) (holds kind y.name) h.1)
+                (at_starts i ys y js),
+            and_of (nat_eq n x.name || holds kind x.name) (starts i x.at) (or_second (nat_eq n x.name) (holds kind x.name) h.0)
+                (at_starts i xs x is),
             turn_in kind x y i xs ys once.2 is js h.0 h.1 (subst (λ (ps : List Pace). Decides ps xs ys)
                 (when (holds kind x.name && holds kind y.name) (paces_in kind x.name y.name) (paces_round rest x.name y.name) t) e),
           )
