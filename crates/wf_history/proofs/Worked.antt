@@ -1,12 +1,12 @@
 -- Histories at worked values. Lines that hold JSON don't compute; what follows from what is on each line does.
-use Rattle.std.proofs.Common.{◌≡◌, [], ◌∷◌, true, false, map, Ok, Err, pos, refl}
+use Rattle.std.proofs.Common.{◌≡◌, ℕ, List, [], ◌∷◌, true, false, map, Ok, Err, pos, refl}
 use Rattle.std.specs.Prelude.{codes}
-use Rattle.wf_record.specs.Record.{RecordTree}
+use Rattle.wf_lines.specs.Lines.{lines_of, without_return}
 use Rattle.wf_record.specs.Worked.{empty, finished}
 use Rattle.wf_record.specs.declared.status.RunStatus.{RunStatus}
 use Rattle.wf_record_form.specs.declared.fault.RecordFault.{RecordFault}
-use Rattle.wf_history.specs.History.{Kept, OnLine, bad, find, holds, if_listed, if_record, if_records, if_scanned, is_silent, line_then}
-use Rattle.wf_history.specs.History.{list_of, on_line, records_from, records_of, scan_of, silent}
+use Rattle.wf_history.specs.History.{bad, find, holds, if_listed, if_record, if_records, if_scanned, is_silent, line_then, list_of}
+use Rattle.wf_history.specs.History.{on_line, records_of, scan_of, silent}
 use Rattle.wf_history.specs.declared.fault.HistoryFault.{HistoryFault}
 
 -- ---- lines
@@ -60,8 +60,12 @@ then-first_of_two : line_then 4 bad (Err 6) ≡ Err 4
 then-first_of_two = refl
 
 -- lines are counted from 1, the silent ones too
-counted : records_of (codes "\n#\n\n") ≡ records_from 4 []
-counted = refl
+counted-first : (bytes line : List ℕ) → lines_of bytes ≡ line ∷ [] → on_line (without_return line) ≡ bad → records_of bytes ≡ Err 1
+counted-first bytes line is none = rw (is, none) refl
+
+counted-second : (bytes line : List ℕ) → lines_of bytes ≡ codes "#" ∷ line ∷ [] → on_line (without_return line) ≡ bad
+    → records_of bytes ≡ Err 2
+counted-second bytes line is none = rw (is, none) refl
 
 -- ---- the record of a run
 
