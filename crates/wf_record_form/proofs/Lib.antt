@@ -3,3 +3,4 @@ pub mod NeighbourLemmas
 pub mod OrderLemmas
 pub mod ReadBackLemmas
 mod Worked
+mod WorkedFitting

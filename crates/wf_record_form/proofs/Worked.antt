@@ -1,6 +1,6 @@
 -- Records read back, at worked values: each member absent, of a wrong kind and at its bounds, which place is named, and in which order the
 -- faults come.
-use Rattle.std.proofs.Common.{◌≡◌, ◌^◌, ◌-◌, ℕ, zero, suc, [], ◌∷◌, ◌++◌, List, Bool, true, false, map, Option, Some, None, Result, Ok}
+use Rattle.std.proofs.Common.{◌≡◌, ◌^◌, ◌-◌, ℕ, zero, suc, [], ◌∷◌, ◌++◌, List, true, false, map, Result, Ok}
 use Rattle.std.proofs.Common.{Err, pos}
 use Rattle.std.proofs.Common.{negsuc, refl}
 use Rattle.std.specs.Fmt.{digits}
@@ -8,9 +8,9 @@ use Rattle.std.specs.Prelude.{codes, ⊤}
 use Rattle.std.specs.Str.{chars}
 use Rattle.hex.proofs.OnLiterals.{hex_on_literals}
 use Rattle.wf_val.specs.Get.{put, without}
-use Rattle.wf_val.specs.ValueTree.{ValueTree, null, boolean, number, text}
+use Rattle.wf_val.specs.ValueTree.{ValueTree, null, number, text}
 use Rattle.wf_record.specs.Record.{RecordTree, RowTree, record_value, row_value}
-use Rattle.wf_record.specs.Worked.{at_rounds, called, empty, failed, list_of, number_of, object_of, skipped, succeeded, times}
+use Rattle.wf_record.specs.Worked.{at_rounds, called, empty, failed, list_of, number_of, object_of, skipped, times}
 use Rattle.wf_record.specs.declared.attempt.Try.{Try}
 use Rattle.wf_record_form.specs.OfVal.{of_val, record_places}
 use Rattle.wf_record_form.specs.ReadBack.{first_record_value, first_row_value}
