@@ -1,7 +1,9 @@
 mod ToldLemmas
+mod PairLemmas
 mod WorkedSeveral
 mod RowWords
 mod WorkedNames
 mod WorkedLoops
 mod WorkedVariables
 mod WorkedSites
+mod WorkedPairs

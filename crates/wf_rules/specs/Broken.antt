@@ -7,8 +7,10 @@ use Rattle.wf_def.specs.DefTree.{DefTree, ParamTree}
 use Rattle.wf_reading.specs.ReadSeen.{rule_fault}
 use Rattle.wf_reading.specs.declared.definition.RuleFault.{RuleFault}
 use Rattle.wf_rules.specs.Rules.{action_breaks, output_breaks, parameter_breaks, trigger_breaks}
-use Rattle.wf_standing.specs.Standing.{pointer_at, standings_of}
-use Rattle.wf_standing.specs.Whole.{whole_of}
+use Rattle.wf_standing.specs.Standing.{StandingTree, pointer_at, standings_of}
+use Rattle.wf_standing.specs.Whole.{Whole, whole_of}
+use Rattle.wf_varorder.specs.Pairs.{Pair, pairs_among}
+use Rattle.wf_varorder.specs.declared.rule.PairRule.{PairRule}
 use Rattle.wf_rules.specs.declared.rule.Rule.{Rule}
 
 -- the pointers of what is broken
@@ -25,26 +27,40 @@ told_in section broken i (name ∷ names) = cond (broken (cut_u32 i)) ((section 
 abbrev pub parameter_pointer : ParamTree → List ℕ
 parameter_pointer p = codes "/parameters" ++ member_step p.name
 
+-- The pointers at which pairs of actions are told that break a rule on two. Which pair is told first is nothing to the pointer.
+abbrev pub first_pointer : Pair → List ℕ
+first_pointer p = pointer_at p.0
+
+abbrev pub pairs_told : Whole → List StandingTree → Rule → List (List ℕ)
+pairs_told whole all Rule.Accesses = map first_pointer (pairs_among whole PairRule.Variables all all)
+pairs_told whole all Rule.Terminates = map first_pointer (pairs_among whole PairRule.Terminates all all)
+pairs_told whole all Rule.Responses = map first_pointer (pairs_among whole PairRule.Responses all all)
+pairs_told whole all rule = []
+
 -- the pointers of all that breaks a rule
 abbrev pub offences : DefTree → Rule → List (List ℕ)
 offences d rule =
     told (action_breaks (whole_of d) rule) pointer_at (standings_of d.top)
     ++ (told_in (codes "/outputs") (output_breaks (whole_of d) rule) 0 (map (λ o. o.name) d.outputs)
     ++ (told (parameter_breaks d.given rule) parameter_pointer d.parameters
-    ++ told_in (codes "/triggers") (trigger_breaks (whole_of d) rule) 0 (map (λ t. t.name) d.triggers)))
+    ++ (told_in (codes "/triggers") (trigger_breaks (whole_of d) rule) 0 (map (λ t. t.name) d.triggers)
+    ++ pairs_told (whole_of d) (standings_of d.top) rule)))
 
--- The rules that are tried, in the order of their numbers. V13, V15 and V16 aren't tried yet.
+-- the rules in the order of their numbers
 abbrev pub rules_in_order : List Rule
 rules_in_order =
-    Rule.References ∷ Rule.Parameters ∷ Rule.Variables ∷ Rule.Initialised ∷ Rule.Items ∷ Rule.Ends ∷ Rule.LoopsLeft ∷ Rule.Results
-    ∷ Rule.Tracked ∷ Rule.Triggers ∷ []
+    Rule.References ∷ Rule.Parameters ∷ Rule.Variables ∷ Rule.Initialised ∷ Rule.Accesses ∷ Rule.Items ∷ Rule.Terminates ∷ Rule.Responses
+    ∷ Rule.Ends ∷ Rule.LoopsLeft ∷ Rule.Results ∷ Rule.Tracked ∷ Rule.Triggers ∷ []
 
 abbrev pub rule_number : Rule → ℕ
 rule_number Rule.References = 9
 rule_number Rule.Parameters = 10
 rule_number Rule.Variables = 11
 rule_number Rule.Initialised = 12
+rule_number Rule.Accesses = 13
 rule_number Rule.Items = 14
+rule_number Rule.Terminates = 15
+rule_number Rule.Responses = 16
 rule_number Rule.Ends = 17
 rule_number Rule.LoopsLeft = 18
 rule_number Rule.Results = 19

@@ -1,8 +1,9 @@
 -- The rules on what a definition names (Workflow Definition Language, "Reference guide to workflow expression functions" and "Schema
 -- reference guide for trigger and action types").
 --
--- Each rule but V17 is a test of what is asked for at one site. A site stands at an action, or in the section `outputs`, where there is no
--- action. What breaks a rule is told at the action, the output, the trigger or the parameter (specs/Broken).
+-- Each rule is a test of what is asked for at one site; but V17 is one of where an action stands, and V13, V15 and V16 are on two actions
+-- (wf_varorder). A site stands at an action, or in the section `outputs`, where there is no action. What breaks a rule is told at the
+-- action, the output, the trigger or the parameter (specs/Broken).
 use Rattle.std.specs.Prelude.{ℕ, List, [], ◌∷◌, Bool, true, false, not, ◌&&◌, ◌||◌, nat_eq, nat_lt, Option, Some, None}
 use Rattle.std.specs.Prelude.{if◌then◌else◌}
 use Rattle.std.specs.List.{list_any}
@@ -168,7 +169,10 @@ module _ (whole : Whole) where
   breaks_with Rule.Parameters site at u = names_undeclared whole u
   breaks_with Rule.Variables site at u = misuses whole at u
   breaks_with Rule.Initialised site at u = comes_early whole at u
+  breaks_with Rule.Accesses site at u = false
   breaks_with Rule.Items site at u = names_outer site at u
+  breaks_with Rule.Terminates site at u = false
+  breaks_with Rule.Responses site at u = false
   breaks_with Rule.Ends site at u = false
   breaks_with Rule.LoopsLeft site at u = leaves_loops whole site at u
   breaks_with Rule.Results site at u = asks_leaf whole u

@@ -5,7 +5,8 @@ ghost use Rattle.wf_first.specs.First.{first_broken};
 ghost use Rattle.wf_json.specs.Pointer.{least, lesser, member_step};
 ghost use Rattle.wf_order.specs.OrderSeen.{order_tree};
 ghost use Rattle.wf_reading.specs.ReadSeen.{def_tree};
-ghost use Rattle.wf_rules.specs.Broken.{offences, parameter_pointer, rules_in_order, told, told_in};
+ghost use Rattle.wf_rules.specs.Broken.{first_pointer, offences, pairs_told, parameter_pointer, rules_in_order, told, told_in};
+ghost use Rattle.wf_varorder.specs.Pairs.{pairs_among};
 ghost use Rattle.wf_standing.specs.KnownSeen.{whole_seen};
 ghost use Rattle.wf_rules.specs.Rules.{action_breaks, output_breaks, parameter_breaks, trigger_breaks};
 ghost use Rattle.wf_standing.specs.Seen.{standing_tree};
@@ -24,6 +25,7 @@ use wf_reading::Def;
 use wf_refs::refs;
 use wf_standing::{Known, Standing, standings_of};
 use wf_val::{Fields, Name, Text};
+use wf_varorder::{PairRule, least_pair};
 
 // The lesser of the pointer so far, if there is one, and another, where that is broken.
 fn with_pointer<'a>(best: Option<&'a Text>, broken: bool, pointer: &'a Text) -> Option<&'a Text>
@@ -86,6 +88,36 @@ fn least_action<'a>(
         );
     }
     best
+}
+
+// Where the least pair is told that breaks a rule on two actions.
+fn first_told<'a>(
+    known: &Known<'_, '_>,
+    rule: PairRule,
+    standings: &[Standing<'a>],
+) -> Option<&'a Text>
+    ensures { option_map (λ p. p.now) result ≡ least (map first_pointer
+        (pairs_among (whole_seen known.now) rule (map standing_tree standings.now) (map standing_tree standings.now))) }
+{
+    match least_pair(known, standings, rule) {
+        Some(pair) => Some(&pair.first.action.pointer),
+        None => None,
+    }
+}
+
+fn least_of_pairs<'a>(
+    known: &Known<'_, '_>,
+    rule: Rule,
+    standings: &[Standing<'a>],
+) -> Option<&'a Text>
+    ensures { option_map (λ p. p.now) result ≡ least (pairs_told (whole_seen known.now) (map standing_tree standings.now) rule) }
+{
+    match rule {
+        Rule::Accesses => first_told(known, PairRule::Variables, standings),
+        Rule::Terminates => first_told(known, PairRule::Terminates, standings),
+        Rule::Responses => first_told(known, PairRule::Responses, standings),
+        _ => None,
+    }
 }
 
 fn copied(alloc: Global, pointer: Option<&Text>) -> Result<Option<String>, AllocError>
@@ -157,12 +189,15 @@ fn least_parameter(
     Ok(best)
 }
 
-const RULES: [Rule; 10] = [
+const RULES: [Rule; 13] = [
     Rule::References,
     Rule::Parameters,
     Rule::Variables,
     Rule::Initialised,
+    Rule::Accesses,
     Rule::Items,
+    Rule::Terminates,
+    Rule::Responses,
     Rule::Ends,
     Rule::LoopsLeft,
     Rule::Results,
@@ -186,7 +221,11 @@ fn least_offence(
     let output = least_output(alloc, known, rule, def.outputs.as_slice())?;
     let parameter = least_parameter(alloc, &def.given, rule, def.parameters.as_slice())?;
     let trigger = least_trigger(alloc, known, rule, def.triggers.as_slice())?;
-    Ok(lesser(action, lesser(output, lesser(parameter, trigger))))
+    let pair = copied(alloc, least_of_pairs(known, rule, standings))?;
+    Ok(lesser(
+        action,
+        lesser(output, lesser(parameter, lesser(trigger, pair))),
+    ))
 }
 
 fn first_among(
