@@ -10,8 +10,7 @@ use Rattle.wf_def.specs.AllActions.{all_actions, kind_actions}
 use Rattle.wf_rules.specs.Broken.{broken_of, offences, rules_in_order}
 use Rattle.wf_rules.specs.First.{first_broken, or_later}
 use Rattle.wf_rules.specs.declared.rule.Rule.{Rule}
-use Rattle.wf_plain.specs.Unbuilt.{is_built, is_compose, is_run, not_yet, pointers}
-use Rattle.wf_plain.specs.declared.unbuilt.Purpose.{Purpose}
+use Rattle.wf_plain.specs.Unbuilt.{is_compose, is_run, not_yet, pointers}
 use Rattle.wf_plain.proofs.AlikeLemmas.{AreCompose, IsCompose}
 
 abbrev pub NoneIsLeast : Type 0
@@ -41,7 +40,7 @@ and-first : (b c : Bool) → (b && c) ≡ true → b ≡ true
 and-first true c is = refl
 and-first false c is = is
 
-no-pointers : (as' : List ActionTree) → pointers Purpose.Run as' ≡ [] → AllByRecursion (λ a. is_run a ≡ true) as'
+no-pointers : (as' : List ActionTree) → pointers as' ≡ [] → AllByRecursion (λ a. is_run a ≡ true) as'
 no-pointers [] none = tt
 no-pointers (a ∷ more) none = elim (is_run a) as (λ (b : Bool). is_run a ≡ b → AllByRecursion (λ x. is_run x ≡ true) (a ∷ more)) [
   | true ↦ λ is. (is, no-pointers more (sym (passed true is) ∙ none))
@@ -49,9 +48,9 @@ no-pointers (a ∷ more) none = elim (is_run a) as (λ (b : Bool). is_run a ≡ 
 ] refl
   where
     rest : List ActionTree
-    rest = filter (λ x. not (is_built Purpose.Run x)) more
+    rest = filter (λ x. not (is_run x)) more
 
-    passed : (b : Bool) → is_run a ≡ b → pointers Purpose.Run (a ∷ more) ≡ map action_pointer (cond (not b) (a ∷ rest) rest)
+    passed : (b : Bool) → is_run a ≡ b → pointers (a ∷ more) ≡ map action_pointer (cond (not b) (a ∷ rest) rest)
     passed b is = ap (λ (c : Bool). map action_pointer (cond (not c) (a ∷ rest) rest)) is
 
     no_more : action_pointer a ∷ map action_pointer rest ≡ [] → ⊥
@@ -66,5 +65,5 @@ run-compose (action_then (action name number pointer after kind tracked) rest) a
           (ap kind_actions own.1) all.1),
     )
 
-pub all-compose : NoneIsLeast → (d : DefTree) → not_yet Purpose.Run d ≡ None → AreCompose (actions_in d.top)
-all-compose none d is = run-compose d.top (no-pointers (all_actions d.top) (none (pointers Purpose.Run (all_actions d.top)) is))
+pub all-compose : NoneIsLeast → (d : DefTree) → not_yet d ≡ None → AreCompose (actions_in d.top)
+all-compose none d is = run-compose d.top (no-pointers (all_actions d.top) (none (pointers (all_actions d.top)) is))

@@ -4,29 +4,28 @@ use Rattle.std.specs.List.{filter}
 use Rattle.wf_json.proofs.PointerLemmas.{least-append, lesser-assoc}
 use Rattle.wf_json.specs.Pointer.{least, lesser}
 use Rattle.wf_def.specs.ActionTree.{ActionTree, action_pointer}
-use Rattle.wf_plain.specs.Unbuilt.{is_built, pointers}
-use Rattle.wf_plain.specs.declared.unbuilt.Purpose.{Purpose}
+use Rattle.wf_plain.specs.Unbuilt.{is_run, pointers}
 
 -- the pointer of an action that isn't built
 abbrev pub own : Bool → ActionTree → List (List ℕ)
 own built a = cond built [] (action_pointer a ∷ [])
 
-pointers-then : (purpose : Purpose) (a : ActionTree) (more : List ActionTree)
-    → pointers purpose (a ∷ more) ≡ own (is_built purpose a) a ++ pointers purpose more
-pointers-then purpose a more = go (is_built purpose a)
+pointers-then : (a : ActionTree) (more : List ActionTree)
+    → pointers (a ∷ more) ≡ own (is_run a) a ++ pointers more
+pointers-then a more = go (is_run a)
   where
-    go : (b : Bool) → map action_pointer (cond (not b) (a ∷ filter (λ x. not (is_built purpose x)) more) (filter (λ x. not
-        (is_built purpose x)) more))
-        ≡ own b a ++ pointers purpose more
+    go : (b : Bool) → map action_pointer (cond (not b) (a ∷ filter (λ x. not (is_run x)) more) (filter (λ x. not
+        (is_run x)) more))
+        ≡ own b a ++ pointers more
     go true = refl
     go false = refl
 
 -- the best so far and the pointer of one more action, before those of the rest
-pub one-more : (purpose : Purpose) (best : Option (List ℕ)) (built : Bool) (a : ActionTree) (more : List ActionTree)
-    → built ≡ is_built purpose a
-    → lesser (lesser best (least (own built a))) (least (pointers purpose more)) ≡ lesser best (least (pointers purpose (a ∷ more)))
-one-more purpose best built a more is =
-    ap (λ b. lesser (lesser best (least (own b a))) (least (pointers purpose more))) is
-    ∙ sym (lesser-assoc best (least (own (is_built purpose a) a)) (least (pointers purpose more)))
+pub one-more : (best : Option (List ℕ)) (built : Bool) (a : ActionTree) (more : List ActionTree)
+    → built ≡ is_run a
+    → lesser (lesser best (least (own built a))) (least (pointers more)) ≡ lesser best (least (pointers (a ∷ more)))
+one-more best built a more is =
+    ap (λ b. lesser (lesser best (least (own b a))) (least (pointers more))) is
+    ∙ sym (lesser-assoc best (least (own (is_run a) a)) (least (pointers more)))
     ∙ ap (lesser best)
-    (sym (least-append (own (is_built purpose a) a) (pointers purpose more)) ∙ ap least (sym (pointers-then purpose a more)))
+    (sym (least-append (own (is_run a) a) (pointers more)) ∙ ap least (sym (pointers-then a more)))

@@ -9,14 +9,13 @@ use Rattle.wf_layers.specs.Definition.{Failed, Skipped, Succeeded, TimedOut}
 use Rattle.wf_retry.specs.declared.policy.Policy.{Policy}
 use Rattle.wf_def.specs.ActionTree.{ActionTree, action, KindTree, compose, connector, wait, response, terminate, select, query, join}
 use Rattle.wf_def.specs.ActionTree.{parse_json, initialize, set_to, increment, decrement, append_array, append_string, scope, branch}
-use Rattle.wf_def.specs.ActionTree.{switch, switch_else, foreach, until, ActionTrees, no_actions, action_then, no_cases, case_then}
+use Rattle.wf_def.specs.ActionTree.{switch, switch_else, foreach, until, ActionTrees, no_actions, action_then, no_cases}
 use Rattle.wf_def.specs.DefTree.{DefTree, OutputTree, ParamTree, TriggerTree}
 use Rattle.wf_def.specs.declared.after.After.{After}
 use Rattle.wf_def.specs.declared.sort.Sort.{Sort}
 use Rattle.wf_plain.specs.Flat.{flat, place_of}
 use Rattle.wf_plain.specs.Plain.{plain_of}
-use Rattle.wf_plain.specs.Unbuilt.{is_judged, is_run, not_yet}
-use Rattle.wf_plain.specs.declared.unbuilt.Purpose.{Purpose}
+use Rattle.wf_plain.specs.Unbuilt.{is_run, not_yet}
 
 -- an action of this name that waits for these, at the pointer
 abbrev at : List ℕ → List ℕ → List After → KindTree → ActionTree
@@ -50,8 +49,8 @@ kinds policy =
     ∷ (switch_else (plain []) no_cases no_actions
     ∷ (foreach null 20 no_actions ∷ (until some_test 60 false no_actions ∷ []))))))))))))
 
-abbrev unjudged_kinds : List KindTree
-unjudged_kinds =
+abbrev further_kinds : List KindTree
+further_kinds =
     response null ∷ (terminate null ∷ (initialize [] ∷ (set_to [] null ∷ (increment [] None ∷ (decrement [] None ∷ (append_array [] null
     ∷ (append_string [] null ∷ [])))))))
 
@@ -64,9 +63,9 @@ run-kinds : (policy : Policy) → map (λ k. is_run (of_kind k)) (kinds policy)
     ≡ true ∷ (false ∷ (false ∷ (false ∷ (false ∷ (false ∷ (false ∷ (false ∷ (false ∷ (false ∷ (false ∷ (false ∷ (false ∷ []))))))))))))
 run-kinds policy = refl
 
-run-unjudged : map (λ k. is_run (of_kind k)) unjudged_kinds ≡ false ∷ (false ∷ (false ∷ (false ∷ (false ∷ (false ∷ (false ∷ (false
+run-further : map (λ k. is_run (of_kind k)) further_kinds ≡ false ∷ (false ∷ (false ∷ (false ∷ (false ∷ (false ∷ (false ∷ (false
     ∷ [])))))))
-run-unjudged = refl
+run-further = refl
 
 abbrev tracking : List DataMember → ActionTree
 tracking properties = action (codes "A") 0 (codes "/actions/A") [] (compose null) properties
@@ -77,35 +76,16 @@ run-tracked = refl
 run-two_tracked : is_run (tracking ((codes "p", null) ∷ ((codes "q", null) ∷ []))) ≡ false
 run-two_tracked = refl
 
--- ---- what the rules judge: all but variables, Terminate and Response
-
-judged-kinds : (policy : Policy) → map (λ k. is_judged (of_kind k)) (kinds policy)
-    ≡ true ∷ (true ∷ (true ∷ (true ∷ (true ∷ (true ∷ (true ∷ (true ∷ (true ∷ (true ∷ (true ∷ (true ∷ (true ∷ []))))))))))))
-judged-kinds policy = refl
-
-judged-none : map (λ k. is_judged (of_kind k)) unjudged_kinds ≡ false ∷ (false ∷ (false ∷ (false ∷ (false ∷ (false ∷ (false ∷ (false
-    ∷ [])))))))
-judged-none = refl
-
-judged-tracked : is_judged (tracking ((codes "p", null) ∷ [])) ≡ true
-judged-tracked = refl
-
 -- ---- the least pointer
 
-none-empty : not_yet Purpose.Run (definition no_actions) ≡ None
+none-empty : not_yet (definition no_actions) ≡ None
 none-empty = refl
 
-none-composed : not_yet Purpose.Run (only (of_kind (compose null))) ≡ None
+none-composed : not_yet (only (of_kind (compose null))) ≡ None
 none-composed = refl
 
-unbuilt-wait : not_yet Purpose.Run (only (of_kind (wait null))) ≡ Some (codes "/actions/A")
+unbuilt-wait : not_yet (only (of_kind (wait null))) ≡ Some (codes "/actions/A")
 unbuilt-wait = refl
-
-judged-wait : not_yet Purpose.Check (only (of_kind (wait null))) ≡ None
-judged-wait = refl
-
-unjudged-terminate : not_yet Purpose.Check (only (of_kind (terminate null))) ≡ Some (codes "/actions/A")
-unjudged-terminate = refl
 
 -- S holds T, a Terminate, and X
 abbrev nested : ActionTree
@@ -114,45 +94,19 @@ nested =
     (scope (action_then (at (codes "T") (codes "/actions/S/actions/T") [] (terminate null))
     (action_then (at (codes "X") (codes "/actions/S/actions/X") [] (compose null)) no_actions)))
 
--- to be run, the container is named, whose pointer is less than those in it
-run-nested : not_yet Purpose.Run (only nested) ≡ Some (codes "/actions/S")
+-- the container is named, whose pointer is less than those in it
+run-nested : not_yet (only nested) ≡ Some (codes "/actions/S")
 run-nested = refl
 
--- to be judged, what stands in it
-check-nested : not_yet Purpose.Check (only nested) ≡ Some (codes "/actions/S/actions/T")
-check-nested = refl
-
--- in any branch
-check-else : not_yet Purpose.Check (only (of_kind (branch some_test no_actions
-    (action_then (at (codes "R") (codes "/actions/A/else/actions/R") [] (response null)) no_actions))))
-    ≡ Some (codes "/actions/A/else/actions/R")
-check-else = refl
-
-check-case : not_yet Purpose.Check (only (of_kind (switch (plain []) (case_then (codes "c") (value.text [])
-    (action_then (at (codes "R") (codes "/actions/A/cases/c/actions/R") [] (response null)) no_actions) no_cases))))
-    ≡ Some (codes "/actions/A/cases/c/actions/R")
-check-case = refl
-
-check-default : not_yet Purpose.Check (only (of_kind (switch_else (plain []) no_cases
-    (action_then (at (codes "R") (codes "/actions/A/default/actions/R") [] (response null)) no_actions))))
-    ≡ Some (codes "/actions/A/default/actions/R")
-check-default = refl
-
-check-loops : not_yet Purpose.Check (only (of_kind (foreach null 1 (action_then
-    (at (codes "U") (codes "/actions/A/actions/U") [] (until some_test 1 false (action_then
-    (at (codes "V") (codes "/actions/A/actions/U/actions/V") [] (set_to [] null)) no_actions))) no_actions))))
-    ≡ Some (codes "/actions/A/actions/U/actions/V")
-check-loops = refl
-
 -- the least by bytes, and not the first: a name with a slash comes behind those with letters
-least-escaped : not_yet Purpose.Run (definition (
+least-escaped : not_yet (definition (
     action_then (at (codes "a/") (codes "/actions/a~1") [] (wait null)) (action_then (at (codes "aa") (codes "/actions/aa") []
     (wait null)) no_actions)))
     ≡ Some (codes "/actions/aa")
 least-escaped = refl
 
 -- one that is built in front of it isn't told
-least-built : not_yet Purpose.Run (definition (action_then (top (codes "A") [] (compose null)) (action_then (top (codes "B") []
+least-built : not_yet (definition (action_then (top (codes "A") [] (compose null)) (action_then (top (codes "B") []
     (wait null)) no_actions)))
     ≡ Some (codes "/actions/B")
 least-built = refl
@@ -177,7 +131,7 @@ whole = record {
   outputs = output ∷ [];
 }
 
-none-whole : not_yet Purpose.Run whole ≡ None
+none-whole : not_yet whole ≡ None
 none-whole = refl
 
 -- ---- what runs take

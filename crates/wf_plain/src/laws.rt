@@ -6,7 +6,6 @@ ghost use Rattle.wf_meaning.specs.Names.{names_before};
 ghost use Rattle.wf_meaning.specs.Rounds.{all_end};
 ghost use Rattle.wf_plain.specs.Flat.{flat};
 ghost use Rattle.wf_plain.specs.Unbuilt.{not_yet};
-ghost use Rattle.wf_plain.specs.declared.unbuilt.Purpose.{Purpose};
 ghost use Rattle.wf_reading.specs.Read.{IsRead};
 ghost use Rattle.wf_rules.specs.Broken.{broken_of};
 
@@ -20,7 +19,7 @@ pub fn all_actions_end()
 
 /// And where it breaks no rule on what it names, and runs make all of its actions, an action names only actions before it.
 pub fn names_are_before()
-    ensures { (d : DefTree) → IsRead d → broken_of d ≡ None → not_yet Purpose.Run d ≡ None → names_before (flat (actions_in d.top)) ≡ true }
+    ensures { (d : DefTree) → IsRead d → broken_of d ≡ None → not_yet d ≡ None → names_before (flat (actions_in d.top)) ≡ true }
 {
     all_actions_end();
     wf_json::least_is_least();

@@ -3,7 +3,6 @@ ghost use Rattle.std.specs.Prelude.{◌≡◌, None, IfOk};
 ghost use Rattle.wf_plain.specs.Plain.{plain_of};
 ghost use Rattle.wf_plain.specs.Seen.{definition_tree};
 ghost use Rattle.wf_plain.specs.Unbuilt.{not_yet};
-ghost use Rattle.wf_plain.specs.declared.unbuilt.Purpose.{Purpose};
 ghost use Rattle.wf_reading.specs.ReadSeen.{def_tree};
 
 use crate::definition::Definition;
@@ -15,7 +14,7 @@ use wf_rules::Checked;
 
 /// What runs take of a definition that breaks no rule and all of whose actions they make. Its parts are moved out of it.
 pub fn definition_of(alloc: Global, checked: Checked) -> Result<Definition, AllocError>
-    requires { not_yet Purpose.Run (def_tree checked.def) ≡ None }
+    requires { not_yet (def_tree checked.def) ≡ None }
     ensures { IfOk result (λ d. definition_tree d ≡ plain_of (def_tree checked.def)) }
 {
     actions_stand_in_order();

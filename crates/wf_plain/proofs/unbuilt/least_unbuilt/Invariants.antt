@@ -7,5 +7,5 @@ use Rattle.wf_plain.proofs.unbuilt.least_unbuilt.Given as goal
 -- the best so far, and the least of the rest, give the least of all
 abbrev pub invariant-loop-action : goal.invariant-loop-action
 invariant-loop-action l =
-    lesser (option_map string_bytes l.best) (least (pointers l.purpose (map (λ a. action_tree a.now) (drop l.action-index l.actions))))
-    ≡ least (pointers l.purpose (map (λ a. action_tree a.now) l.actions))
+    lesser (option_map string_bytes l.best) (least (pointers (map (λ a. action_tree a.now) (drop l.action-index l.actions))))
+    ≡ least (pointers (map (λ a. action_tree a.now) l.actions))
