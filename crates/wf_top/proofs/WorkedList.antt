@@ -1,5 +1,5 @@
 -- Worked values of `list`: its words, the limit of its file, its lines and its status.
-use Rattle.std.proofs.Common.{◌≡◌, List, [], ◌∷◌, ◌++◌, true, false, None, Some, Ok, Err, replicate, refl}
+use Rattle.std.proofs.Common.{◌≡◌, [], ◌∷◌, false, None, Some, Ok, Err, refl}
 use Rattle.std.specs.Prelude.{codes}
 use Rattle.std.specs.Fmt.{digits}
 use Rattle.wf_history.specs.History.{ListedTree}
@@ -8,7 +8,7 @@ use Rattle.wf_record.specs.declared.status.RunStatus.{RunStatus}
 use Rattle.wf_top.specs.Commands.{judged_history, listed_line, listing_text, plan}
 use Rattle.wf_top.specs.Fault.{fault_line}
 use Rattle.wf_top.specs.Form.{listing_form, or_line_fault}
-use Rattle.wf_top.specs.Plan.{Plan, Says, Reads}
+use Rattle.wf_top.specs.Plan.{Says, Reads}
 use Rattle.wf_top.specs.Served as served
 use Rattle.wf_top.specs.Words.{command_of, is_traced, makes_runs}
 use Rattle.wf_top.specs.declared.fault.FormFault.{FormFault}
