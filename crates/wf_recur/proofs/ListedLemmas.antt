@@ -198,9 +198,9 @@ in-take (suc n) (m ∷ ms) k rising among =
 
 -- ---- together
 
-pub listed-next : (r : Recurrence) (from n : ℕ) → 1 ≤ r.interval → from ≤ last_tick → AreNext r from n (moments_due r from n)
+pub listed-next : (r : Recurrence) (from n : ℕ) → 1 ≤ r.interval → AreNext r from n (moments_due r from n)
 unfolding moments_due
-listed-next r from n positive within =
+listed-next r from n positive =
     let p : ℕ → Bool = is_due r (start_or r from) in
     let range = range_with_len from (last_tick + 1 - from) in
     let rising : IsRising (filter p range) = rising-filter p from (last_tick + 1 - from) in
@@ -217,10 +217,10 @@ listed-next r from n positive within =
       whole = λ m due le.
           in-take n (filter p range) m rising
           (in-filter p from (last_tick + 1 - from) m (from-due r (start_or r from) m positive due) le
-          (omega (arith, due.in_years, within)));
+          (omega (arith, due.in_years, le)));
     }
 
 -- what is listed is what comes next
-pub are_listed : (r : Recurrence) (from n : ℕ) (ms : List ℕ) → 1 ≤ r.interval → from ≤ last_tick → AreNext r from n ms
+pub are_listed : (r : Recurrence) (from n : ℕ) (ms : List ℕ) → 1 ≤ r.interval → AreNext r from n ms
     → ms ≡ moments_due r from n
-are_listed r from n ms positive within next = next-same r from n ms (moments_due r from n) next (listed-next r from n positive within)
+are_listed r from n ms positive next = next-same r from n ms (moments_due r from n) next (listed-next r from n positive)

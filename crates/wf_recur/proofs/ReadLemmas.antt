@@ -3,7 +3,6 @@ use Rattle.std.proofs.Common.{◌≡◌, ℕ, ◌≤◌, Bool, true, false, cond
 use Rattle.std.proofs.Common.{subst, arith}
 use Rattle.std.specs.Prelude.{codes, nat_le, unwrap_or}
 use Rattle.std.proofs.lemmas.Bool.{and_parts, leb-true}
-use Rattle.wf_fn_time.specs.Moments.{last_tick}
 use Rattle.wf_json.specs.Pointer.{least}
 use Rattle.wf_places.specs.Form.{places}
 use Rattle.wf_val.specs.Get.{get}
@@ -63,6 +62,6 @@ type-if false t place r is = absurd cc
 read-from : (t : ValueTree) (r : Recurrence) → recurrence_of t ≡ Ok r → 1 ≤ r.interval
 read-from t r is = type-if (is_recurrence (get (codes "type") t)) t (least (places recurrence_form Part.Trigger t)) r is
 
-pub read-next : (t : ValueTree) (r : Recurrence) (from n : ℕ) → recurrence_of t ≡ Ok r → from ≤ last_tick
+pub read-next : (t : ValueTree) (r : Recurrence) (from n : ℕ) → recurrence_of t ≡ Ok r
     → AreNext r from n (moments_due r from n)
-read-next t r from n is within = listed-next r from n (read-from t r is) within
+read-next t r from n is = listed-next r from n (read-from t r is)

@@ -1,6 +1,5 @@
 use Rattle.std.proofs.Common.{◌≡◌, ℕ, ◌+◌, ◌<◌, ◌≤◌, List, [], ◌∷◌, ◌++◌, length, None, Some, ap, ◌∙◌, arith, subst, sym}
 use Rattle.std.proofs.lemmas.List.{length_push}
-use Rattle.wf_fn_time.specs.Moments.{last_tick}
 use Rattle.wf_recur.specs.Due.{IsDue}
 use Rattle.wf_recur.specs.Next.{AreNext, IsLeastFrom}
 use Rattle.wf_recur.proofs.ListedLemmas.{are_listed}
@@ -24,8 +23,7 @@ returns-in_default-clause-listed c =
     next_ended r c.args.from c.loop.at c.args.count c.loop.moments.items known.0 (subst P known.4 c.in_default.ensures)
     (omega (arith, known.1, c.loop-test.true)) in
     are_listed r c.args.from c.args.count c.loop.moments.items
-    (omega (arith, c.get-interval.ensures.value, c.get-interval.ensures.from))
-    (omega (arith, c.get-at.ensures.value, c.get-at.ensures.in_range)) next
+    (omega (arith, c.get-interval.ensures.value, c.get-interval.ensures.from)) next
 
 pub loop-preserved : goal.loop-preserved
 loop-preserved c =
@@ -60,5 +58,4 @@ returns-clause-listed c =
     next_full c.args.recurrence.now c.args.from c.loop.at c.args.count c.loop.moments.items known.0
     (omega (arith, known.1, c.loop-test.false, c.loop.auto.counter-end)) in
     are_listed c.args.recurrence.now c.args.from c.args.count c.loop.moments.items
-    (omega (arith, c.get-interval.ensures.value, c.get-interval.ensures.from))
-    (omega (arith, c.get-at.ensures.value, c.get-at.ensures.in_range)) next
+    (omega (arith, c.get-interval.ensures.value, c.get-interval.ensures.from)) next
