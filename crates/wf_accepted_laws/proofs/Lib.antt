@@ -3,4 +3,6 @@ mod SeenLemmas
 mod RoundLemmas
 mod InstanceLemmas
 mod LoopLemmas
-mod HeldLemmas
+mod PairLemmas
+mod VariableLemmas
+mod EndLemmas

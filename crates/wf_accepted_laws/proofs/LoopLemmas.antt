@@ -27,7 +27,8 @@ use Rattle.wf_standing.specs.Whole.{has_name, whole_of}
 use Rattle.wf_rules.specs.declared.rule.Rule.{Rule}
 use Rattle.wf_accepted_laws.proofs.RoundLemmas.{all-weaker}
 use Rattle.wf_accepted_laws.proofs.SeenLemmas.{at-site, both, either, none-first, none-of, none-second, none-told, two}
-use Rattle.wf_accepted_laws.specs.Loops.{AllAskLoopsRound, AllLeaveFew, AsksLoopsRound, IsInLoop, IsInLoopNamed, IsOneOf, IsRound, LeavesFew}
+use Rattle.wf_accepted_laws.specs.Loops.{AllAskLoopsRound, AllLeaveFew, AsksLoopsRound, IsInLoop, IsInLoopNamed, IsOneOf, IsRound}
+use Rattle.wf_accepted_laws.specs.Loops.{LeavesFew}
 use Rattle.wf_accepted_laws.specs.Loops.{LeavesNone, LeavesOne}
 use Rattle.wf_accepted_laws.specs.Seen.{IsSiteOf}
 

@@ -1,3 +1,5 @@
 pub mod Seen
 pub mod Instances
 pub mod Loops
+pub mod Variables
+pub mod Ends

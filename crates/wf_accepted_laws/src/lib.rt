@@ -4,7 +4,8 @@
 //! definition that was read and breaks none of them, each action that an expression names is there, and is before the action of the
 //! expression, or inside the Until whose expression names it. So a run has its row as the expression is evaluated, and sees it at every
 //! address; it has each item and index that is asked for; and it knows which iteration of each loop is meant, but of one that a reference
-//! may leave.
+//! may leave. Accesses of a variable with a writer among them, a Terminate and all else, and Responses are in one order at all their
+//! addresses, or exclude each other.
 //!
 //! It has no code. Each public function has an empty body but for the laws that it calls, and its contract is a law.
 #![tactic(auto)]
@@ -13,7 +14,9 @@ ghost use Rattle.std.specs.Prelude.{◌≡◌, ℕ, true, List, Some, None, map}
 ghost use Rattle.std.specs.List.{AllByRecursion};
 ghost use Rattle.wf_accepted_laws.specs.Instances.{InstancesAreSeen};
 ghost use Rattle.wf_accepted_laws.specs.Loops.{AllAskLoopsRound, AllLeaveFew};
+ghost use Rattle.wf_accepted_laws.specs.Ends.{EndsAreInOrder, EndsStandInNoLoop, ResponsesAreInOneOrder};
 ghost use Rattle.wf_accepted_laws.specs.Seen.{AreSeen};
+ghost use Rattle.wf_accepted_laws.specs.Variables.{VariablesAreInOneOrder};
 ghost use Rattle.wf_def.specs.ActionTree.{ActionTrees, action_number};
 ghost use Rattle.wf_def.specs.DefTree.{DefTree};
 ghost use Rattle.wf_def.specs.Layered.{layered};
@@ -88,4 +91,55 @@ pub fn references_leave_few_loops()
     wf_rules::the_first_broken_rule();
     wf_known_laws::numbers_stand_once();
     containers_are_those_of_the_order();
+}
+
+/// Two writers of a variable are in one order at all their addresses, or exclude each other; and each writer is in what reads the variable,
+/// in one order with it, or excludes it. That is what the laws of a variable's store ask of writers and readers.
+pub fn variables_are_in_one_order()
+    ensures { (d : DefTree) → IsRead d → broken_of d ≡ None → VariablesAreInOneOrder d }
+{
+    wf_rules::the_first_broken_rule();
+    wf_varorder::no_pair_is_in_order();
+    wf_order::accesses_are_in_order();
+    wf_known_laws::numbers_are_had();
+    wf_known_laws::numbers_are_below();
+    wf_known_laws::numbers_stand_once();
+    wf_known_laws::entries_stay_in_their_graph();
+}
+
+/// No loop is round a Terminate or a Response: each has one instance, which all that comes after it sees.
+pub fn ends_stand_in_no_loop()
+    ensures { (d : DefTree) → IsRead d → broken_of d ≡ None → EndsStandInNoLoop d }
+{
+    wf_rules::the_first_broken_rule();
+    wf_order::no_loop_is_round_two();
+    wf_known_laws::numbers_stand_once();
+}
+
+/// A Terminate is in each instance of an action, in one order with it, or excludes it: nothing is under way beside it as it ends the run.
+pub fn ends_are_in_order()
+    ensures { (d : DefTree) → IsRead d → broken_of d ≡ None → EndsAreInOrder d }
+{
+    wf_rules::the_first_broken_rule();
+    wf_varorder::no_pair_is_in_order();
+    wf_order::accesses_are_in_order();
+    wf_order::no_loop_is_round_two();
+    wf_known_laws::numbers_are_had();
+    wf_known_laws::numbers_are_below();
+    wf_known_laws::numbers_stand_once();
+    wf_known_laws::entries_stay_in_their_graph();
+}
+
+/// Two Responses are in one order, or exclude each other: which of them answers doesn't depend on the order of events.
+pub fn responses_are_in_order()
+    ensures { (d : DefTree) → IsRead d → broken_of d ≡ None → ResponsesAreInOneOrder d }
+{
+    wf_rules::the_first_broken_rule();
+    wf_varorder::no_pair_is_in_order();
+    wf_order::accesses_are_in_order();
+    wf_order::no_loop_is_round_two();
+    wf_known_laws::numbers_are_had();
+    wf_known_laws::numbers_are_below();
+    wf_known_laws::numbers_stand_once();
+    wf_known_laws::entries_stay_in_their_graph();
 }
