@@ -65,7 +65,7 @@ module _ {Row Begun Decision Verdict : Type 0} (a b : Source Row Begun Decision 
         → is_in n kind i y ≡ true → keeps n ≡ false
     not_inside n kind i all h =
         not_true (keeps n) (λ k. elim
-            (either (nat_eq n y.name) (holds kind y.name) (and_in (nat_eq n y.name || holds kind y.name) (starts i y.at) h).0) [
+        (either (nat_eq n y.name) (holds kind y.name) (and_in (nat_eq n y.name || holds kind y.name) (starts i y.at) h).0) [
           | inl same ↦ opposed (keeps y.name) (ap keeps (sym (eqb-true n y.name same)) ∙ k) new
           | inr inside ↦ opposed (keeps y.name) (all k y.name inside) new
         ])
@@ -97,7 +97,7 @@ module _ {Row Begun Decision Verdict : Type 0} (a b : Source Row Begun Decision 
           ∙ ap (λ v. b.close x (pt.decide x f) (rounds most 0 (λ j. a.ends (b.test x j g))) v f)
           (last_same (rounds most 0 (λ j. a.ends (b.test x j g))) (λ j. b.test x j f) (λ j. b.test x j g) tests)
           ∙ close_same x (rounds most 0 (λ j. a.ends (b.test x j g)))
-              (last (rounds most 0 (λ j. a.ends (b.test x j g))) (λ j. b.test x j g))))
+          (last (rounds most 0 (λ j. a.ends (b.test x j g))) (λ j. b.test x j g))))
           (λ q. only_same (is_within w i y) _ _
           (λ z. ap (λ c. sides c i (λ j v. look pt w (i ++ j ∷ []) f) (λ v. None) y) count
           ∙ sides_same (rounds most 0 (λ j. a.ends (b.test x j g))) i _ _ (λ j v. look_same w (i ++ j ∷ []) s.2)))
@@ -190,7 +190,7 @@ module _ {Row Begun Decision Verdict : Type 0} (a b : Source Row Begun Decision 
         | inl here ↦
             when (is_in n kind i y) _ _ here
             ∙ elim (two (keeps n)) as
-                (λ _. cond (keeps n) (t y) (cond (again n || gate pk after n i f) (look_in pk kind n i f y) (skip pk n kind i y)) ≡ t y) [
+            (λ _. cond (keeps n) (t y) (cond (again n || gate pk after n i f) (look_in pk kind n i f y) (skip pk n kind i y)) ≡ t y) [
               | inl pinned ↦ when (keeps n) _ _ pinned
               | inr moved ↦
                   let apart = not_named n moved in
@@ -248,7 +248,7 @@ module _ {Row Begun Decision Verdict : Type 0} (d : Graph) (depth : ℕ → ℕ)
     same x w new =
         sym (unless (is_old x) (u x) (f x) (ap (λ c. c && kept redo again x.name) w ∙ new))
         ∙ sym (all_unique (pin a b redo again u recall) depth d falls
-            (pin_sound a b redo (SeenIn d) again u recall d 0 sb) mixed mixed_obeys x w)
+        (pin_sound a b redo (SeenIn d) again u recall d 0 sb) mixed mixed_obeys x w)
 
   pub read_alike : OldTablesReadAlike d depth a b redo again recall plain
   read_alike t u tu x w new = same t u tu x w new

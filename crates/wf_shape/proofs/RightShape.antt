@@ -228,7 +228,7 @@ module _ {Row Begun Decision Verdict : Type 0} (d : Graph) (m : Source Row Begun
         skips g i once idle (λ z more k. here z more k ∙ ap (λ b. in_graph g z b i more) sk) x rest h
     skips_in (Choice bs) n skipped row i once idle f sk here x rest h =
         skips_any bs (read.taken n row) i once idle
-            (λ z more k. here z more k ∙ ap (λ b. in_branches bs (read.taken n row) z b i more) sk) x rest h
+        (λ z more k. here z more k ∙ ap (λ b. in_branches bs (read.taken n row) z b i more) sk) x rest h
     skips_in (Foreach pace g) n skipped row i once idle f sk here x rest h =
         none_there x i rest false refl (here x rest h ∙ turn_none (read.items row) rest _ (idle.0 skipped row f sk))
     skips_in (Until most g) n skipped row i once idle f sk here x rest h =
@@ -241,12 +241,12 @@ module _ {Row Begun Decision Verdict : Type 0} (d : Graph) (m : Source Row Begun
       | inl is ↦ subst (λ (t : Bool). SkippedAs m (expected t rest) (r (address x (i ++ rest))))
           (sym (or_false (plain b x) (plain_any bs x) (plain_had_any bs x (once.0 x is))))
           (skips b i once.1 idle.0
-              (λ y more k. here y more (or_first (has b y) (has_any bs y) k) ∙ when (has b y) (in_graph b y true i more) _ k)
+          (λ y more k. here y more (or_first (has b y) (has_any bs y) k) ∙ when (has b y) (in_graph b y true i more) _ k)
           x rest is)
       | inr is ↦ subst (λ (t : Bool). SkippedAs m (expected t rest) (r (address x (i ++ rest))))
           (sym (false_or (plain b x) (plain_any bs x) (plain_had b x is)))
           (skips_any bs (less_one c) i once.2 idle.1 (any_rest b bs c true i once here) x rest
-              (sym (false_or (has b x) (has_any bs x) is) ∙ h))
+          (sym (false_or (has b x) (has_any bs x) is) ∙ h))
     ]
 
     skips : (g : Graph) (i : List ℕ) → Once g → Idle read (is_skipped_in m) fits g → At g true i
@@ -260,7 +260,7 @@ module _ {Row Begun Decision Verdict : Type 0} (d : Graph) (m : Source Row Begun
           (sym (or_false (nat_eq n x || shows kind x) (plain g x) (plain_had g x (once.1 x is))))
           (skips_own n after kind g true i found.0 here found.1 sk
           (skips_in kind n true found.0 i once.2 idle.1 found.2 sk
-              (at_inside n after kind g true i found.0 once here found.1 found.2)) x rest is)
+          (at_inside n after kind g true i found.0 once here found.1 found.2)) x rest is)
       | inr is ↦
           let each = neither (nat_eq n x) (holds kind x) is in
           subst (λ (t : Bool). SkippedAs m (expected t rest) (r (address x (i ++ rest))))
@@ -351,7 +351,7 @@ module _ {Row Begun Decision Verdict : Type 0} (d : Graph) (m : Source Row Begun
       longer rest is =
           sym (same_front i rest) ∙ ap (same_at i) (sym is)
           ∙ not_true (same_at i y.at)
-              (λ e. opposed (nat_eq n y.name && same_at i y.at) (and_of (nat_eq n y.name) (same_at i y.at) same e) not_own)
+          (λ e. opposed (nat_eq n y.name && same_at i y.at) (and_of (nat_eq n y.name) (same_at i y.at) same e) not_own)
 
   is_skipped_by : (row : Row) → m.status row ≡ Skipped → is_skipped_in m row ≡ true
   is_skipped_by row s = ap (λ z. same_status z Skipped) s
