@@ -11,7 +11,8 @@ use Rattle.wf_template.specs.DataTree as data_
 use Rattle.wf_top.specs.Commands.{accepted, accepted_line, judged_definition, judged_inputs, judged_schedule, made_runs, plan, run}
 use Rattle.wf_top.specs.Commands.{scheduled, text_of_runs}
 use Rattle.wf_top.specs.Fault.{fault_line, form_words}
-use Rattle.wf_top.specs.Form.{built, checked, definition_form, inputs_form, schedule_form}
+use Rattle.wf_plain.specs.Unbuilt.{not_yet}
+use Rattle.wf_top.specs.Form.{built, checked, definition_form, inputs_form, schedule_form, unbuilt_for}
 use Rattle.wf_top.specs.Plan.{Plan, Says, Reads, within}
 use Rattle.wf_top.specs.Served as served
 use Rattle.wf_top.specs.Trigger.{trigger_line, trigger_words}
@@ -269,15 +270,28 @@ definition-told : (command : Command) (words : List (List ℕ)) →
 unfolding fault_line
 definition-told command words = refl
 
--- what isn't built is told before a rule between parts, and one that breaks none is taken
-rule-behind : (d : DefTree) (pointer : List ℕ) → built d (Some pointer) ≡ Err (FormFault.NotYet pointer)
-rule-behind d pointer = refl
+-- a rule between parts is told before what isn't built, and `check` takes all that breaks none
+rule-broken : (command : Command) (d : DefTree) (pointer : List ℕ)
+    → checked command d (Some (RuleFault.Rule 9 pointer)) ≡ Err (FormFault.Rule 9 pointer)
+rule-broken command d pointer = refl
 
-rule-broken : (d : DefTree) (pointer : List ℕ) → checked d (Some (RuleFault.Rule 9 pointer)) ≡ Err (FormFault.Rule 9 pointer)
-rule-broken d pointer = refl
+check-takes_all : (d : DefTree) → checked Check d None ≡ Ok d
+unfolding unbuilt_for
+check-takes_all d = refl
 
-rule-none : (d : DefTree) → checked d None ≡ Ok d
-rule-none d = refl
+run-lacks : (d : DefTree) → checked Run d None ≡ built d (not_yet d)
+unfolding unbuilt_for
+run-lacks d = refl
+
+trace-lacks : (d : DefTree) → checked Trace d None ≡ built d (not_yet d)
+unfolding unbuilt_for
+trace-lacks d = refl
+
+built-told : (d : DefTree) (pointer : List ℕ) → built d (Some pointer) ≡ Err (FormFault.NotYet pointer)
+built-told d pointer = refl
+
+built-none : (d : DefTree) → built d None ≡ Ok d
+built-none d = refl
 
 -- a fault of the inputs is told before anything of the schedule, and one of the schedule before anything of the runs
 inputs-told : (traced : Bool) (schedule : Option (List ℕ)) (d : DefTree) →

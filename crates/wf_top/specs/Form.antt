@@ -7,7 +7,6 @@ use Rattle.wf_history.specs.History.{Kept, ListedTree, listed, records_of}
 use Rattle.wf_json.specs.Read.{read_value}
 use Rattle.wf_json.specs.declared.fault.JsonFault.{JsonFault}
 use Rattle.wf_plain.specs.Unbuilt.{not_yet}
-use Rattle.wf_plain.specs.declared.unbuilt.Purpose.{Purpose}
 use Rattle.wf_reading.specs.Meant as read
 use Rattle.wf_reading.specs.ReadSeen.{fault_in}
 use Rattle.wf_reading.specs.declared.definition.RuleFault.{RuleFault}
@@ -34,36 +33,32 @@ abbrev pub json_form : {T : Type 0} → (ValueTree → Result T FormFault) → F
 json_form of_value None = Err FormFault.TooLong
 json_form of_value (Some bytes) = found of_value (read_value bytes)
 
--- what a command takes a definition for
-abbrev pub purpose_of : Command → Purpose
-purpose_of Check = Purpose.Check
-purpose_of Run = Purpose.Run
-purpose_of Trace = Purpose.Run
--- This is never met: `list` reads no definition.
-purpose_of Command.List = Purpose.Check
-
--- the least pointer of what isn't built for a command
+-- The least pointer of what isn't built for a command. `check` makes no run, so it lacks nothing; and `list`, which reads no definition, never
+-- asks.
 unfoldable pub unbuilt_for : Command → DefTree → Option (List ℕ)
-unbuilt_for command d = not_yet (purpose_of command) d
+unbuilt_for Check d = None
+unbuilt_for Run d = not_yet d
+unbuilt_for Trace d = not_yet d
+unbuilt_for Command.List d = None
 
 -- the first of the rules between its parts that a definition breaks
 unfoldable pub broken_in : DefTree → Option RuleFault
 broken_in d = broken_of d
 
--- a definition that breaks this rule between its parts, or none
-abbrev pub checked : DefTree → Option RuleFault → Result DefTree FormFault
-checked d (Some fault) = Err (rule_fault fault)
-checked d None = Ok d
-
 -- a definition in which this isn't built, or nothing
 abbrev pub built : DefTree → Option (List ℕ) → Result DefTree FormFault
 built d (Some pointer) = Err (FormFault.NotYet pointer)
-built d None = checked d (broken_in d)
+built d None = Ok d
+
+-- a definition that breaks this rule between its parts, or none
+abbrev pub checked : Command → DefTree → Option RuleFault → Result DefTree FormFault
+checked command d (Some fault) = Err (rule_fault fault)
+checked command d None = built d (unbuilt_for command d)
 
 -- a value that breaks this rule on what stands where, or none
 abbrev pub formed : Command → ValueTree → Option RuleFault → Result DefTree FormFault
 formed command value (Some fault) = Err (rule_fault fault)
-formed command value None = built (read.definition_of value) (unbuilt_for command (read.definition_of value))
+formed command value None = checked command (read.definition_of value) (broken_in (read.definition_of value))
 
 -- the definition that a value means to a command: it breaks no rule, and all that the command asks for is built
 abbrev pub definition_of : Command → ValueTree → Result DefTree FormFault

@@ -3,8 +3,7 @@ ghost use Rattle.std.specs.Prelude.{◌≡◌, ◌≢◌, IfOk, IfErr, OnOk, Non
 ghost use Rattle.wf_answers.specs.InputsSeen.{inputs_tree};
 ghost use Rattle.wf_history.specs.Seen.{listed_tree};
 ghost use Rattle.wf_reading.specs.ReadSeen.{def_tree};
-ghost use Rattle.wf_top.specs.Form.{broken_in, definition_form, definition_of, inputs_form, listing_form, purpose_of, schedule_form};
-ghost use Rattle.wf_top.specs.Form.{unbuilt_for};
+ghost use Rattle.wf_top.specs.Form.{broken_in, definition_form, definition_of, inputs_form, listing_form, schedule_form, unbuilt_for};
 ghost use Rattle.wf_val.specs.Seen.{tree};
 
 use crate::fault::FormFault;
@@ -12,28 +11,21 @@ use crate::words::Command;
 use std::alloc::{AllocError, Global};
 use wf_answers::{Inputs, read_inputs};
 use wf_history::{HistoryFault, Listing, list};
-use wf_plain::{Purpose, not_yet};
+use wf_plain::not_yet;
 use wf_reading::{Def, RuleFault, read_def};
 use wf_rules::{Checked, check};
 use wf_run::read_schedule;
 use wf_val::{Schedule, Text, Val};
-
-// What a command takes a definition for.
-fn purpose_of(command: Command) -> Purpose
-    ensures { result ≡ purpose_of command }
-{
-    match command {
-        Command::Check | Command::List => Purpose::Check,
-        Command::Run | Command::Trace => Purpose::Run,
-    }
-}
 
 // The least pointer of what isn't built for a command.
 #[tactic(auto, unfolding(crate::specs::Form::unbuilt_for))]
 fn unbuilt_for(alloc: Global, command: Command, def: &Def) -> Result<Option<Text>, AllocError>
     ensures { IfOk result (λ p. p ≡ unbuilt_for command (def_tree def.now)) }
 {
-    not_yet(alloc, purpose_of(command), def)
+    match command {
+        Command::Check | Command::List => Ok(None),
+        Command::Run | Command::Trace => not_yet(alloc, def),
+    }
 }
 
 // A definition that breaks no rule between its parts.
@@ -53,9 +45,10 @@ fn definition_in(alloc: Global, command: Command, value: &Val) -> Result<Checked
     ensures fault { IfErr result (λ fault. fault ≢ FormFault.Memory → definition_of command (tree value.now) ≡ Err fault) }
 {
     let def = read_def(alloc, value)?;
-    match unbuilt_for(alloc, command, &def)? {
+    let checked = checked(alloc, def)?;
+    match unbuilt_for(alloc, command, &checked.def)? {
         Some(pointer) => Err(FormFault::NotYet { pointer }),
-        None => Ok(checked(alloc, def)?),
+        None => Ok(checked),
     }
 }
 

@@ -4,8 +4,8 @@
 //! before it answers the status that the program ends with. What it says is stated as a plan: which file is read with
 //! which limit, and what follows from its bytes. Everything that is claimed of a command is a clause of this one call.
 //!
-//! The crate reads definitions by `wf_reading`, asks `wf_plain` whether all is built that a command asks for, has the rules between a
-//! definition's parts judged by `wf_rules`, reads inputs by `wf_answers`, schedules by `wf_run` and histories by `wf_history`, and has the
+//! The crate reads definitions by `wf_reading`, has the rules between a definition's parts judged by `wf_rules`, asks `wf_plain` whether runs
+//! make all of it where runs are asked for, reads inputs by `wf_answers`, schedules by `wf_run` and histories by `wf_history`, and has the
 //! runs made and printed by `wf_printed`. It opens no file and no stream itself; that is left to the objects which it is lent.
 #![tactic(auto)]
 
