@@ -419,11 +419,9 @@ def refusal(value, command):
         place = least(rule(definition))
         if place is not None:
             return "V%d %s" % (number, place)
-    place = least(unbuilt(definition, command))
-    if place is not None:
-        return "NotYet " + place
     for number, places in references.broken(definition, given_in(value)):
         place = least(places)
         if place is not None:
             return "V%d %s" % (number, place)
-    return None
+    place = least(unbuilt(definition, command))
+    return None if place is None else "NotYet " + place

@@ -10,8 +10,8 @@
 //! 2. the digest of the definition;
 //! 3. what was read, as `outline` tells it; of more than 400 bytes their number and their SHA-256 digest.
 //!
-//! A row behind the word `check` is judged by the rules on names too, of whatever kinds its actions are, built or not: the answer is the
-//! line that refuses the file, or `accepted` and how many actions there are.
+//! A row behind the word `check` is judged by the rules on names too: the answer is the line that refuses the file, or `accepted` and how
+//! many actions there are.
 //!
 //! A line that begins with `#` is a heading, and is written as it is.
 //!
