@@ -150,10 +150,32 @@ def levels(count):
     return {"actions": graph}
 
 
+# Variables, half as many as actions and made 20 at a time; and behind them actions in eight levels, each after the last, that write one of
+# them and read ten.
+def writers(count):
+    variables = ["v%03d" % k for k in range(count // 2)]
+    makers = {"V%02d" % k: {
+        "type": "InitializeVariable", "inputs": {"variables": [{"name": name, "type": "string"} for name in variables[20 * k:20 * k + 20]]},
+        "runAfter": {"V%02d" % (k - 1): ["Succeeded"]} if k else {}} for k in range((len(variables) + 19) // 20)}
+    width, held = (count - len(makers)) // 8, None
+    for level in range(8, 0, -1):
+        mine, graph = ["L%dA%03d" % (level, k) for k in range(width)], {}
+        for k, name in enumerate(mine):
+            read = ",".join("variables('%s')" % variables[(width * level + k + 17 * j) % len(variables)] for j in range(10))
+            value = {"name": variables[(width * level + k) % len(variables)], "value": "@concat(%s)" % read}
+            graph[name] = {"type": "SetVariable", "inputs": value, "runAfter": {other: ["Succeeded"] for other in mine[k - 1:k]}}
+        if held is not None:
+            graph[mine[-1]].update({"type": "Scope", "actions": held})
+        held = graph
+    held["L1A000"]["runAfter"] = {list(makers)[-1]: ["Succeeded"]}
+    return {"actions": makers | held}
+
+
 checks = [
     ("actions in a chain", lambda count: chain(count, 1)),
     ("each naming all before it", lambda count: chain(count, count)),
     ("in 8 levels, naming those above", levels),
+    ("writing one of 250, reading ten", writers),
     ("4 MiB of names", lambda count: {"actions": {name: {
         "type": "Compose", "inputs": [naming(names[:min(k, 300)])], "runAfter": {other: ["Succeeded"] for other in names[:k][-170:]}}
         for k, name in enumerate(names[:count])}}),
