@@ -1,11 +1,11 @@
 -- Moments that are so many months behind a start: more months lead no further back.
 use Rattle.std.proofs.Common.{◌≡◌, ◌⊎◌, inl, inr, ℕ, zero, suc, ◌+◌, ◌-◌, ◌*◌, ◌/◌, ◌%◌, ◌<◌, ◌≤◌, Bool, true, false, cond, Option, Some}
 use Rattle.std.proofs.Common.{None, refl, sym, ap, ◌∙◌, subst, arith, min}
-use Rattle.std.specs.Prelude.{ℤ, pos, ◌&&◌, nat_le, nat_lt, option_map}
-use Rattle.std.proofs.lemmas.Bool.{and_from, and_parts, cases_lt, cond-true, le-leb, leb-true, lt-ltb, ltb-true, ltb-false}
+use Rattle.std.specs.Prelude.{pos, ◌&&◌, nat_le, nat_lt, option_map}
+use Rattle.std.proofs.lemmas.Bool.{and_from, and_parts, cases_lt, cond-true, le-leb, lt-ltb, ltb-true, ltb-false}
 use Rattle.std.proofs.lemmas.Nat.{mul-le}
 use Rattle.jiff_core.specs.Calendar.{days_in_month, days_in_year, days_of_months}
-use Rattle.wf_fn_time.specs.Calendar.{day_after, day_at, day_number, days_of_first_years}
+use Rattle.wf_fn_time.specs.Calendar.{day_at, day_number, days_of_first_years}
 use Rattle.wf_fn_time.specs.Moments.{ticks_a_day}
 use Rattle.wf_fn_time.specs.Moving.{at_month, day_in_month, month_in_years, month_number}
 use Rattle.wf_fn_time.specs.declared.calendar.Day.{Day}

@@ -1,10 +1,10 @@
 -- Minutes of a schedule, and the moments that they are.
-use Rattle.std.proofs.Common.{◌≡◌, ◌⊎◌, inl, inr, ℕ, suc, ◌+◌, ◌-◌, ◌*◌, ◌/◌, ◌%◌, ◌<◌, ◌≤◌, Bool, true, false, Option, Some, None, refl}
+use Rattle.std.proofs.Common.{◌≡◌, ◌⊎◌, inl, inr, ℕ, ◌+◌, ◌-◌, ◌*◌, ◌/◌, ◌%◌, ◌<◌, ◌≤◌, Bool, true, false, Option, Some, None}
 use Rattle.std.proofs.Common.{sym, ap, ◌∙◌, subst, arith}
 use Rattle.std.proofs.lemmas.Bool.{cases_lt, cond-true, le-leb}
 use Rattle.std.specs.Prelude.{if◌then◌else◌}
 use Rattle.wf_fn_time.specs.Clock.{clock_at}
-use Rattle.wf_fn_time.specs.Moments.{last_tick, moment, ticks_a_day}
+use Rattle.wf_fn_time.specs.Moments.{last_tick, moment}
 use Rattle.wf_recur.specs.Due.{IsDue, IsDueBy, IsOnSchedule, day_of, kind_of, week_of}
 use Rattle.wf_recur.specs.Next.{IsLeastFrom}
 use Rattle.wf_recur.specs.Sets.{has, or_own}

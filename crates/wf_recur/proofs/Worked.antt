@@ -7,13 +7,11 @@ use Rattle.jiff_core.specs.Calendar.{days_of_months}
 use Rattle.wf_fn_time.specs.Calendar.{day_at, days_of_first_years}
 use Rattle.wf_fn_time.specs.Clock.{clock_at}
 use Rattle.wf_fn_time.specs.Moments.{ticks_a_day}
-use Rattle.wf_json.specs.Pointer.{least}
 use Rattle.wf_val.specs.Get.{name_of}
 use Rattle.wf_val.specs.NameOrder.{put_named, without_named}
 use Rattle.wf_val.specs.ValueTree.{ValueTree, null, boolean, number, text, list, object, trees, members, no_members, Member}
 use Rattle.wf_recur.specs.Asked.{number_in, place_in}
-use Rattle.wf_recur.specs.Due.{IsDueBy, IsMonthsLater, IsOnSchedule, IsOnWeekday, day_of, kind_of, months_later, start_or, week_of}
-use Rattle.wf_recur.specs.Frequency.{frequency_of}
+use Rattle.wf_recur.specs.Due.{IsDueBy, IsMonthsLater, day_of, kind_of, months_later, start_or, week_of}
 use Rattle.wf_recur.specs.Interval.{interval_of}
 use Rattle.wf_recur.specs.Next.{is_before}
 use Rattle.wf_recur.specs.Reading.{recurrence_of}

@@ -1,10 +1,9 @@
 -- When a recurrence is due (Workflow Definition Language, Recurrence trigger: frequency, interval, startTime and schedule). Moments are
 -- ticks of 100 ns since 1 January of the year 1, 00:00 in UTC.
-use Rattle.std.specs.Prelude.{◌≡◌, ℕ, ◌-◌, ◌*◌, ◌/◌, ◌%◌, ◌≤◌, ◌||◌, List, Bool, true, false, Option, Some, unwrap_or, if◌then◌else◌}
+use Rattle.std.specs.Prelude.{◌≡◌, ℕ, ◌-◌, ◌*◌, ◌/◌, ◌%◌, ◌≤◌, ◌||◌, true, false, Option, Some, unwrap_or, if◌then◌else◌}
 use Rattle.wf_fn_time.specs.Clock.{clock_at}
 use Rattle.wf_fn_time.specs.Moments.{last_tick, ticks_a_day}
 use Rattle.wf_fn_time.specs.Moving.{shifted}
-use Rattle.wf_fn_time.specs.declared.shift.Shift.{Shift}
 use Rattle.wf_fn_time.specs.declared.shift.TimeUnit.{TimeUnit}
 use Rattle.wf_recur.specs.Sets.{has, has_any, or_own}
 use Rattle.wf_recur.specs.declared.frequency.Frequency.{Frequency}

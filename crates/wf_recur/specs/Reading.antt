@@ -1,6 +1,6 @@
 -- The recurrence that a trigger has, or why it has none whose moments can be told: it is of another type, something isn't of the form,
 -- it counts in another zone.
-use Rattle.std.specs.Prelude.{ℕ, List, [], ◌∷◌, Bool, true, false, Option, Some, None, Result, Ok, Err, codes, replicate, unwrap_or}
+use Rattle.std.specs.Prelude.{ℕ, List, [], ◌∷◌, Bool, false, Option, Some, None, Result, Ok, Err, codes, replicate, unwrap_or}
 use Rattle.std.specs.Prelude.{if◌then◌else◌}
 use Rattle.std.specs.Str.{str_eq_ignore_ascii_case}
 use Rattle.wf_json.specs.Pointer.{least}

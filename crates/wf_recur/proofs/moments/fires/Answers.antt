@@ -1,4 +1,4 @@
-use Rattle.std.proofs.Common.{◌≡◌, ℕ, ◌+◌, ◌<◌, ◌≤◌, List, [], ◌∷◌, ◌++◌, length, None, Some, ap, ◌∙◌, arith, subst, sym}
+use Rattle.std.proofs.Common.{◌≡◌, ℕ, ◌+◌, List, [], ◌∷◌, ◌++◌, length, None, Some, ap, ◌∙◌, arith, subst, sym}
 use Rattle.std.proofs.lemmas.List.{length_push}
 use Rattle.wf_recur.specs.Due.{IsDue}
 use Rattle.wf_recur.specs.Next.{AreNext, IsLeastFrom}

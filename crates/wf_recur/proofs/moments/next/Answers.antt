@@ -1,5 +1,5 @@
 use Rattle.std.proofs.Common.{◌∙◌, ap, max, subst, sym}
-use Rattle.wf_recur.specs.Due.{IsDue, IsDueBy, IsMonthsLater}
+use Rattle.wf_recur.specs.Due.{IsDueBy, IsMonthsLater}
 use Rattle.wf_recur.specs.declared.recurrence.Kind.{Kind}
 use Rattle.wf_recur.proofs.NextLemmas.{due_least}
 use Rattle.wf_recur.proofs.moments.next.Goals as goal

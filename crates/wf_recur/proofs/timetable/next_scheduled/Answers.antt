@@ -1,4 +1,4 @@
-use Rattle.std.proofs.Common.{◌≡◌, ℕ, ◌*◌, ◌+◌, ◌<◌, ◌≤◌, Option, Some, None, arith, subst, sym}
+use Rattle.std.proofs.Common.{ℕ, ◌*◌, ◌+◌, ◌<◌, ◌≤◌, Option, Some, None, arith, subst, sym}
 use Rattle.wf_recur.specs.Due.{IsDue}
 use Rattle.wf_recur.specs.Next.{IsLeastFrom}
 use Rattle.wf_recur.specs.declared.timetable.Timetable.{Timetable}
