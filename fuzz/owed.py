@@ -9,7 +9,9 @@ import re
 import sys
 
 import histories
+import recurrences
 from fuzz import wanted
+from reading import read
 
 USAGE = (
     "usage: wflow check DEF | run DEF INPUTS [SCHEDULE] | trace DEF INPUTS SCHEDULE"
@@ -17,7 +19,7 @@ USAGE = (
     " | list HISTORY | drill N | session DEF INPUTS | fires DEF TRIGGER FROM N\n"
 )
 # How many words each command has; and what is read, with bytes that it can't be.
-COUNTS = {"check": (2,), "run": (3, 4), "trace": (4,), "list": (2,)}
+COUNTS = {"check": (2,), "run": (3, 4), "trace": (4,), "list": (2,), "fires": (5,)}
 ESCAPED = {"n": "\n", "r": "\r", "t": "\t", "\\": "\\"}
 STAGES = [(b"definition", b""), (b"inputs", b""), (b"schedule", b"\n")]
 
@@ -39,6 +41,26 @@ class Files:
         return self.held[name]
 
 
+# `fires`: the words, the definition as for `check`, the trigger of the name, and its recurrence.
+def fired(files, definition, name, moment, count):
+    moment = recurrences.moment_of(moment)
+    if moment is None or not re.fullmatch("[1-9][0-9]{0,2}|1000", count):
+        return 2, USAGE.encode()
+    held = files.read(definition)
+    refused = wanted("check", held)
+    if refused[0] != 0:
+        return refused
+    value = read(held, len(held))
+    triggers = value.get("definition", value).get("triggers", {})
+    if name not in triggers:
+        return 6, b"recurrence NoTrigger\n"
+    try:
+        listed = recurrences.moments(recurrences.read(triggers[name]), moment, int(count))
+    except recurrences.Refused as refused:
+        return 6, ("recurrence %s\n" % refused).encode()
+    return 0, "".join(recurrences.printed(one) + "\n" for one in listed).encode() or b"# none\n"
+
+
 # A file is read once those before it are taken, which shows by what is refused where the next one is unfit.
 def said(files, words):
     if len(words) not in COUNTS.get(words[0], ()):
@@ -47,6 +69,8 @@ def said(files, words):
     try:
         if command == "list":
             return histories.said(files.read(words[1]))
+        if command == "fires":
+            return fired(files, *words[1:])
         for name, (next_stage, _) in zip(words[1:-1], STAGES[1:]):
             held.append(files.read(name))
             refused = wanted(command, *held, *(unfit for _, unfit in STAGES[len(held):]))

@@ -12,13 +12,19 @@ use Rattle.wf_top.specs.Plan.{Plan, Says, Reads, ComesTo, AsksAmong}
 use Rattle.wf_answers.specs.Inputs.{InputsTree}
 use Rattle.wf_def.specs.DefTree.{DefTree}
 use Rattle.wf_history.specs.History.{ListedTree}
-use Rattle.wf_top.specs.Form.{definition_form, inputs_form, listing_form, schedule_form}
-use Rattle.wf_top.specs.Commands.{plan, plan_of, accepted, judged_definition, judged_inputs, judged_schedule, made_runs, run, scheduled}
-use Rattle.wf_top.specs.Commands.{judged_history, text_of_runs}
+use Rattle.wf_recur.specs.Reading.{recurrence_of}
+use Rattle.wf_recur.specs.declared.fault.RecurrenceFault.{RecurrenceFault}
+use Rattle.wf_recur.specs.declared.recurrence.Recurrence.{Recurrence}
+use Rattle.wf_val.specs.ValueTree.{ValueTree}
+use Rattle.wf_top.specs.Fires.{trigger_in}
+use Rattle.wf_top.specs.Form.{definition_form, inputs_form, listing_form, schedule_form, value_form}
+use Rattle.wf_top.specs.Commands.{plan, plan_of, accepted, defined, judged_definition, judged_history, judged_inputs, judged_schedule}
+use Rattle.wf_top.specs.Commands.{judged_value, made_runs, recurs, run, scheduled, text_of_runs, triggered}
 use Rattle.wf_top.specs.Served.{FailedAt}
+use Rattle.wf_top.proofs.FiresLemmas.{fires_length}
 use Rattle.wf_top.specs.Words.{command_of, is_traced, makes_runs, schedule_word, word}
 use Rattle.wf_top.specs.declared.words.Command.{Command}
-use Rattle.wf_top.specs.declared.words.Command.TheVariants.{Check, Run, Trace}
+use Rattle.wf_top.specs.declared.words.Command.TheVariants.{Check, Run, Trace, Fires}
 use Rattle.wf_top.specs.declared.fault.FormFault.{FormFault}
 use Rattle.wf_printed.specs.declared.fault.RunsFault.{RunsFault}
 
@@ -80,6 +86,7 @@ pub second_length : (command : Command) (words : List (List ℕ)) → makes_runs
     → 2 < length words
 second_length Check words makes is = absurd (cc)
 second_length Run words makes is = run_length words is
+second_length (Fires from count) words makes is = absurd (cc)
 second_length Trace words makes is = let more : 3 < length words = trace_length words is in omega arith
 second_length Command.List words makes is = absurd (cc)
 
@@ -94,6 +101,7 @@ accepted_asks : (command : Command) (words : List (List ℕ)) (d : DefTree) → 
     AsksAmong words (accepted command words d)
 accepted_asks Check words d is = tt
 accepted_asks Run words d is = run_asks words (is_traced Run) d (second_length Run words refl is)
+accepted_asks (Fires from count) words d is = tt
 accepted_asks Trace words d is = run_asks words (is_traced Trace) d (second_length Trace words refl is)
 accepted_asks Command.List words d is = tt
 
@@ -106,6 +114,7 @@ definition_asks command words (Err fault) is = tt
 some_length : (command : Command) (words : List (List ℕ)) → command_of words ≡ Some command → 1 < length words
 some_length Check words is = check_length words is
 some_length Run words is = let more : 2 < length words = second_length Run words refl is in omega arith
+some_length (Fires from count) words is = let more : 4 < length words = fires_length words from count is in omega arith
 some_length Trace words is = let more : 2 < length words = second_length Trace words refl is in omega arith
 some_length Command.List words is = list_length words is
 
@@ -113,15 +122,39 @@ history_asks : (words : List (List ℕ)) (form : Result (List ListedTree) FormFa
 history_asks words (Ok listing) = tt
 history_asks words (Err fault) = tt
 
+defined_asks : (command : Command) (words : List (List ℕ)) → command_of words ≡ Some command →
+    AsksAmong words (defined (word words 1) command words)
+defined_asks command words is = (
+  Contains-get_or words 1 [] (some_length command words is),
+  λ file. definition_asks command words (definition_form command file) is,
+)
+
+recurrence_asks : (words : List (List ℕ)) (from count : ℕ) (found : Result Recurrence RecurrenceFault) →
+    AsksAmong words (recurs from count found)
+recurrence_asks words from count (Ok r) = tt
+recurrence_asks words from count (Err fault) = tt
+
+trigger_asks : (words : List (List ℕ)) (from count : ℕ) (trigger : Option ValueTree) → AsksAmong words (triggered from count trigger)
+trigger_asks words from count (Some t) = recurrence_asks words from count (recurrence_of t)
+trigger_asks words from count None = tt
+
+value_asks : (words : List (List ℕ)) (name : List ℕ) (from count : ℕ) (form : Result ValueTree FormFault) →
+    AsksAmong words (judged_value name from count form)
+value_asks words name from count (Ok file) = trigger_asks words from count (trigger_in name file)
+value_asks words name from count (Err fault) = tt
+
 plan_asks : (command : Command) (words : List (List ℕ)) → command_of words ≡ Some command → AsksAmong words (plan command words)
 unfolding plan
+plan_asks Check words is = defined_asks Check words is
+plan_asks Run words is = defined_asks Run words is
+plan_asks Trace words is = defined_asks Trace words is
+plan_asks (Fires from count) words is = (
+  Contains-get_or words 1 [] (some_length (Fires from count) words is),
+  λ file. value_asks words (word words 2) from count (value_form (Fires from count) file),
+)
 plan_asks Command.List words is = (
   Contains-get_or words 1 [] (list_length words is),
   λ file. history_asks words (listing_form file),
-)
-plan_asks command words is = (
-  Contains-get_or words 1 [] (some_length command words is),
-  λ file. definition_asks command words (definition_form command file) is,
 )
 
 by_command : (held : Held) (words : List (List ℕ)) (command : Option Command) (old new : List (List ℕ)) (name : List ℕ) →

@@ -9,16 +9,27 @@ use Rattle.wf_def.specs.DefTree.{DefTree}
 use Rattle.wf_outside.specs.Outside.{Held, IsCalm}
 use Rattle.wf_history.specs.History.{ListedTree}
 use Rattle.wf_top.specs.Commands.{accepted, accepted_line, defined, judged_definition, judged_history, judged_inputs, judged_schedule}
-use Rattle.wf_top.specs.Commands.{listing_text, made_runs, plan, plan_of, run, scheduled, text_of_runs, too_large}
-use Rattle.wf_top.specs.Fault.{fault_line}
-use Rattle.wf_top.specs.Form.{definition_form, inputs_form, listing_form, schedule_form}
+use Rattle.wf_top.specs.Commands.{judged_value, listing_text, made_runs, plan, plan_of, recurs, run, scheduled, text_of_runs, too_large}
+use Rattle.wf_top.specs.Commands.{triggered}
+use Rattle.wf_top.specs.Fault.{fault_line, json_fault}
+use Rattle.wf_json.specs.Read.{read_value}
+use Rattle.wf_json.specs.declared.fault.JsonFault.{JsonFault}
+use Rattle.wf_recur.proofs.ReadLemmas.{read-next}
+use Rattle.wf_recur.specs.Moments.{moments_due}
+use Rattle.wf_recur.specs.Reading.{recurrence_of}
+use Rattle.wf_recur.specs.declared.fault.RecurrenceFault.{RecurrenceFault}
+use Rattle.wf_recur.specs.declared.recurrence.Recurrence.{Recurrence}
+use Rattle.wf_val.specs.ValueTree.{ValueTree}
+use Rattle.wf_top.specs.Fires.{moments_text, recurrence_line, recurrence_words, trigger_in}
+use Rattle.wf_top.specs.Form.{definition_form, definition_of, found, inputs_form, kept, listing_form, schedule_form, value_form}
 use Rattle.wf_plain.specs.Plain.{plain_of}
 use Rattle.wf_printed.proofs.RunLemmas.{never_memory}
 use Rattle.wf_top.specs.Limits.{definition_bytes, history_bytes, inputs_bytes, schedule_bytes}
 use Rattle.wf_top.specs.Plan.{Plan, Reads, MaySay, MayGive, said_by, within}
-use Rattle.wf_top.specs.Ran.{Checked, GivesDefinition, GivesHistory, GivesInputs, GivesNumbers, GivesSchedule, Holds, HoldsDefinition}
-use Rattle.wf_top.specs.Ran.{HoldsHistory, HoldsSchedule, IsGiven, IsWhole, Listed, PassesAll, Ran}
-use Rattle.wf_top.specs.Ran.{RefusedCost, RefusedDefinition, RefusedHistory, RefusedInputs, RefusedSchedule, RefusedTrigger}
+use Rattle.wf_top.specs.Ran.{Checked, Fired, GivesDefinition, GivesHistory, GivesInputs, GivesNumbers, GivesSchedule, GivesValue, Holds}
+use Rattle.wf_top.specs.Ran.{HoldsDefinition, HoldsHistory, HoldsSchedule, IsGiven, IsWhole, Listed, PassesAll, PassesFires, Ran}
+use Rattle.wf_top.specs.Ran.{RefusedCost, RefusedDefinition, RefusedHistory, RefusedInputs, RefusedName, RefusedRecurrence}
+use Rattle.wf_top.specs.Ran.{RefusedSchedule, RefusedTrigger}
 use Rattle.wf_top.proofs.Outcomes.{misused_at}
 use Rattle.wf_top.specs.Served.{Comes, Outcome, IsSaid, Misused, Serves, Speaks, Spent, Unread, Writes, number, said_of, say, status_of}
 use Rattle.wf_top.specs.Served.{text_of}
@@ -29,7 +40,7 @@ use Rattle.wf_printed.specs.declared.fault.RunsFault.{RunsFault}
 use Rattle.wf_top.specs.declared.said.Verdict.{Verdict}
 use Rattle.wf_top.specs.declared.said.Verdict.TheVariants.{Done}
 use Rattle.wf_top.specs.declared.words.Command.{Command}
-use Rattle.wf_top.specs.declared.words.Command.TheVariants.{Check, Run, Trace}
+use Rattle.wf_top.specs.declared.words.Command.TheVariants.{Check, Run, Trace, Fires}
 use Rattle.wf_trigger.specs.declared.fault.TriggerFault.{TriggerFault}
 
 -- What a command may say: what was found in its files, the status and the text.
@@ -59,12 +70,35 @@ data CommandOutcome (held : Held) (words : List (List ℕ)) (status : ℕ) (text
       CommandOutcome held words status text
   lists : (listing : List ListedTree) → GivesHistory held words (Ok listing) → status ≡ 0 → text ≡ listing_text listing →
       CommandOutcome held words status text
+  fires : (from count : ℕ) (file trigger : ValueTree) (r : Recurrence) → GivesValue held words from count (Ok file) →
+      trigger_in (word words 2) file ≡ Some trigger → recurrence_of trigger ≡ Ok r → status ≡ 0 →
+      text ≡ moments_text (moments_due r from count) → CommandOutcome held words status text
+  no_name : (from count : ℕ) (file : ValueTree) → GivesValue held words from count (Ok file) → trigger_in (word words 2) file ≡ None →
+      status ≡ 6 → text ≡ recurrence_line (codes "NoTrigger") → CommandOutcome held words status text
+  no_recurrence : (from count : ℕ) (file trigger : ValueTree) (fault : RecurrenceFault) → GivesValue held words from count (Ok file) →
+      trigger_in (word words 2) file ≡ Some trigger → recurrence_of trigger ≡ Err fault → status ≡ 6 →
+      text ≡ recurrence_line (recurrence_words fault) → CommandOutcome held words status text
 
 -- want of memory is no fault of runs
 no_memory : (traced : Bool) (d : DefTree) (inputs : InputsTree) (schedule : List ℕ) →
     text_of_runs traced d inputs schedule ≡ Err RunsFault.Memory → ⊥
 unfolding text_of_runs
 no_memory traced d inputs schedule is = never_memory (plain_of d) inputs schedule traced is
+
+-- what is no definition to a command has no value that is kept
+kept_fault : (value : ValueTree) (d : Result DefTree FormFault) (fault : FormFault) → kept value d ≡ Err fault → d ≡ Err fault
+kept_fault value (Ok d) fault is = absurd cc
+kept_fault value (Err other) fault is = cc
+
+read_fault : (command : Command) (read : Result ValueTree JsonFault) (fault : FormFault) →
+    found (λ value. kept value (definition_of command value)) read ≡ Err fault → found (definition_of command) read ≡ Err fault
+read_fault command (Ok value) fault is = kept_fault value (definition_of command value) fault is
+read_fault command (Err other) fault is = let same : json_fault other ≡ fault = cc in ap Err same
+
+value_fault : (command : Command) (file : Option (List ℕ)) (fault : FormFault) → value_form command file ≡ Err fault →
+    definition_form command file ≡ Err fault
+value_fault command None fault is = let same : FormFault.TooLong ≡ fault = cc in ap Err same
+value_fault command (Some bytes) fault is = read_fault command (read_value bytes) fault is
 
 module _ (held : Held) (words : List (List ℕ)) (verdict : Verdict) (text : List ℕ) where
   abbrev Ends : Type 0
@@ -106,28 +140,51 @@ module _ (held : Held) (words : List (List ℕ)) (verdict : Verdict) (text : Lis
     after_inputs makes given file may (Err fault) is saying =
         no_inputs command d fault makes given (file, may, is) (ap number saying.0) saying.1
 
-  -- a command that has a definition
-  abbrev IsOfDefinition : Command → Type 0
-  IsOfDefinition command = command ≡ Command.List → ⊥
+  -- the commands that have a second file, or end with the definition
+  abbrev IsDefined : Command → Type 0
+  IsDefined (Fires from count) = ⊥
+  IsDefined Command.List = ⊥
+  IsDefined command = Unit {0}
 
-  after_accepted : (command : Command) (d : DefTree) → IsOfDefinition command → GivesDefinition held words command (Ok d) →
+  after_accepted : (command : Command) (d : DefTree) → IsDefined command → GivesDefinition held words command (Ok d) →
       MaySay held (accepted command words d) verdict text → Ends
-  after_accepted Check d has given saying = checks d given (ap number saying.0) saying.1
-  after_accepted Run d has given saying = after_inputs Run d refl given saying.0 saying.1 (inputs_form saying.0) refl saying.2
-  after_accepted Trace d has given saying = after_inputs Trace d refl given saying.0 saying.1 (inputs_form saying.0) refl saying.2
-  after_accepted Command.List d has given saying = absurd (has refl)
+  after_accepted Check d ends given saying = checks d given (ap number saying.0) saying.1
+  after_accepted (Fires from count) d ends given saying = absurd ends
+  after_accepted Command.List d ends given saying = absurd ends
+  after_accepted Run d ends given saying = after_inputs Run d refl given saying.0 saying.1 (inputs_form saying.0) refl saying.2
+  after_accepted Trace d ends given saying = after_inputs Trace d refl given saying.0 saying.1 (inputs_form saying.0) refl saying.2
 
-  after_definition : (command : Command) → IsOfDefinition command → command_of words ≡ Some command → (file : Option (List ℕ)) →
+  after_definition : (command : Command) → IsDefined command → command_of words ≡ Some command → (file : Option (List ℕ)) →
       MayGive held (word words 1) definition_bytes file → (form : Result DefTree FormFault) → definition_form command file ≡ form →
       MaySay held (judged_definition command words form) verdict text → Ends
-  after_definition command has names file may (Ok d) is saying = after_accepted command d has (names, (file, may, is)) saying
-  after_definition command has names file may (Err fault) is saying =
+  after_definition command ends names file may (Ok d) is saying = after_accepted command d ends (names, (file, may, is)) saying
+  after_definition command ends names file may (Err fault) is saying =
       no_definition command fault (names, (file, may, is)) (ap number saying.0) saying.1
 
-  definition_comes : (command : Command) → IsOfDefinition command → command_of words ≡ Some command →
+  command_defined : (command : Command) → IsDefined command → command_of words ≡ Some command →
       MaySay held (defined (word words 1) command words) verdict text → Ends
-  definition_comes command has names saying =
-      after_definition command has names saying.0 saying.1 (definition_form command saying.0) refl saying.2
+  command_defined command ends names saying =
+      after_definition command ends names saying.0 saying.1 (definition_form command saying.0) refl saying.2
+
+  module _ (from count : ℕ) (file : ValueTree) (given : GivesValue held words from count (Ok file)) where
+    after_read : (trigger : ValueTree) → trigger_in (word words 2) file ≡ Some trigger → (read : Result Recurrence RecurrenceFault) →
+        recurrence_of trigger ≡ read → MaySay held (recurs from count read) verdict text → Ends
+    after_read trigger has (Ok r) is saying = fires from count file trigger r given has is (ap number saying.0) saying.1
+    after_read trigger has (Err fault) is saying = no_recurrence from count file trigger fault given has is (ap number saying.0) saying.1
+
+    after_trigger : (trigger : Option ValueTree) → trigger_in (word words 2) file ≡ trigger →
+        MaySay held (triggered from count trigger) verdict text → Ends
+    after_trigger (Some trigger) has saying = after_read trigger has (recurrence_of trigger) refl saying
+    after_trigger None has saying = no_name from count file given has (ap number saying.0) saying.1
+
+  after_value : (from count : ℕ) → command_of words ≡ Some (Fires from count) → (file : Option (List ℕ)) →
+      MayGive held (word words 1) definition_bytes file → (form : Result ValueTree FormFault) → value_form (Fires from count) file ≡ form →
+      MaySay held (judged_value (word words 2) from count form) verdict text → Ends
+  after_value from count names file may (Ok value) is saying =
+      after_trigger from count value (names, (file, may, is)) (trigger_in (word words 2) value) refl saying
+  after_value from count names file may (Err fault) is saying =
+      no_definition (Fires from count) fault (names, (file, may, value_fault (Fires from count) file fault is))
+      (ap number saying.0) saying.1
 
   after_history : command_of words ≡ Some Command.List → (file : Option (List ℕ)) → MayGive held (word words 1) history_bytes file →
       (form : Result (List ListedTree) FormFault) → listing_form file ≡ form → MaySay held (judged_history form) verdict text → Ends
@@ -136,9 +193,11 @@ module _ (held : Held) (words : List (List ℕ)) (verdict : Verdict) (text : Lis
 
   command_comes : (command : Command) → command_of words ≡ Some command → MaySay held (plan command words) verdict text → Ends
   unfolding plan
-  command_comes Check names saying = definition_comes Check (λ is. cc) names saying
-  command_comes Run names saying = definition_comes Run (λ is. cc) names saying
-  command_comes Trace names saying = definition_comes Trace (λ is. cc) names saying
+  command_comes Check names saying = command_defined Check tt names saying
+  command_comes Run names saying = command_defined Run tt names saying
+  command_comes Trace names saying = command_defined Trace tt names saying
+  command_comes (Fires from count) names saying =
+      after_value from count names saying.0 saying.1 (value_form (Fires from count) saying.0) refl saying.2
   command_comes Command.List names saying = after_history names saying.0 saying.1 (listing_form saying.0) refl saying.2
 
 -- What was said, and what it says of the files: its status was answered, and its text taken.
@@ -210,6 +269,11 @@ module _ (held : Held) (words : List (List ℕ)) (old new : List (List ℕ)) (be
       let makes : makes_runs command ≡ true = given.makes in cc
       )
   checked_by names zero text written (no_run command d inputs schedule fault given timed is made said) = absurd (omega (arith, zero, is))
+  checked_by names zero text written (fires from count file trigger r given has reads is said) =
+      absurd (let e : Check ≡ Fires from count = one_command _ _ names given.0 in cc)
+  checked_by names zero text written (no_name from count file given has is said) = absurd (omega (arith, zero, is))
+  checked_by names zero text written (no_recurrence from count file trigger fault given has reads is said) =
+      absurd (omega (arith, zero, is))
   checked_by names zero text written (costs command d inputs schedule given timed is made said) = absurd (omega (arith, zero, is))
   checked_by names zero text written (no_history fault given is said) = absurd (omega (arith, zero, is))
   checked_by names zero text written (lists listing given is said) =
@@ -238,6 +302,12 @@ module _ (held : Held) (words : List (List ℕ)) (old new : List (List ℕ)) (be
           written = written;
         })
     ran_by names zero text written (no_run c d inputs schedule fault given timed is made said) = absurd (omega (arith, zero, is))
+    ran_by names zero text written (fires from count file trigger r given has reads is said) = absurd (
+        let e : Fires from count ≡ command = one_command _ _ given.0 names in
+        let makes_none : makes_runs command ≡ true = makes in cc
+        )
+    ran_by names zero text written (no_name from count file given has is said) = absurd (omega (arith, zero, is))
+    ran_by names zero text written (no_recurrence from count file trigger fault given has reads is said) = absurd (omega (arith, zero, is))
     ran_by names zero text written (costs c d inputs schedule given timed is made said) = absurd (omega (arith, zero, is))
     ran_by names zero text written (no_history fault given is said) = absurd (omega (arith, zero, is))
     ran_by names zero text written (lists listing given is said) =
@@ -245,6 +315,54 @@ module _ (held : Held) (words : List (List ℕ)) (old new : List (List ℕ)) (be
 
     pub serves_ran : HasServed → command_of words ≡ Some command → result ≡ 0 → Ran held words command before after
     serves_ran serves names zero = let s = spoke serves (zero_spoken zero) in ran_by names zero s.text s.written s.says
+
+  module _ (from count : ℕ) (names : command_of words ≡ Some (Fires from count)) where
+    -- `fires` has its own moment and its own number
+    fired_with : (file trigger : ValueTree) (r : Recurrence) (text : List ℕ) → GivesValue held words from count (Ok file) →
+        trigger_in (word words 2) file ≡ Some trigger → recurrence_of trigger ≡ Ok r → text ≡ moments_text (moments_due r from count) →
+        Appends before after text → Fired held words from count before after
+    fired_with file trigger r text given has reads said written = record {
+      file = file;
+      trigger = trigger;
+      recurrence = r;
+      moments = moments_due r from count;
+      value_given = given;
+      has_trigger = has;
+      recurs = reads;
+      next = read-next trigger r from count reads;
+      written = rw said at written;
+    }
+
+    fired_by : result ≡ 0 → (text : List ℕ) → Appends before after text → CommandOutcome held words result text →
+        Fired held words from count before after
+    fired_by zero text written (no_definition c fault given is said) = absurd (omega (arith, zero, is))
+    fired_by zero text written (checks d given is said) =
+        absurd (let e : Check ≡ Fires from count = one_command _ _ given.0 names in cc)
+    fired_by zero text written (no_inputs c d fault made given handed is said) = absurd (omega (arith, zero, is))
+    fired_by zero text written (no_schedule c d inputs fault given timed is said) = absurd (omega (arith, zero, is))
+    fired_by zero text written (runs c d inputs schedule given timed is made) = absurd (
+        let e : Fires from count ≡ c = one_command _ _ names given.definition_given.0 in
+        let makes : makes_runs c ≡ true = given.makes in cc
+        )
+    fired_by zero text written (no_run c d inputs schedule fault given timed is made said) = absurd (omega (arith, zero, is))
+    fired_by zero text written (costs c d inputs schedule given timed is made said) = absurd (omega (arith, zero, is))
+    fired_by zero text written (fires from' count' file trigger r given has reads is said) =
+        let e : Fires from' count' ≡ Fires from count = one_command _ _ given.0 names in
+        let same_from : from' ≡ from = cc in
+        let same_count : count' ≡ count = cc in
+        let P : ℕ → ℕ → Type 0 = λ f c. GivesValue held words f c (Ok file) in
+        let Q : ℕ → ℕ → Type 0 = λ f c. text ≡ moments_text (moments_due r f c) in
+        fired_with file trigger r text
+        (subst (λ f. P f count) same_from (subst (λ c. P from' c) same_count given)) has reads
+        (subst (λ f. Q f count) same_from (subst (λ c. Q from' c) same_count said)) written
+    fired_by zero text written (no_name from' count' file given has is said) = absurd (omega (arith, zero, is))
+    fired_by zero text written (no_recurrence from' count' file trigger fault given has reads is said) = absurd (omega (arith, zero, is))
+    fired_by zero text written (no_history fault given is said) = absurd (omega (arith, zero, is))
+    fired_by zero text written (lists listing given is said) =
+        absurd (let e : Command.List ≡ Fires from count = one_command _ _ given.0 names in cc)
+
+    pub serves_fired : HasServed → result ≡ 0 → Fired held words from count before after
+    serves_fired serves zero = let s = spoke serves (zero_spoken zero) in fired_by zero s.text s.written s.says
 
   definition_by : result ≡ 1 → (text : List ℕ) → Appends before after text → CommandOutcome held words result text →
       RefusedDefinition held words before after
@@ -255,6 +373,9 @@ module _ (held : Held) (words : List (List ℕ)) (old new : List (List ℕ)) (be
   definition_by one text written (no_schedule command d inputs fault given timed is said) = absurd (omega (arith, one, is))
   definition_by one text written (runs command d inputs schedule given timed is made) = absurd (omega (arith, one, is))
   definition_by one text written (no_run command d inputs schedule fault given timed is made said) = absurd (omega (arith, one, is))
+  definition_by one text written (fires from count file trigger r given has reads is said) = absurd (omega (arith, one, is))
+  definition_by one text written (no_name from count file given has is said) = absurd (omega (arith, one, is))
+  definition_by one text written (no_recurrence from count file trigger fault given has reads is said) = absurd (omega (arith, one, is))
   definition_by one text written (costs command d inputs schedule given timed is made said) = absurd (omega (arith, one, is))
   definition_by one text written (no_history fault given is said) = absurd (omega (arith, one, is))
   definition_by one text written (lists listing given is said) = absurd (omega (arith, one, is))
@@ -263,7 +384,9 @@ module _ (held : Held) (words : List (List ℕ)) (old new : List (List ℕ)) (be
   serves_definition serves one = let s = spoke serves (one_spoken one) in definition_by one s.text s.written s.says
 
   abbrev RefusedSix : Type 0
-  RefusedSix = RefusedInputs held words before after ⊎ RefusedSchedule held words before after ⊎ RefusedTrigger held words before after
+  RefusedSix =
+      RefusedInputs held words before after ⊎ (RefusedSchedule held words before after ⊎ (RefusedTrigger held words before after
+      ⊎ (RefusedName held words before after ⊎ RefusedRecurrence held words before after)))
 
   inputs_by : result ≡ 6 → (text : List ℕ) → Appends before after text → CommandOutcome held words result text → RefusedSix
   inputs_by six text written (no_definition command fault given is said) = absurd (omega (arith, six, is))
@@ -287,7 +410,7 @@ module _ (held : Held) (words : List (List ℕ)) (old new : List (List ℕ)) (be
     written = rw said at written;
   }))
   inputs_by six text written (runs command d inputs schedule given timed is made) = absurd (omega (arith, six, is))
-  inputs_by six text written (no_run command d inputs schedule fault given timed is made said) = inr (inr (
+  inputs_by six text written (no_run command d inputs schedule fault given timed is made said) = inr (inr (inl (
     fault,
     record {
       command = command;
@@ -299,7 +422,27 @@ module _ (held : Held) (words : List (List ℕ)) (old new : List (List ℕ)) (be
       runs_refused = made;
       written = rw said at written;
     },
-  ))
+  )))
+  inputs_by six text written (fires from count file trigger r given has reads is said) = absurd (omega (arith, six, is))
+  inputs_by six text written (no_name from count file given has is said) = inr (inr (inr (inl (record {
+    from = from;
+    count = count;
+    file = file;
+    value_given = given;
+    has_none = has;
+    written = rw said at written;
+  }))))
+  inputs_by six text written (no_recurrence from count file trigger fault given has reads is said) = inr (inr (inr (inr (record {
+    from = from;
+    count = count;
+    file = file;
+    trigger = trigger;
+    fault = fault;
+    value_given = given;
+    has_trigger = has;
+    recurs_not = reads;
+    written = rw said at written;
+  }))))
   inputs_by six text written (costs command d inputs schedule given timed is made said) = absurd (omega (arith, six, is))
   inputs_by six text written (no_history fault given is said) = absurd (omega (arith, six, is))
   inputs_by six text written (lists listing given is said) = absurd (omega (arith, six, is))
@@ -315,6 +458,9 @@ module _ (held : Held) (words : List (List ℕ)) (old new : List (List ℕ)) (be
   cost_by eight text written (no_schedule command d inputs fault given timed is said) = absurd (omega (arith, eight, is))
   cost_by eight text written (runs command d inputs schedule given timed is made) = absurd (omega (arith, eight, is))
   cost_by eight text written (no_run command d inputs schedule fault given timed is made said) = absurd (omega (arith, eight, is))
+  cost_by eight text written (fires from count file trigger r given has reads is said) = absurd (omega (arith, eight, is))
+  cost_by eight text written (no_name from count file given has is said) = absurd (omega (arith, eight, is))
+  cost_by eight text written (no_recurrence from count file trigger fault given has reads is said) = absurd (omega (arith, eight, is))
   cost_by eight text written (costs command d inputs schedule given timed is made said) = record {
     command = command;
     definition = d;
@@ -344,6 +490,11 @@ module _ (held : Held) (words : List (List ℕ)) (old new : List (List ℕ)) (be
       )
   listed_by names zero text written (no_run command d inputs schedule fault given timed is made said) = absurd (omega (arith, zero, is))
   listed_by names zero text written (costs command d inputs schedule given timed is made said) = absurd (omega (arith, zero, is))
+  listed_by names zero text written (fires from count file trigger r given has reads is said) =
+      absurd (let e : Command.List ≡ Fires from count = one_command _ _ names given.0 in cc)
+  listed_by names zero text written (no_name from count file given has is said) = absurd (omega (arith, zero, is))
+  listed_by names zero text written (no_recurrence from count file trigger fault given has reads is said) =
+      absurd (omega (arith, zero, is))
   listed_by names zero text written (no_history fault given is said) = absurd (omega (arith, zero, is))
   listed_by names zero text written (lists listing given is said) =
       record { listing = listing; history_given = given; written = rw said at written }
@@ -360,6 +511,10 @@ module _ (held : Held) (words : List (List ℕ)) (old new : List (List ℕ)) (be
   history_by seven text written (runs command d inputs schedule given timed is made) = absurd (omega (arith, seven, is))
   history_by seven text written (no_run command d inputs schedule fault given timed is made said) = absurd (omega (arith, seven, is))
   history_by seven text written (costs command d inputs schedule given timed is made said) = absurd (omega (arith, seven, is))
+  history_by seven text written (fires from count file trigger r given has reads is said) = absurd (omega (arith, seven, is))
+  history_by seven text written (no_name from count file given has is said) = absurd (omega (arith, seven, is))
+  history_by seven text written (no_recurrence from count file trigger fault given has reads is said) =
+      absurd (omega (arith, seven, is))
   history_by seven text written (no_history fault given is said) =
       record { fault = fault; history_given = given; written = rw said at written }
   history_by seven text written (lists listing given is said) = absurd (omega (arith, seven, is))
@@ -376,26 +531,28 @@ read_on : (bytes_of : List ℕ → Option (List ℕ)) (name : List ℕ) (limit :
 read_on bytes_of name limit next bytes is = ap (λ file. option_and_then (λ bs. said_by bytes_of (next (within limit bs))) file) is
 
 module _ (bytes_of : List ℕ → Option (List ℕ)) (words : List (List ℕ)) where
-  -- a command that has a definition goes on with the one that DEF holds
-  definition_said : (command : Command) (d : DefTree) → HoldsDefinition bytes_of words command d →
+  -- a command goes on with the definition that DEF holds
+  defined_said : (command : Command) (d : DefTree) → HoldsDefinition bytes_of words command d →
       said_by bytes_of (defined (word words 1) command words) ≡ said_by bytes_of (accepted command words d)
-  definition_said command d holds =
+  defined_said command d holds =
       let file = holds.held in
       read_on bytes_of (word words 1) definition_bytes (λ file. judged_definition command words (definition_form command file))
       file.0 file.1
       ∙ ap (λ found. said_by bytes_of (judged_definition command words found)) file.2
 
-  -- `check` and the commands that make runs have a definition
-  check_plan : plan Check words ≡ defined (word words 1) Check words
+  check_said : (d : DefTree) → HoldsDefinition bytes_of words Check d →
+      said_by bytes_of (plan Check words) ≡ said_by bytes_of (accepted Check words d)
   unfolding plan
-  check_plan = refl
+  check_said d holds = defined_said Check d holds
 
-  runs_plan : (command : Command) → makes_runs command ≡ true → plan command words ≡ defined (word words 1) command words
+  runs_said : (command : Command) (d : DefTree) → makes_runs command ≡ true → HoldsDefinition bytes_of words command d →
+      said_by bytes_of (plan command words) ≡ said_by bytes_of (accepted command words d)
   unfolding plan
-  runs_plan Check makes = refl
-  runs_plan Run makes = refl
-  runs_plan Trace makes = refl
-  runs_plan Command.List makes = absurd (cc)
+  runs_said Check d makes holds = absurd cc
+  runs_said Run d makes holds = defined_said Run d holds
+  runs_said Trace d makes holds = defined_said Trace d holds
+  runs_said (Fires from count) d makes holds = absurd cc
+  runs_said Command.List d makes holds = absurd cc
 
   -- `list` lists the records that HISTORY holds
   list_said : (listing : List ListedTree) → HoldsHistory bytes_of words listing →
@@ -427,6 +584,7 @@ module _ (bytes_of : List ℕ → Option (List ℕ)) (words : List (List ℕ)) w
   accepted_said : (command : Command) (d : DefTree) → makes_runs command ≡ true →
       accepted command words d ≡ run (is_traced command) (word words 2) (schedule_word words) d
   accepted_said Check d makes = absurd (cc)
+  accepted_said (Fires from count) d makes = absurd (cc)
   accepted_said Run d makes = refl
   accepted_said Trace d makes = refl
   accepted_said Command.List d makes = absurd (cc)
@@ -439,8 +597,7 @@ module _ (bytes_of : List ℕ → Option (List ℕ)) (words : List (List ℕ)) w
       ∙ ap (λ (outcome : Option (Verdict × List ℕ)). option_map (λ s. (number s.0, s.1)) outcome) said
 
   says_accepted : (d : DefTree) → HoldsDefinition bytes_of words Check d → say bytes_of words ≡ Some (0, accepted_line d)
-  says_accepted d holds =
-      say_by Check (accepted_line d) holds.names (ap (λ p. said_by bytes_of p) check_plan ∙ definition_said Check d holds)
+  says_accepted d holds = say_by Check (accepted_line d) holds.names (check_said d holds)
 
   says_listed : (listing : List ListedTree) → HoldsHistory bytes_of words listing → say bytes_of words ≡ Some (0, listing_text listing)
   says_listed listing holds = say_by Command.List (listing_text listing) holds.names (list_said listing holds)
@@ -451,12 +608,27 @@ module _ (bytes_of : List ℕ → Option (List ℕ)) (words : List (List ℕ)) w
       let d = passes.definition in
       let traced = is_traced command in
       say_by command text passes.definition_held.names
-      (ap (λ p. said_by bytes_of p) (runs_plan command passes.makes)
-      ∙ definition_said command d passes.definition_held
+      (runs_said command d passes.makes passes.definition_held
       ∙ ap (λ p. said_by bytes_of p) (accepted_said command d passes.makes)
       ∙ run_said traced d passes.inputs passes.inputs_held
       ∙ schedule_said traced d passes.inputs (schedule_word words) passes.schedule passes.schedule_held
       ∙ ap (λ made. said_by bytes_of (made_runs made)) passes.runs_made)
+
+  value_said : (from count : ℕ) (file : ValueTree) → Holds bytes_of (word words 1) definition_bytes (value_form (Fires from count)) file →
+      said_by bytes_of (plan (Fires from count) words) ≡ said_by bytes_of (triggered from count (trigger_in (word words 2) file))
+  unfolding plan
+  value_said from count file (bytes, there, form) =
+      read_on bytes_of (word words 1) definition_bytes
+      (λ file. judged_value (word words 2) from count (value_form (Fires from count) file)) bytes there
+      ∙ ap (λ found. said_by bytes_of (judged_value (word words 2) from count found)) form
+
+  says_fires : (from count : ℕ) (r : Recurrence) → PassesFires bytes_of words from count r →
+      say bytes_of words ≡ Some (0, moments_text (moments_due r from count))
+  says_fires from count r passes =
+      say_by (Fires from count) (moments_text (moments_due r from count)) passes.names
+      (value_said from count passes.file passes.held
+      ∙ ap (λ trigger. said_by bytes_of (triggered from count trigger)) passes.has_trigger
+      ∙ ap (λ read. said_by bytes_of (recurs from count read)) passes.recurs)
 
 whole_from : (said : Option (ℕ × List ℕ)) (before after : Option (List ℕ)) (text : List ℕ) (result : ℕ) → said ≡ Some (0, text) →
     IsSaid said before after result → IsWhole before after text result
@@ -487,6 +659,15 @@ pub serves_list : (held : Held) (words : List (List ℕ)) (old new : List (List 
 serves_list None words old new before after count later result said = tt
 serves_list (Some bytes_of) words old new before after count later result said = λ listing held same calm.
     whole_from (say bytes_of words) before after (listing_text listing) result (says_listed bytes_of words listing held) (said same calm)
+
+pub serves_moments : (held : Held) (words : List (List ℕ)) (old new : List (List ℕ)) (before after : Option (List ℕ))
+    (count later result : ℕ) → IsTold held words old new before after count later result →
+    IfSome held (λ bytes_of. (from n : ℕ) → (r : Recurrence) → PassesFires bytes_of words from n r → new ≡ old → IsCalm count later →
+    IsWhole before after (moments_text (moments_due r from n)) result)
+serves_moments None words old new before after count later result said = tt
+serves_moments (Some bytes_of) words old new before after count later result said = λ from n r passes same calm.
+    whole_from (say bytes_of words) before after (moments_text (moments_due r from n)) result
+    (says_fires bytes_of words from n r passes) (said same calm)
 
 pub serves_whole : (held : Held) (words : List (List ℕ)) (old new : List (List ℕ)) (before after : Option (List ℕ))
     (count later result : ℕ) → IsTold held words old new before after count later result →

@@ -1,3 +1,4 @@
+pub mod FiresLemmas
 pub mod Asked
 pub mod Outcomes
 pub mod Following

@@ -1,6 +1,8 @@
 -- Worked values of the definitions of this crate: its limits, words, lines and statuses.
 use Rattle.std.proofs.Common.{◌≡◌, ℕ, List, [], ◌∷◌, ◌++◌, Bool, true, false, Option, None, Some, Ok, Err, replicate, refl}
+use lib.Utf8.{encode}
 use Rattle.std.specs.Prelude.{codes}
+use Rattle.std.specs.Str.{chars}
 use Rattle.std.specs.Fmt.{digits}
 use Rattle.wf_answers.specs.Inputs.{InputsTree}
 use Rattle.wf_def.specs.ActionTree.{ActionTree, action, KindTree, compose, scope, ActionTrees, no_actions, action_then}
@@ -8,20 +10,26 @@ use Rattle.wf_def.specs.DefTree.{DefTree}
 use Rattle.wf_json.specs.Json.{string}
 use Rattle.wf_reading.specs.declared.definition.RuleFault.{RuleFault}
 use Rattle.wf_template.specs.DataTree as data_
-use Rattle.wf_top.specs.Commands.{accepted, accepted_line, judged_definition, judged_inputs, judged_schedule, made_runs, plan, run}
-use Rattle.wf_top.specs.Commands.{scheduled, text_of_runs}
+use Rattle.wf_top.specs.Commands.{accepted, accepted_line, judged_definition, judged_inputs, judged_schedule, judged_value, made_runs}
+use Rattle.wf_top.specs.Commands.{plan, recurs, run}
+use Rattle.wf_top.specs.Commands.{scheduled, text_of_runs, triggered}
 use Rattle.wf_top.specs.Fault.{fault_line, form_words}
 use Rattle.wf_plain.specs.Unbuilt.{not_yet}
 use Rattle.wf_top.specs.Form.{built, checked, definition_form, inputs_form, schedule_form, unbuilt_for}
 use Rattle.wf_top.specs.Plan.{Plan, Says, Reads, within}
 use Rattle.wf_top.specs.Served as served
 use Rattle.wf_top.specs.Trigger.{trigger_line, trigger_words}
-use Rattle.wf_top.specs.Words.{command_of, is_traced, makes_runs, schedule_word}
+use Rattle.jiff_core.specs.Calendar.{days_of_months}
+use Rattle.wf_fn_time.specs.Calendar.{day_at, days_of_first_years}
+use Rattle.wf_recur.specs.declared.fault.RecurrenceFault.{RecurrenceFault}
+use Rattle.wf_top.specs.Fires.{moments_text, recurrence_line, recurrence_words, trigger_in}
+use Rattle.wf_val.specs.ValueTree.{boolean, members, null, object}
+use Rattle.wf_top.specs.Words.{command_of, count_of, is_traced, makes_runs, schedule_word}
 use Rattle.wf_top.specs.declared.fault.FormFault.{FormFault}
 use Rattle.wf_printed.specs.declared.fault.RunsFault.{RunsFault}
 use Rattle.wf_top.specs.declared.said.Verdict.TheVariants.{Done, Definition, Inputs, TooLarge}
 use Rattle.wf_top.specs.declared.words.Command.{Command}
-use Rattle.wf_top.specs.declared.words.Command.TheVariants.{Check, Run, Trace}
+use Rattle.wf_top.specs.declared.words.Command.TheVariants.{Check, Run, Trace, Fires}
 use Rattle.wf_trigger.specs.declared.fault.TriggerFault.{TriggerFault}
 use Rattle.wf_val.specs.declared.fault.EvalFault.{EvalFault}
 use Rattle.wf_val.specs.declared.function.Fun.{Fun}
@@ -169,6 +177,50 @@ command-longer = refl
 command-not_built : command_of (words_of (codes "drill") 1) ≡ None
 command-not_built = refl
 
+abbrev fires_words : List ℕ → List ℕ → List (List ℕ)
+fires_words from count = codes "fires" ∷ letters 1 ∷ letters 2 ∷ from ∷ count ∷ []
+
+command-fires : command_of (fires_words (codes "0001-01-01T00:01") (codes "3")) ≡ Some (Fires 600000000 3)
+unfolding days_of_first_years days_of_months
+command-fires = refl
+
+command-fires-no_moment : command_of (fires_words (codes "now") (codes "3")) ≡ None
+command-fires-no_moment = refl
+
+command-fires-no_number : command_of (fires_words (codes "0001-01-01") (codes "many")) ≡ None
+unfolding days_of_first_years days_of_months
+command-fires-no_number = refl
+
+command-fires-three_words : command_of (words_of (codes "fires") 3) ≡ None
+command-fires-three_words = refl
+
+count-none : count_of [] ≡ None
+count-none = refl
+
+count-zero : count_of (codes "0") ≡ None
+count-zero = refl
+
+count-one : count_of (codes "1") ≡ Some 1
+count-one = refl
+
+count-zero_in_front : count_of (codes "01") ≡ None
+count-zero_in_front = refl
+
+count-greatest : count_of (codes "1000") ≡ Some 1000
+count-greatest = refl
+
+count-one_more : count_of (codes "1001") ≡ None
+count-one_more = refl
+
+count-long : count_of (codes "18446744073709551617") ≡ None
+count-long = refl
+
+count-sign : count_of (codes "+1") ≡ None
+count-sign = refl
+
+count-letter : count_of (codes "1a") ≡ None
+count-letter = refl
+
 command-none : command_of [] ≡ None
 command-none = refl
 
@@ -235,6 +287,51 @@ line-schedule = refl
 trigger-none : trigger_line TriggerFault.NoTrigger ≡ codes "trigger NoTrigger\n"
 unfolding trigger_line
 trigger-none = refl
+
+-- `fires`: the trigger of a name is sought in the definition, or in the one that a wrapper has
+trigger-there : trigger_in (letters 1) (object (members ((codes "triggers", object (members ((letters 1, boolean true) ∷ []))) ∷ [])))
+    ≡ Some (boolean true)
+trigger-there = refl
+
+trigger-other : trigger_in (letters 2) (object (members ((codes "triggers", object (members ((letters 1, boolean true) ∷ []))) ∷ [])))
+    ≡ None
+trigger-other = refl
+
+trigger-no_section : trigger_in (letters 1) (object (members [])) ≡ None
+trigger-no_section = refl
+
+trigger-wrapped : trigger_in (letters 1) (object (members ((
+  codes "definition",
+  object (members ((codes "triggers", object (members ((letters 1, null) ∷ []))) ∷ [])),
+) ∷ []))) ≡ Some null
+trigger-wrapped = refl
+
+trigger-missing : (from count : ℕ) → triggered from count None ≡ Says Inputs (codes "recurrence NoTrigger\n")
+unfolding recurrence_line
+trigger-missing from count = refl
+
+recurs-other : (from count : ℕ) → recurs from count (Err RecurrenceFault.NotRecurrence) ≡ Says Inputs (codes "recurrence NotRecurrence\n")
+unfolding recurrence_line
+recurs-other from count = refl
+
+recurs-form : (pointer : List ℕ) → recurrence_words (RecurrenceFault.Form pointer) ≡ codes "Form " ++ string pointer
+recurs-form pointer = refl
+
+recurs-zone : (name : List ℕ) → recurrence_words (RecurrenceFault.Zone name) ≡ codes "Zone " ++ string name
+recurs-zone name = refl
+
+value-refused : (name : List ℕ) (from count : ℕ) → judged_value name from count (Err FormFault.NotJson)
+    ≡ Says Definition (codes "definition NotJson\n")
+unfolding fault_line
+value-refused name from count = refl
+
+moments-none : moments_text [] ≡ codes "# none\n"
+unfolding moments_text
+moments-none = refl
+
+moments-two : moments_text (0 ∷ 600000001 ∷ []) ≡ codes "0001-01-01T00:00:00.0000000Z\n0001-01-01T00:01:00.0000001Z\n"
+unfolding moments_text day_at chars encode
+moments-two = refl
 
 trigger-parameter : (name : List ℕ) → trigger_words (TriggerFault.NoParameter name) ≡ codes "NoParameter " ++ string name
 trigger-parameter name = refl

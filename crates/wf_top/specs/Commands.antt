@@ -6,11 +6,17 @@ use Rattle.wf_def.specs.DefTree.{DefTree}
 use Rattle.wf_def.specs.Names.{graph_names}
 use Rattle.wf_history.specs.History.{ListedTree}
 use Rattle.wf_plain.specs.Plain.{plain_of}
+use Rattle.wf_recur.specs.Moments.{moments_due}
+use Rattle.wf_recur.specs.Reading.{recurrence_of}
+use Rattle.wf_recur.specs.declared.fault.RecurrenceFault.{RecurrenceFault}
+use Rattle.wf_recur.specs.declared.recurrence.Recurrence.{Recurrence}
+use Rattle.wf_val.specs.ValueTree.{ValueTree}
 use Rattle.wf_printed.specs.Runs.{runs_text}
 use Rattle.wf_printed.specs.declared.fault.RunsFault.{RunsFault}
 use Rattle.wf_top.specs.Fault.{fault_line}
 use Rattle.wf_record.specs.Record.{run_status_name}
-use Rattle.wf_top.specs.Form.{definition_form, inputs_form, listing_form, schedule_form}
+use Rattle.wf_top.specs.Fires.{moments_text, recurrence_line, recurrence_words, trigger_in}
+use Rattle.wf_top.specs.Form.{definition_form, inputs_form, listing_form, schedule_form, value_form}
 use Rattle.wf_top.specs.Limits.{definition_bytes, history_bytes, inputs_bytes, schedule_bytes}
 use Rattle.wf_top.specs.Plan.{Plan, Says, Reads}
 use Rattle.wf_top.specs.Trigger.{trigger_line}
@@ -18,7 +24,7 @@ use Rattle.wf_top.specs.Words.{command_of, is_traced, schedule_word, word}
 use Rattle.wf_top.specs.declared.fault.FormFault.{FormFault}
 use Rattle.wf_top.specs.declared.said.Verdict.TheVariants.{Done, Definition, History, Inputs, TooLarge}
 use Rattle.wf_top.specs.declared.words.Command.{Command}
-use Rattle.wf_top.specs.declared.words.Command.TheVariants.{Check, Run, Trace}
+use Rattle.wf_top.specs.declared.words.Command.TheVariants.{Check, Run, Trace, Fires}
 
 -- what `check` writes of an accepted definition: how many actions it has, at any depth
 unfoldable pub accepted_line : DefTree → List ℕ
@@ -63,8 +69,9 @@ abbrev pub accepted : Command → List (List ℕ) → DefTree → Plan
 accepted Check words d = Says Done (accepted_line d)
 accepted Run words d = run (is_traced Run) (word words 2) (schedule_word words) d
 accepted Trace words d = run (is_traced Trace) (word words 2) (schedule_word words) d
--- This is never met: `list` reads no definition.
+-- These are never met: `list` reads no definition, and `fires` has a plan of its own.
 accepted Command.List words d = Says Done (accepted_line d)
+accepted (Fires from count) words d = Says Done (accepted_line d)
 
 -- DEF is read and judged: the command goes on with it, or it is refused for its fault.
 abbrev pub judged_definition : Command → List (List ℕ) → Result DefTree FormFault → Plan
@@ -93,10 +100,33 @@ judged_history (Ok listing) = Says Done (listing_text listing)
 abbrev pub list : List ℕ → Plan
 list history = Reads history history_bytes (λ file. judged_history (listing_form file))
 
+-- the next moments of a recurrence, or why the trigger has none that can be told
+abbrev pub recurs : ℕ → ℕ → Result Recurrence RecurrenceFault → Plan
+recurs from count (Ok r) = Says Done (moments_text (moments_due r from count))
+recurs from count (Err fault) = Says Inputs (recurrence_line (recurrence_words fault))
+
+-- of the trigger, if the definition has it
+abbrev pub triggered : ℕ → ℕ → Option ValueTree → Plan
+triggered from count (Some trigger) = recurs from count (recurrence_of trigger)
+triggered from count None = Says Inputs (recurrence_line (codes "NoTrigger"))
+
+-- DEF is read and judged: the trigger of a name is sought in it, or it is refused for its fault.
+abbrev pub judged_value : List ℕ → ℕ → ℕ → Result ValueTree FormFault → Plan
+judged_value name from count (Ok file) = triggered from count (trigger_in name file)
+judged_value name from count (Err fault) = Says Definition (fault_line (codes "definition ") fault)
+
+-- what `fires` says
+abbrev pub fired : List ℕ → List ℕ → ℕ → ℕ → Plan
+fired definition name from count =
+    Reads definition definition_bytes (λ file. judged_value name from count (value_form (Fires from count) file))
+
 -- what a command with its words says
 unfoldable pub plan : Command → List (List ℕ) → Plan
+plan Check words = defined (word words 1) Check words
+plan Run words = defined (word words 1) Run words
+plan Trace words = defined (word words 1) Trace words
+plan (Fires from count) words = fired (word words 1) (word words 2) from count
 plan Command.List words = list (word words 1)
-plan command words = defined (word words 1) command words
 
 -- what the words ask for, or None where they are no command
 abbrev pub plan_of : List (List ℕ) → Option Plan

@@ -16,7 +16,7 @@ use Rattle.wf_run.specs.declared.fault.ScheduleFault.{ScheduleFault}
 use Rattle.wf_top.specs.Fault.{inputs_fault, json_fault, rule_fault, schedule_fault}
 use Rattle.wf_top.specs.declared.fault.FormFault.{FormFault}
 use Rattle.wf_top.specs.declared.words.Command.{Command}
-use Rattle.wf_top.specs.declared.words.Command.TheVariants.{Check, Run, Trace}
+use Rattle.wf_top.specs.declared.words.Command.TheVariants.{Check, Run, Trace, Fires}
 use Rattle.wf_val.specs.ValueTree.{ValueTree}
 
 -- A form says what a file holds of it, or which fault the file has: None stands for a file over its limit.
@@ -33,13 +33,14 @@ abbrev pub json_form : {T : Type 0} → (ValueTree → Result T FormFault) → F
 json_form of_value None = Err FormFault.TooLong
 json_form of_value (Some bytes) = found of_value (read_value bytes)
 
--- The least pointer of what isn't built for a command. `check` makes no run, so it lacks nothing; and `list`, which reads no definition, never
--- asks.
+-- The least pointer of what isn't built for a command. `check` and `fires` make no run, so they lack nothing; and `list`, which reads no
+-- definition, never asks.
 unfoldable pub unbuilt_for : Command → DefTree → Option (List ℕ)
 unbuilt_for Check d = None
 unbuilt_for Run d = not_yet d
 unbuilt_for Trace d = not_yet d
 unbuilt_for Command.List d = None
+unbuilt_for (Fires from count) d = None
 
 -- the first of the rules between its parts that a definition breaks
 unfoldable pub broken_in : DefTree → Option RuleFault
@@ -67,6 +68,15 @@ definition_of command value = formed command value (fault_in value)
 -- the form of definitions
 abbrev pub definition_form : Command → Form DefTree
 definition_form command file = json_form (definition_of command) file
+
+-- the value of a definition that is taken
+abbrev pub kept : ValueTree → Result DefTree FormFault → Result ValueTree FormFault
+kept value (Ok d) = Ok value
+kept value (Err fault) = Err fault
+
+-- the form of definitions, of which the value is kept
+abbrev pub value_form : Command → Form ValueTree
+value_form command file = json_form (λ value. kept value (definition_of command value)) file
 
 -- what inputs are read, or their fault
 abbrev pub or_inputs_fault : Result answers.InputsTree InputsFault → Result answers.InputsTree FormFault

@@ -1,5 +1,6 @@
 pub mod Commands
 pub mod Fault
+pub mod Fires
 pub mod Form
 pub mod Limits
 pub mod Plan

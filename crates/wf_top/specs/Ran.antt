@@ -7,7 +7,13 @@ use Rattle.wf_history.specs.History.{ListedTree}
 use Rattle.wf_outside.specs.Outside.{Held}
 use Rattle.wf_top.specs.Commands.{accepted_line, listing_text, text_of_runs, too_large}
 use Rattle.wf_top.specs.Fault.{fault_line}
-use Rattle.wf_top.specs.Form.{Form, definition_form, inputs_form, listing_form, schedule_form}
+use Rattle.wf_recur.specs.Next.{AreNext}
+use Rattle.wf_recur.specs.Reading.{recurrence_of}
+use Rattle.wf_recur.specs.declared.fault.RecurrenceFault.{RecurrenceFault}
+use Rattle.wf_recur.specs.declared.recurrence.Recurrence.{Recurrence}
+use Rattle.wf_val.specs.ValueTree.{ValueTree}
+use Rattle.wf_top.specs.Fires.{moments_text, recurrence_line, recurrence_words, trigger_in}
+use Rattle.wf_top.specs.Form.{Form, definition_form, inputs_form, listing_form, schedule_form, value_form}
 use Rattle.wf_top.specs.Limits.{definition_bytes, history_bytes, inputs_bytes, schedule_bytes}
 use Rattle.wf_top.specs.Plan.{MayGive, within}
 use Rattle.wf_top.specs.Served.{out_of_memory}
@@ -16,7 +22,7 @@ use Rattle.wf_top.specs.Words.{command_of, is_traced, makes_runs, schedule_word,
 use Rattle.wf_top.specs.declared.fault.FormFault.{FormFault}
 use Rattle.wf_printed.specs.declared.fault.RunsFault.{RunsFault}
 use Rattle.wf_top.specs.declared.words.Command.{Command}
-use Rattle.wf_top.specs.declared.words.Command.TheVariants.{Check}
+use Rattle.wf_top.specs.declared.words.Command.TheVariants.{Check, Fires}
 use Rattle.wf_trigger.specs.declared.fault.TriggerFault.{TriggerFault}
 
 -- A read of this name may give a file in which this is found: where the files tell, it is what they hold.
@@ -50,6 +56,44 @@ pub record Checked (held : Held) (words : List (List ℕ)) (before after : Optio
   pub definition : DefTree
   pub definition_given : GivesDefinition held words Check (Ok definition)
   pub written : Appends before after (accepted_line definition)
+
+-- what DEF gave to `fires`: the value of a definition that it takes
+abbrev pub GivesValue : Held → List (List ℕ) → ℕ → ℕ → Result ValueTree FormFault → Type 0
+GivesValue held words from count found =
+    (command_of words ≡ Some (Fires from count)) × Gives held (word words 1) definition_bytes (value_form (Fires from count)) found
+
+-- DEF gave a definition that has the trigger, whose recurrence was read, and its next moments were taken, and nothing else.
+pub record Fired (held : Held) (words : List (List ℕ)) (from count : ℕ) (before after : Option (List ℕ)) : Type 0 where
+  pub file : ValueTree
+  pub trigger : ValueTree
+  pub recurrence : Recurrence
+  pub moments : List ℕ
+  pub value_given : GivesValue held words from count (Ok file)
+  pub has_trigger : trigger_in (word words 2) file ≡ Some trigger
+  pub recurs : recurrence_of trigger ≡ Ok recurrence
+  pub next : AreNext recurrence from count moments
+  pub written : Appends before after (moments_text moments)
+
+-- DEF gave a definition without the trigger, and that was said.
+pub record RefusedName (held : Held) (words : List (List ℕ)) (before after : Option (List ℕ)) : Type 0 where
+  pub from : ℕ
+  pub count : ℕ
+  pub file : ValueTree
+  pub value_given : GivesValue held words from count (Ok file)
+  pub has_none : trigger_in (word words 2) file ≡ None
+  pub written : Appends before after (recurrence_line (codes "NoTrigger"))
+
+-- DEF gave a definition that has the trigger, which has no recurrence whose moments can be told, and why was said.
+pub record RefusedRecurrence (held : Held) (words : List (List ℕ)) (before after : Option (List ℕ)) : Type 0 where
+  pub from : ℕ
+  pub count : ℕ
+  pub file : ValueTree
+  pub trigger : ValueTree
+  pub fault : RecurrenceFault
+  pub value_given : GivesValue held words from count (Ok file)
+  pub has_trigger : trigger_in (word words 2) file ≡ Some trigger
+  pub recurs_not : recurrence_of trigger ≡ Err fault
+  pub written : Appends before after (recurrence_line (recurrence_words fault))
 
 -- The words are `run` or `trace`, DEF gave a definition that it takes, and INPUTS gave inputs.
 pub record IsGiven (held : Held) (words : List (List ℕ)) (command : Command) (definition : DefTree) (inputs : InputsTree) : Type 0 where
@@ -137,6 +181,15 @@ Holds bytes_of name limit form t = (bytes : List ℕ) × (bytes_of name ≡ Some
 pub record HoldsDefinition (bytes_of : List ℕ → Option (List ℕ)) (words : List (List ℕ)) (command : Command) (d : DefTree) : Type 0 where
   pub names : command_of words ≡ Some command
   pub held : Holds bytes_of (word words 1) definition_bytes (definition_form command) d
+
+-- All tests of `fires` pass: a file DEF is there and holds a definition with the trigger, whose recurrence reads.
+pub record PassesFires (bytes_of : List ℕ → Option (List ℕ)) (words : List (List ℕ)) (from count : ℕ) (r : Recurrence) : Type 0 where
+  pub names : command_of words ≡ Some (Fires from count)
+  pub file : ValueTree
+  pub trigger : ValueTree
+  pub held : Holds bytes_of (word words 1) definition_bytes (value_form (Fires from count)) file
+  pub has_trigger : trigger_in (word words 2) file ≡ Some trigger
+  pub recurs : recurrence_of trigger ≡ Ok r
 
 -- A file SCHEDULE is there and holds this schedule; or none is named, and it is the empty one.
 abbrev pub HoldsSchedule : (List ℕ → Option (List ℕ)) → Option (List ℕ) → List ℕ → Type 0

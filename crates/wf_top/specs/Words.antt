@@ -1,9 +1,12 @@
 -- Which words are a command.
-use Rattle.std.specs.Prelude.{ℕ, List, [], ◌∷◌, ◌&&◌, ◌||◌, length, Bool, true, false, Option, None, Some, if◌then◌else◌, nat_eq, codes}
+use Rattle.std.specs.Prelude.{ℕ, ◌+◌, ◌-◌, ◌*◌, List, [], ◌∷◌, ◌&&◌, ◌||◌, length, Bool, not, true, false, Option, None, Some}
+use Rattle.std.specs.Prelude.{if◌then◌else◌, nat_eq, nat_le, nat_lt, codes}
 use Rattle.std.specs.Prelude.{slice_get, slice_index_or}
+use Rattle.std.specs.Char.{is_ascii_digit}
 use Rattle.std.specs.Str.{bytes_eq}
+use Rattle.wf_fn_time.specs.Reading.{read_time}
 use Rattle.wf_top.specs.declared.words.Command.{Command}
-use Rattle.wf_top.specs.declared.words.Command.TheVariants.{Check, Run, Trace}
+use Rattle.wf_top.specs.declared.words.Command.TheVariants.{Check, Run, Trace, Fires}
 
 -- the word at a place
 abbrev pub word : List (List ℕ) → ℕ → List ℕ
@@ -18,13 +21,36 @@ abbrev pub is_command : List ℕ → ℕ → List (List ℕ) → Bool
 is_command name count [] = false
 is_command name count (first ∷ rest) = bytes_eq first name && nat_eq (length rest) count
 
+-- what decimal digits come to behind those that come to n; none behind more than a thousand
+abbrev pub digits_from : ℕ → List ℕ → Option ℕ
+digits_from n [] = Some n
+digits_from n (b ∷ bs) = if not (is_ascii_digit b) || nat_lt 1000 n then None else digits_from (n * 10 + (b - 48)) bs
+
+abbrev pub within_count : Option ℕ → Option ℕ
+within_count (Some n) = if nat_le 1 n && nat_le n 1000 then Some n else None
+within_count None = None
+
+-- a number from 1 to 1000, without a zero in front
+abbrev pub count_of : List ℕ → Option ℕ
+count_of [] = None
+count_of (b ∷ bs) = if nat_eq b 48 then None else within_count (digits_from 0 (b ∷ bs))
+
+-- the command `fires` with this moment and this number, if they are there
+abbrev pub fires_with : Option ℕ → Option ℕ → Option Command
+fires_with (Some from) (Some count) = Some (Fires from count)
+fires_with from count = None
+
+abbrev pub fires_of : List ℕ → List ℕ → Option Command
+fires_of from count = fires_with (read_time from) (count_of count)
+
 -- the command that the words are, or None
 abbrev pub command_of : List (List ℕ) → Option Command
 command_of words =
     if is_command (codes "check") 1 words then Some Check else
     (if is_command (codes "run") 2 words || is_command (codes "run") 3 words then Some Run else
     (if is_command (codes "trace") 3 words then Some Trace else
-    (if is_command (codes "list") 1 words then Some Command.List else None)))
+    (if is_command (codes "list") 1 words then Some Command.List else
+    (if is_command (codes "fires") 4 words then fires_of (word words 3) (word words 4) else None))))
 
 -- the command makes the runs that inputs start
 abbrev pub makes_runs : Command → Bool
@@ -32,6 +58,7 @@ makes_runs Check = false
 makes_runs Run = true
 makes_runs Trace = true
 makes_runs Command.List = false
+makes_runs (Fires from count) = false
 
 -- the command writes the events of each run above its record
 abbrev pub is_traced : Command → Bool
@@ -39,3 +66,4 @@ is_traced Check = false
 is_traced Run = false
 is_traced Trace = true
 is_traced Command.List = false
+is_traced (Fires from count) = false

@@ -12,6 +12,7 @@ use crate::accepted::accepted_line;
 use crate::form::definition_form;
 use crate::listing::list;
 use crate::load::{Stop, load};
+use crate::recurring::fired;
 use crate::runs::run;
 use crate::said::{Said, Verdict, say_fault};
 use crate::words::{Command, schedule_word};
@@ -47,7 +48,7 @@ fn accepted<F: Files>(
 {
     let schedule = schedule_word(words);
     match command {
-        Command::Check | Command::List => say_accepted(alloc, checked),
+        Command::Check | Command::List | Command::Fires { .. } => say_accepted(alloc, checked),
         Command::Run => run(alloc, files, false, &words[2], schedule, checked),
         Command::Trace => run(alloc, files, true, &words[2], schedule, checked),
     }
@@ -90,5 +91,6 @@ pub fn follow<F: Files>(
         Command::Check | Command::Run | Command::Trace => {
             defined(alloc, words, command, files, &words[1])
         }
+        Command::Fires { from, count } => fired(alloc, files, &words[1], &words[2], from, count),
     }
 }

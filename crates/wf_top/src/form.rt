@@ -4,6 +4,7 @@ ghost use Rattle.wf_answers.specs.InputsSeen.{inputs_tree};
 ghost use Rattle.wf_history.specs.Seen.{listed_tree};
 ghost use Rattle.wf_reading.specs.ReadSeen.{def_tree};
 ghost use Rattle.wf_top.specs.Form.{broken_in, definition_form, definition_of, inputs_form, listing_form, schedule_form, unbuilt_for};
+ghost use Rattle.wf_top.specs.Form.{value_form};
 ghost use Rattle.wf_val.specs.Seen.{tree};
 
 use crate::fault::FormFault;
@@ -23,7 +24,7 @@ fn unbuilt_for(alloc: Global, command: Command, def: &Def) -> Result<Option<Text
     ensures { IfOk result (λ p. p ≡ unbuilt_for command (def_tree def.now)) }
 {
     match command {
-        Command::Check | Command::List => Ok(None),
+        Command::Check | Command::List | Command::Fires { .. } => Ok(None),
         Command::Run | Command::Trace => not_yet(alloc, def),
     }
 }
@@ -67,6 +68,18 @@ pub fn definition_form(
     let value = wf_json::read(alloc, &bytes)?;
     let checked = definition_in(alloc, command, &value)?;
     Ok(checked)
+}
+
+/// The value of the definition that a file holds, for a command; `None` stands for a file over its limit.
+pub fn value_form(alloc: Global, command: Command, file: Option<Vec<u8>>) -> Result<Val, FormFault>
+    ensures form { IfOk result (λ value. value_form command (option_map (λ bytes. bytes.items) file) ≡ Ok (tree value)) }
+    ensures fault { IfErr result (λ fault. fault ≢ FormFault.Memory → value_form command (option_map (λ bytes. bytes.items) file)
+        ≡ Err fault) }
+{
+    let bytes = file.ok_or(FormFault::TooLong)?;
+    let value = wf_json::read(alloc, &bytes)?;
+    let _checked = definition_in(alloc, command, &value)?;
+    Ok(value)
 }
 
 /// The inputs that a file holds; `None` stands for a file over its limit.

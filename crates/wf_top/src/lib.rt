@@ -17,6 +17,7 @@ mod listing;
 mod load;
 mod put;
 mod quoted;
+mod recurring;
 mod runs;
 mod said;
 mod serve;

@@ -4,9 +4,13 @@ ghost use Rattle.std.specs.Io.KnownBytes.{Appends};
 ghost use Rattle.wf_outside.specs.Outside.{IsCalm, Rose};
 ghost use Rattle.wf_def.specs.DefTree.{DefTree};
 ghost use Rattle.wf_history.specs.History.{ListedTree};
+ghost use Rattle.wf_recur.specs.Moments.{moments_due};
+ghost use Rattle.wf_recur.specs.declared.recurrence.Recurrence.{Recurrence};
 ghost use Rattle.wf_top.specs.Commands.{accepted_line, listing_text, plan_of};
-ghost use Rattle.wf_top.specs.Ran.{Checked, HoldsDefinition, HoldsHistory, IsWhole, Listed, PassesAll, Ran};
-ghost use Rattle.wf_top.specs.Ran.{RefusedCost, RefusedDefinition, RefusedHistory, RefusedInputs, RefusedSchedule, RefusedTrigger};
+ghost use Rattle.wf_top.specs.Fires.{moments_text};
+ghost use Rattle.wf_top.specs.Ran.{Checked, Fired, HoldsDefinition, HoldsHistory, IsWhole, Listed, PassesAll, PassesFires, Ran};
+ghost use Rattle.wf_top.specs.Ran.{RefusedCost, RefusedDefinition, RefusedHistory, RefusedInputs, RefusedName, RefusedRecurrence};
+ghost use Rattle.wf_top.specs.Ran.{RefusedSchedule, RefusedTrigger};
 ghost use Rattle.wf_top.specs.Served.{FailedAt, IsSaid, Serves, cannot_read, say};
 ghost use Rattle.wf_top.specs.Words.{command_of, makes_runs};
 
@@ -82,6 +86,11 @@ pub fn serve_words<F: Files, I: Source, O: Sink>(
     ensures ran { (command : Command) → makes_runs command ≡ true → command_of words.now ≡ Some command → result ≡ 0
         → Ran (F.held files.old) words.now command (O.taken out.old) (O.taken out.new) }
 
+    // At `fires DEF TRIGGER FROM N` 0 comes where a definition was read that has the trigger, whose recurrence was read, and the sink took
+    // exactly its next moments.
+    ensures fired { (from count : ℕ) → command_of words.now ≡ Some (Command.Fires from count) → result ≡ 0
+        → Fired (F.held files.old) words.now from count (O.taken out.old) (O.taken out.new) }
+
     // Where all tests of a command pass and no count rose, that comes and nothing else, but for want of memory.
     ensures complete_check { IfSome (F.held files.old) (λ bytes_of. (definition : DefTree) →
         HoldsDefinition bytes_of words.now Command.Check definition →
@@ -101,14 +110,23 @@ pub fn serve_words<F: Files, I: Source, O: Sink>(
         F.failed files.new ≡ F.failed files.old → IsCalm (O.faults out.old) (O.faults out.new) →
         IsWhole (O.taken out.old) (O.taken out.new) (listing_text listing) result) }
 
+    // And so at `fires`.
+    ensures complete_fires { IfSome (F.held files.old) (λ bytes_of. (from n : ℕ) → (r : Recurrence) →
+        PassesFires bytes_of words.now from n r →
+        F.failed files.new ≡ F.failed files.old → IsCalm (O.faults out.old) (O.faults out.new) →
+        IsWhole (O.taken out.old) (O.taken out.new) (moments_text (moments_due r from n)) result) }
+
     // 1 comes where the first file gave no definition that the command takes.
     ensures refused_definition { result ≡ 1 → RefusedDefinition (F.held files.old) words.now (O.taken out.old) (O.taken out.new) }
 
     // 6 comes where it gave one, and the second gave no inputs; or gave inputs, and the third no schedule; or gave inputs by which the
-    // trigger starts no run for its fault, and there was no third or it gave a schedule.
+    // trigger starts no run for its fault, and there was no third or it gave a schedule. At `fires` it comes where the definition lacks
+    // the trigger, or the trigger has no recurrence whose moments can be told.
     ensures refused_inputs { result ≡ 6 → RefusedInputs (F.held files.old) words.now (O.taken out.old) (O.taken out.new)
         ⊎ RefusedSchedule (F.held files.old) words.now (O.taken out.old) (O.taken out.new)
-        ⊎ RefusedTrigger (F.held files.old) words.now (O.taken out.old) (O.taken out.new) }
+        ⊎ RefusedTrigger (F.held files.old) words.now (O.taken out.old) (O.taken out.new)
+        ⊎ RefusedName (F.held files.old) words.now (O.taken out.old) (O.taken out.new)
+        ⊎ RefusedRecurrence (F.held files.old) words.now (O.taken out.old) (O.taken out.new) }
 
     // 7 comes at `list`, where the file gave no history.
     ensures refused_history { result ≡ 7 → RefusedHistory (F.held files.old) words.now (O.taken out.old) (O.taken out.new) }

@@ -1,7 +1,8 @@
 // The words of a command.
 ghost use Rattle.std.specs.Prelude.{◌≡◌, option_copied};
-ghost use Rattle.wf_top.specs.Words.{command_of, schedule_word};
+ghost use Rattle.wf_top.specs.Words.{command_of, count_of, digits_from, fires_of, schedule_word, within_count};
 
+use wf_fn_time::read_time;
 use wf_val::Text;
 
 /// A command of the program.
@@ -15,6 +16,9 @@ pub enum Command {
     Trace,
     /// `list HISTORY`: says in a line what each record of a history is.
     List,
+    /// `fires DEF TRIGGER FROM N`: lists the next moments, N at most, at which a trigger that recurs is due from a moment on,
+    /// which is in ticks.
+    Fires { from: u64, count: u32 },
 }
 
 /// The command that the words after the program's name are, or `None` where they are no command. It takes no memory.
@@ -27,8 +31,50 @@ pub fn parse_words(words: &[Text]) -> Option<Command>
         ("run", 2 | 3) => Some(Command::Run),
         ("trace", 3) => Some(Command::Trace),
         ("list", 1) => Some(Command::List),
+        ("fires", 4) => fires_of(words[3].as_str(), words[4].as_str()),
         _ => None,
     }
+}
+
+// The command `fires` with these words FROM and N: a timestamp, and a number from 1 to 1000 without a zero in front.
+fn fires_of(from: &str, count: &str) -> Option<Command>
+    ensures { result ≡ fires_of from.now count.now }
+{
+    let from = read_time(from)?.get();
+    let count = count_of(count.as_bytes())?;
+    Some(Command::Fires { from, count })
+}
+
+fn count_of(text: &[u8]) -> Option<u32>
+    ensures { result ≡ count_of text.now }
+{
+    match text {
+        [first, ..] if *first != b'0' => within_count(digits_from(text)),
+        _ => None,
+    }
+}
+
+fn within_count(number: Option<u32>) -> Option<u32>
+    ensures { result ≡ within_count number }
+{
+    match number {
+        Some(n) if 1 <= n && n <= 1000 => Some(n),
+        _ => None,
+    }
+}
+
+// What decimal digits come to, of which none stands behind more than a thousand.
+fn digits_from(text: &[u8]) -> Option<u32>
+    ensures { result ≡ digits_from 0 text.now }
+{
+    let mut number = 0;
+    for digit in text {
+        if !digit.is_ascii_digit() || number > 1000 {
+            return None;
+        }
+        number = number * 10 + u32::from(*digit - b'0');
+    }
+    Some(number)
 }
 
 /// The word SCHEDULE, or `None` where the words have none.

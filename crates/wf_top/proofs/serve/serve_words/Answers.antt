@@ -3,8 +3,8 @@ use Rattle.std.specs.Option.{option_map}
 use Rattle.wf_top.specs.Commands.{plan}
 use Rattle.wf_top.proofs.Asked.{failed_word}
 use Rattle.wf_top.proofs.Outcomes.{serves_le, serves_told, serves_two, serves_misused, serves_three, serves_unread, no_command}
-use Rattle.wf_top.proofs.CommandOutcomes.{serves_accepted, serves_checked, serves_cost, serves_definition, serves_history, serves_inputs}
-use Rattle.wf_top.proofs.CommandOutcomes.{serves_list, serves_listed, serves_ran, serves_whole}
+use Rattle.wf_top.proofs.CommandOutcomes.{serves_accepted, serves_checked, serves_cost, serves_definition, serves_fired, serves_history}
+use Rattle.wf_top.proofs.CommandOutcomes.{serves_inputs, serves_list, serves_listed, serves_moments, serves_ran, serves_whole}
 use Rattle.wf_top.proofs.serve.serve_words.Goals as goal
 
 pub returns-clause-status : goal.returns-clause-status
@@ -50,6 +50,13 @@ returns-clause-listed g c = serves_listed _ _ _ _ _ _ _ c.serve.ensures.outcome
 pub returns-clause-complete_list : goal.returns-clause-complete_list
 returns-clause-complete_list g c =
     serves_list _ _ _ _ _ _ _ _ _ (serves_told _ _ _ _ _ _ _ _ _ c.serve.ensures.outcome c.serve.ensures.only)
+
+pub returns-clause-fired : goal.returns-clause-fired
+returns-clause-fired g c = λ from count names. serves_fired _ _ _ _ _ _ _ from count names c.serve.ensures.outcome
+
+pub returns-clause-complete_fires : goal.returns-clause-complete_fires
+returns-clause-complete_fires g c =
+    serves_moments _ _ _ _ _ _ _ _ _ (serves_told _ _ _ _ _ _ _ _ _ c.serve.ensures.outcome c.serve.ensures.only)
 
 pub returns-clause-refused_definition : goal.returns-clause-refused_definition
 returns-clause-refused_definition g c = serves_definition _ _ _ _ _ _ _ c.serve.ensures.outcome
