@@ -9,7 +9,7 @@ use Rattle.wf_standing.specs.Kinds.{ends_or_responds}
 use Rattle.wf_standing.specs.Standing.{StandingTree, standings_of}
 use Rattle.wf_meant.specs.Containers.{is_terminate}
 use Rattle.wf_meant.specs.Points.{graph_of}
-use Rattle.wf_instance.specs.Ends.{EndsStandInNoLoop}
+use Rattle.wf_accepted_laws.specs.Ends.{EndsStandInNoLoop}
 
 ends_of : (kind : KindTree) → is_terminate kind ≡ true → ends_or_responds kind ≡ true
 ends_of (terminate inputs) is = refl

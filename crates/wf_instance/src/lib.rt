@@ -19,7 +19,6 @@ ghost use Rattle.wf_meaning.specs.Environment.{Environment};
 ghost use Rattle.wf_meant.specs.Points.{graph_of};
 ghost use Rattle.wf_meant.specs.Record.{depth_of};
 ghost use Rattle.wf_meant.specs.Source.{source};
-ghost use Rattle.wf_instance.specs.Ends.{EndsStandInNoLoop};
 
 /// How many actions are before an action falls along every entry of a `runAfter`.
 pub fn depths_are_how_many_are_before()
@@ -35,7 +34,7 @@ pub fn depths_are_how_many_are_before()
 
 /// A definition that was read and breaks no rule on names is an instance of the laws of order, in every environment.
 pub fn a_definition_is_an_instance()
-    ensures { (d : DefTree) → IsRead d → broken_of d ≡ None → EndsStandInNoLoop d → (e : Environment)
+    ensures { (d : DefTree) → IsRead d → broken_of d ≡ None → (e : Environment)
         → IsInstance (graph_of d) (source d e) (depth_of d) }
 {
     wf_done::what_an_action_does_is_local();
@@ -54,4 +53,5 @@ pub fn a_definition_is_an_instance()
     wf_accepted_laws::standings_are_the_actions();
     wf_accepted_laws::what_is_named_is_seen();
     wf_accepted_laws::what_an_until_contains_is_in_its_iterations();
+    wf_accepted_laws::ends_stand_in_no_loop();
 }

@@ -6,7 +6,7 @@ use Rattle.wf_instance.proofs.RuleLemmas.{is_instance}
 use Rattle.wf_instance.proofs.a_definition_is_an_instance.Goals as goal
 
 pub returns : goal.returns
-returns c = λ d r none ends e.
+returns c = λ d r none e.
     let g = layered d.top in
     let once = c.numbers_stand_once.ensures d r in
     let closed = c.entries_stay_in_their_graph.ensures d r in
@@ -27,7 +27,7 @@ returns c = λ d r none ends e.
       actions = c.standings_are_the_actions.ensures d.top;
       found = c.read_actions_have_their_numbers.ensures d r;
       same = c.names_are_those_named.ensures.same;
-      ends = ends_alone d (c.standings_are_the_actions.ensures d.top) ends;
+      ends = ends_alone d (c.standings_are_the_actions.ensures d.top) (c.ends_stand_in_no_loop.ensures d r none);
     }) (record {
       starts = c.what_an_action_does_is_local.ensures.begun;
       tracks = c.what_an_action_does_is_local.ensures.tracked;
