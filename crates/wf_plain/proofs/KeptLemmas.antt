@@ -9,7 +9,7 @@ use Rattle.wf_def.specs.DefTree.{DefTree}
 use Rattle.wf_def.specs.AllActions.{all_actions, kind_actions}
 use Rattle.wf_rules.specs.Broken.{broken_of, offences, rules_in_order}
 use Rattle.wf_rules.specs.First.{first_broken, or_later}
-use Rattle.wf_rules.specs.declared.rule.Rule.{Rule}
+use Rattle.wf_breaks.specs.declared.rule.Rule.{Rule}
 use Rattle.wf_plain.specs.Unbuilt.{is_compose, is_run, not_yet, pointers}
 use Rattle.wf_plain.proofs.AlikeLemmas.{AreCompose, IsCompose}
 

@@ -24,10 +24,10 @@ use Rattle.wf_refs.specs.Sites.{uses_at_inputs}
 use Rattle.wf_uses.specs.UsesTree.{uses_tree}
 use Rattle.wf_refs.specs.declared.site.Site.{Site}
 use Rattle.wf_rules.specs.Broken.{offences, told}
-use Rattle.wf_rules.specs.Rules.{action_breaks, breaks_at, breaks_if, is_found_unseen, is_unseen, names_unseen}
+use Rattle.wf_breaks.specs.Rules.{action_breaks, breaks_at, breaks_if, is_found_unseen, is_unseen, names_unseen}
 use Rattle.wf_standing.specs.Standing.{StandingTree, graph_standings, kind_standings, number_at, pointer_at, standings_of}
 use Rattle.wf_standing.specs.Whole.{Whole, has_name, is_seen, whole_of}
-use Rattle.wf_rules.specs.declared.rule.Rule.{Rule}
+use Rattle.wf_breaks.specs.declared.rule.Rule.{Rule}
 use Rattle.wf_plain.specs.Flat.{inputs_of, place_from}
 use Rattle.wf_plain.proofs.AlikeLemmas.{AreCompose, AtPlaces, IsCompose, numbers-flat}
 use Rattle.wf_plain.proofs.EndLemmas.{bytes_eq-same, some_one, two}

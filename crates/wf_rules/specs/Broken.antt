@@ -6,12 +6,12 @@ use Rattle.wf_val.specs.Cut.{cut_u32}
 use Rattle.wf_def.specs.DefTree.{DefTree, ParamTree}
 use Rattle.wf_reading.specs.ReadSeen.{rule_fault}
 use Rattle.wf_reading.specs.declared.definition.RuleFault.{RuleFault}
-use Rattle.wf_rules.specs.Rules.{action_breaks, output_breaks, parameter_breaks, trigger_breaks}
+use Rattle.wf_breaks.specs.Rules.{action_breaks, output_breaks, parameter_breaks, rule_number, trigger_breaks}
 use Rattle.wf_standing.specs.Standing.{StandingTree, pointer_at, standings_of}
 use Rattle.wf_standing.specs.Whole.{Whole, whole_of}
 use Rattle.wf_varorder.specs.Pairs.{Pair, pairs_among}
 use Rattle.wf_varorder.specs.declared.rule.PairRule.{PairRule}
-use Rattle.wf_rules.specs.declared.rule.Rule.{Rule}
+use Rattle.wf_breaks.specs.declared.rule.Rule.{Rule}
 
 -- the pointers of what is broken
 abbrev pub told : {X : Type 0} → (X → Bool) → (X → List ℕ) → List X → List (List ℕ)
@@ -51,21 +51,6 @@ abbrev pub rules_in_order : List Rule
 rules_in_order =
     Rule.References ∷ Rule.Parameters ∷ Rule.Variables ∷ Rule.Initialised ∷ Rule.Accesses ∷ Rule.Items ∷ Rule.Terminates ∷ Rule.Responses
     ∷ Rule.Ends ∷ Rule.LoopsLeft ∷ Rule.Results ∷ Rule.Tracked ∷ Rule.Triggers ∷ []
-
-abbrev pub rule_number : Rule → ℕ
-rule_number Rule.References = 9
-rule_number Rule.Parameters = 10
-rule_number Rule.Variables = 11
-rule_number Rule.Initialised = 12
-rule_number Rule.Accesses = 13
-rule_number Rule.Items = 14
-rule_number Rule.Terminates = 15
-rule_number Rule.Responses = 16
-rule_number Rule.Ends = 17
-rule_number Rule.LoopsLeft = 18
-rule_number Rule.Results = 19
-rule_number Rule.Tracked = 20
-rule_number Rule.Triggers = 21
 
 -- the first rule that a definition breaks, as a fault
 abbrev pub broken_of : DefTree → Option RuleFault

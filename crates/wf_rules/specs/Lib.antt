@@ -1,4 +1,2 @@
 pub use Rattle.wf_first.specs.First
-pub mod Rules
 pub mod Broken
-pub mod Wrong

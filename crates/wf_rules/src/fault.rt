@@ -8,16 +8,15 @@ ghost use Rattle.wf_reading.specs.ReadSeen.{def_tree};
 ghost use Rattle.wf_rules.specs.Broken.{first_pointer, offences, pairs_told, parameter_pointer, rules_in_order, told, told_in};
 ghost use Rattle.wf_varorder.specs.Pairs.{pairs_among};
 ghost use Rattle.wf_standing.specs.KnownSeen.{whole_seen};
-ghost use Rattle.wf_rules.specs.Rules.{action_breaks, output_breaks, parameter_breaks, trigger_breaks};
+ghost use Rattle.wf_breaks.specs.Rules.{action_breaks, output_breaks, parameter_breaks, trigger_breaks};
 ghost use Rattle.wf_standing.specs.Seen.{standing_tree};
 ghost use Rattle.wf_standing.specs.Standing.{pointer_at, standings_of};
 ghost use Rattle.wf_standing.specs.Whole.{order_in, whole_of};
 ghost use Rattle.wf_val.specs.Cut.{cut_u32};
 
-use crate::breaks::{action_breaks, output_breaks, parameter_breaks, trigger_breaks};
-use crate::rule::Rule;
 use std::alloc::{AllocError, Global};
 use std::cmp::Ordering;
+use wf_breaks::{Rule, action_breaks, output_breaks, parameter_breaks, trigger_breaks};
 use wf_def::{Output, Param, Trigger};
 use wf_json::pointer::{lesser, lesser_of, step_to};
 use wf_order::Order;

@@ -3,7 +3,7 @@ ghost use Rattle.std.specs.Prelude.{◌≡◌, ℕ, List, Some, None};
 ghost use Rattle.wf_def.specs.DefTree.{DefTree};
 ghost use Rattle.wf_first.specs.First.{first_broken, Hold, IsFirstBroken};
 ghost use Rattle.wf_rules.specs.Broken.{offences, rules_in_order};
-ghost use Rattle.wf_rules.specs.declared.rule.Rule.{Rule as RuleOf};
+ghost use Rattle.wf_breaks.specs.declared.rule.Rule.{Rule as RuleOf};
 
 /// Every rule of a smaller number that is tried holds, and the pointer is one of those that break the rule, and none of them is less; and
 /// where there is no fault, all rules that are tried hold.

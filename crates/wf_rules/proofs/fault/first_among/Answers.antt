@@ -5,7 +5,7 @@ use Rattle.wf_reading.specs.ReadSeen.{def_tree}
 use Rattle.wf_first.specs.First.{or_later, first_broken}
 use Rattle.wf_first.proofs.FirstLemmas.{first_step}
 use Rattle.wf_rules.specs.Broken.{offences, rules_in_order}
-use Rattle.wf_rules.specs.declared.rule.Rule.{Rule}
+use Rattle.wf_breaks.specs.declared.rule.Rule.{Rule}
 use Rattle.wf_rules.proofs.fault.first_among.Goals as goal
 
 pub returns-in-Some : goal.returns-in-Some

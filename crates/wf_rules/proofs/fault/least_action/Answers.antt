@@ -3,7 +3,7 @@ use Rattle.wf_def.proofs.SizeLemmas.{drop_at_place}
 use Rattle.wf_json.specs.Pointer.{lesser, least}
 use Rattle.wf_rules.specs.Broken.{told}
 use Rattle.wf_standing.specs.KnownSeen.{whole_seen}
-use Rattle.wf_rules.specs.Rules.{action_breaks}
+use Rattle.wf_breaks.specs.Rules.{action_breaks}
 use Rattle.wf_standing.specs.Seen.{standing_tree}
 use Rattle.wf_standing.specs.Standing.{StandingTree, pointer_at}
 use Rattle.wf_standing.specs.declared.standing.Standing.{Standing}

@@ -3,7 +3,7 @@ use Rattle.wf_def.specs.DefSeen.{output_tree}
 use Rattle.wf_json.specs.Pointer.{lesser, least}
 use Rattle.wf_rules.specs.Broken.{told_in}
 use Rattle.wf_standing.specs.KnownSeen.{whole_seen}
-use Rattle.wf_rules.specs.Rules.{output_breaks}
+use Rattle.wf_breaks.specs.Rules.{output_breaks}
 use Rattle.wf_rules.proofs.fault.least_output.Given as goal
 
 abbrev pub invariant-loop-place : goal.invariant-loop-place

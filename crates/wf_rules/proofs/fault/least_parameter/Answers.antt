@@ -5,7 +5,7 @@ use Rattle.wf_def.specs.DefTree.{ParamTree}
 use Rattle.wf_def.specs.declared.section.Param.{Param}
 use Rattle.wf_json.specs.Pointer.{lesser, least}
 use Rattle.wf_rules.specs.Broken.{parameter_pointer, told}
-use Rattle.wf_rules.specs.Rules.{parameter_breaks}
+use Rattle.wf_breaks.specs.Rules.{parameter_breaks}
 use Rattle.wf_rules.proofs.ToldLemmas.{told-more}
 use Rattle.wf_rules.proofs.fault.least_parameter.Goals as goal
 

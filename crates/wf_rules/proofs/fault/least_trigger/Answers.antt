@@ -6,7 +6,7 @@ use Rattle.wf_def.specs.declared.section.Trigger.{Trigger}
 use Rattle.wf_json.specs.Pointer.{lesser, least, member_step}
 use Rattle.wf_rules.specs.Broken.{told_in}
 use Rattle.wf_standing.specs.KnownSeen.{whole_seen}
-use Rattle.wf_rules.specs.Rules.{trigger_breaks}
+use Rattle.wf_breaks.specs.Rules.{trigger_breaks}
 use Rattle.wf_rules.proofs.ToldLemmas.{told_in-more}
 use Rattle.wf_rules.proofs.fault.least_trigger.Goals as goal
 

@@ -1,9 +1,9 @@
 use Rattle.std.proofs.Common.{◌≡◌, drop, map}
 use Rattle.std.specs.List.{list_any}
 use Rattle.wf_standing.specs.KnownSeen.{whole_seen}
-use Rattle.wf_rules.specs.Rules.{is_early}
+use Rattle.wf_breaks.specs.Rules.{is_early}
 use Rattle.wf_standing.specs.Seen.{initialised_tree, standing_tree}
-use Rattle.wf_rules.proofs.wrong.any_early.Given as goal
+use Rattle.wf_breaks.proofs.wrong.any_early.Given as goal
 
 abbrev pub invariant-loop-one : goal.invariant-loop-one
 invariant-loop-one l =

@@ -2,11 +2,11 @@
 ghost use Rattle.std.specs.List.{list_any};
 ghost use Rattle.std.specs.Prelude.{◌≡◌, map, option_map};
 ghost use Rattle.wf_standing.specs.KnownSeen.{whole_seen};
-ghost use Rattle.wf_rules.specs.Rules.{initialises_again, is_early, is_found_unseen, is_misread, is_miswritten, is_nested};
-ghost use Rattle.wf_rules.specs.Rules.{is_no_container, is_uninitialised, is_unseen, leaves_two, leaves_two_for, suits_at};
+ghost use Rattle.wf_breaks.specs.Rules.{initialises_again, is_early, is_found_unseen, is_misread, is_miswritten, is_nested};
+ghost use Rattle.wf_breaks.specs.Rules.{is_no_container, is_uninitialised, is_unseen, leaves_two, leaves_two_for, suits_at};
 ghost use Rattle.wf_standing.specs.Whole.{is_again};
 ghost use Rattle.wf_standing.specs.Seen.{initialised_in, initialised_tree, standing_tree};
-ghost use Rattle.wf_rules.specs.Wrong.{is_wrong};
+ghost use Rattle.wf_breaks.specs.Wrong.{is_wrong};
 
 use wf_def::Sort;
 use wf_refs::Site;
@@ -17,7 +17,7 @@ use wf_standing::{
 use wf_val::Name;
 
 /// What may be wrong with a name, by what it is the name of and by how it is used.
-#[derive(Clone, Copy, PartialEq, Eq, Debug)]
+#[derive(Clone, Copy)]
 pub(crate) enum Wrong {
     /// No action has it, or the one that has it isn't before the site.
     Unseen,

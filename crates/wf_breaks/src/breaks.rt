@@ -4,10 +4,10 @@ ghost use Rattle.std.specs.Prelude.{◌≡◌, map, option_map};
 ghost use Rattle.wf_def.specs.DefSeen.{param_tree};
 ghost use Rattle.wf_uses.specs.Seen.{uses_seen};
 ghost use Rattle.wf_standing.specs.KnownSeen.{whole_seen};
-ghost use Rattle.wf_rules.specs.Rules.{action_breaks, asks_elsewhere, asks_leaf, asks_too_soon, breaks_at, breaks_if, breaks_itself};
-ghost use Rattle.wf_rules.specs.Rules.{breaks_with, comes_early, ends_in_loop, has_misfit, is_any, is_misdeclared, is_misfit};
-ghost use Rattle.wf_rules.specs.Rules.{is_misfit_if, is_too_big_if, leaves_loops, misuses, names_outer, names_undeclared, names_unseen};
-ghost use Rattle.wf_rules.specs.Rules.{output_breaks, parameter_breaks, trigger_breaks, trigger_breaks_if, trigger_breaks_with};
+ghost use Rattle.wf_breaks.specs.Rules.{action_breaks, asks_elsewhere, asks_leaf, asks_too_soon, breaks_at, breaks_if, breaks_itself};
+ghost use Rattle.wf_breaks.specs.Rules.{breaks_with, comes_early, ends_in_loop, has_misfit, is_any, is_misdeclared, is_misfit};
+ghost use Rattle.wf_breaks.specs.Rules.{is_misfit_if, is_too_big_if, leaves_loops, misuses, names_outer, names_undeclared, names_unseen};
+ghost use Rattle.wf_breaks.specs.Rules.{output_breaks, parameter_breaks, trigger_breaks, trigger_breaks_if, trigger_breaks_with};
 ghost use Rattle.wf_standing.specs.Seen.{standing_tree};
 ghost use Rattle.wf_val.specs.Seen.{tree};
 
@@ -183,7 +183,7 @@ fn breaks_itself(rule: Rule, standing: &Standing<'_>) -> bool
 }
 
 /// Whether an action breaks the rule, at one of its sites or by where it stands.
-pub(crate) fn action_breaks(known: &Known<'_, '_>, rule: Rule, standing: &Standing<'_>) -> bool
+pub fn action_breaks(known: &Known<'_, '_>, rule: Rule, standing: &Standing<'_>) -> bool
     ensures { result ≡ action_breaks (whole_seen known.now) rule (standing_tree standing.now) }
 {
     let number = standing.action.number;
@@ -195,7 +195,7 @@ pub(crate) fn action_breaks(known: &Known<'_, '_>, rule: Rule, standing: &Standi
 }
 
 /// Whether the output at a place does.
-pub(crate) fn output_breaks(known: &Known<'_, '_>, rule: Rule, place: u32) -> bool
+pub fn output_breaks(known: &Known<'_, '_>, rule: Rule, place: u32) -> bool
     ensures { result ≡ output_breaks (whole_seen known.now) rule place }
 {
     breaks_at(known, rule, Site::Outputs(place), None)
@@ -225,7 +225,7 @@ fn trigger_breaks_with(known: &Known<'_, '_>, rule: Rule, site: Site, uses: &Use
 }
 
 /// Whether the trigger at a place does.
-pub(crate) fn trigger_breaks(known: &Known<'_, '_>, rule: Rule, place: u32) -> bool
+pub fn trigger_breaks(known: &Known<'_, '_>, rule: Rule, place: u32) -> bool
     ensures { result ≡ trigger_breaks (whole_seen known.now) rule place }
 {
     match known.uses(Site::Trigger(place)) {
@@ -287,7 +287,7 @@ fn is_misdeclared(given: &Fields, param: &Param) -> bool
 }
 
 /// Whether a declared parameter does, where a wrapper round the definition gives these values.
-pub(crate) fn parameter_breaks(given: &Fields, rule: Rule, param: &Param) -> bool
+pub fn parameter_breaks(given: &Fields, rule: Rule, param: &Param) -> bool
     ensures { result ≡ parameter_breaks given.now rule (param_tree param.now) }
 {
     match rule {

@@ -1,8 +1,8 @@
 use Rattle.std.proofs.Common.{◌≡◌, drop, map}
 use Rattle.std.specs.List.{list_any}
-use Rattle.wf_rules.specs.Rules.{is_misfit}
+use Rattle.wf_breaks.specs.Rules.{is_misfit}
 use Rattle.wf_val.specs.Seen.{tree}
-use Rattle.wf_rules.proofs.breaks.any_misfit.Given as goal
+use Rattle.wf_breaks.proofs.breaks.any_misfit.Given as goal
 
 abbrev pub invariant-loop-value : goal.invariant-loop-value
 invariant-loop-value l =

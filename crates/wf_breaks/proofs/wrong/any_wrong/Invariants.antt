@@ -2,8 +2,8 @@ use Rattle.std.proofs.Common.{◌≡◌, drop, map, option_map}
 use Rattle.std.specs.List.{list_any}
 use Rattle.wf_standing.specs.KnownSeen.{whole_seen}
 use Rattle.wf_standing.specs.Seen.{standing_tree}
-use Rattle.wf_rules.specs.Wrong.{is_wrong}
-use Rattle.wf_rules.proofs.wrong.any_wrong.Given as goal
+use Rattle.wf_breaks.specs.Wrong.{is_wrong}
+use Rattle.wf_breaks.proofs.wrong.any_wrong.Given as goal
 
 abbrev pub invariant-loop-name : goal.invariant-loop-name
 invariant-loop-name l =

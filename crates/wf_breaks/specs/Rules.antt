@@ -20,7 +20,7 @@ use Rattle.wf_standing.specs.Kinds.{ends_or_responds, is_container, is_initializ
 use Rattle.wf_standing.specs.Standing.{StandingTree, kind_at, number_at}
 use Rattle.wf_standing.specs.Whole.{InitialisedTree, Whole, is_again, is_seen}
 use Rattle.wf_standing.specs.declared.kinds.Loop.{Loop}
-use Rattle.wf_rules.specs.declared.rule.Rule.{Rule}
+use Rattle.wf_breaks.specs.declared.rule.Rule.{Rule}
 
 -- ---- V9: each action that is named is there, and is before the one that names it
 
@@ -216,3 +216,19 @@ module _ (whole : Whole) where
 abbrev pub parameter_breaks : List Member → Rule → ParamTree → Bool
 parameter_breaks given Rule.Parameters p = is_misdeclared given p
 parameter_breaks given rule p = false
+
+-- as a definition is told of it, V9 to V21
+abbrev pub rule_number : Rule → ℕ
+rule_number Rule.References = 9
+rule_number Rule.Parameters = 10
+rule_number Rule.Variables = 11
+rule_number Rule.Initialised = 12
+rule_number Rule.Accesses = 13
+rule_number Rule.Items = 14
+rule_number Rule.Terminates = 15
+rule_number Rule.Responses = 16
+rule_number Rule.Ends = 17
+rule_number Rule.LoopsLeft = 18
+rule_number Rule.Results = 19
+rule_number Rule.Tracked = 20
+rule_number Rule.Triggers = 21

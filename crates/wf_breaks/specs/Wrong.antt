@@ -2,12 +2,12 @@
 use Rattle.std.specs.Prelude.{ℕ, List, Bool, not, Option}
 use Rattle.wf_refs.specs.declared.site.Site.{Site}
 use Rattle.wf_standing.specs.Inside.{is_outside}
-use Rattle.wf_rules.specs.Rules.{is_misread, is_miswritten, is_no_container, is_uninitialised, is_unseen, leaves_two}
-use Rattle.wf_rules.specs.Rules.{leaves_two_for}
+use Rattle.wf_breaks.specs.Rules.{is_misread, is_miswritten, is_no_container, is_uninitialised, is_unseen, leaves_two}
+use Rattle.wf_breaks.specs.Rules.{leaves_two_for}
 use Rattle.wf_standing.specs.Standing.{StandingTree}
 use Rattle.wf_standing.specs.Whole.{Whole}
 use Rattle.wf_standing.specs.declared.kinds.Loop.{Loop}
-use Rattle.wf_rules.specs.declared.wrong.Wrong.{Wrong}
+use Rattle.wf_breaks.specs.declared.wrong.Wrong.{Wrong}
 
 module _ (whole : Whole) where
   abbrev pub is_wrong : Wrong → Site → Option StandingTree → List ℕ → Bool
