@@ -12,107 +12,106 @@
 #![tactic(auto)]
 
 use std::alloc::{AllocError, Global};
-use std::io::{self, Read, Write};
+use std::io::{self, Write};
 use wf_fn_time::{Ticks, print_time, read_time};
 use wf_json::JsonFault;
 use wf_recur::{Recurrence, RecurrenceFault, fires};
 use wf_val::{Fun, Text, Val};
 
-// A row in its parts.
-#[derive(Drop)]
-struct Row {
-    trigger: Val,
+// What a row asks for beside the trigger.
+#[derive(Clone, Copy)]
+struct Span {
     from: Ticks,
     count: u32,
 }
 
-// The value that a text spells, if any.
-fn spelled(alloc: Global, text: &str) -> Result<Option<Val>, AllocError> {
-    match wf_json::read(alloc, text.as_bytes()) {
-        Ok(value) => Ok(Some(value)),
-        Err(JsonFault::Memory) => Err(AllocError),
-        Err(_) => Ok(None),
-    }
+// The parts of a row behind the trigger, where they are a timestamp and a number.
+fn span_of(parts: &str) -> Option<Span> {
+    let (from, count) = parts.split_once("\t")?;
+    let from = read_time(from)?;
+    let count = count.parse::<u32>().ok()?;
+    Some(Span { from, count })
 }
 
-fn row_of(alloc: Global, row: &[u8]) -> Result<Option<Row>, AllocError> {
-    let Ok(row) = str::from_utf8(row) else {
-        return Ok(None);
-    };
-    let Some((trigger, rest)) = row.split_once("\t") else {
-        return Ok(None);
-    };
-    let Some((from, count)) = rest.split_once("\t") else {
-        return Ok(None);
-    };
-    let trigger = spelled(alloc, trigger)?;
-    match (trigger, read_time(from), count.parse::<u32>()) {
-        (Some(trigger), Some(from), Ok(count)) => Ok(Some(Row {
-            trigger,
-            from,
-            count,
-        })),
-        _ => Ok(None),
-    }
-}
-
-// A word, and a text as a JSON text.
-fn told(alloc: Global, word: &str, text: &Text) -> Result<Vec<u8>, AllocError> {
-    let mut line = Vec::from_slice(alloc, word.as_bytes())?;
+// Puts a word, and a text as a JSON text.
+fn push_told(line: &mut Vec<u8>, word: &str, text: &Text) -> Result<(), AllocError> {
+    line.extend_from_slice(word.as_bytes())?;
     line.push(b' ')?;
-    wf_json::quote_to(&mut line, text.as_str())?;
-    Ok(line)
+    wf_json::quote_to(line, text.as_str())
 }
 
 fn push_moment(alloc: Global, line: &mut Vec<u8>, moment: Ticks) -> Result<(), AllocError> {
-    if !line.is_empty() {
-        line.push(b' ')?;
-    }
     match print_time(alloc, moment, None, Fun::FormatDateTime) {
         Ok(Val::Text(text)) => line.extend_from_slice(text.as_str().as_bytes()),
         _ => Err(AllocError),
     }
 }
 
-fn listed(alloc: Global, moments: &[Ticks]) -> Result<Vec<u8>, AllocError> {
+fn push_moments(alloc: Global, line: &mut Vec<u8>, moments: &[Ticks]) -> Result<(), AllocError> {
     if moments.is_empty() {
-        return Vec::from_slice(alloc, b"none");
+        return line.extend_from_slice(b"none");
     }
-    let mut line = Vec::new(alloc);
+    let mut is_first = true;
     for moment in moments {
-        push_moment(alloc, &mut line, *moment)?;
+        if !is_first {
+            line.push(b' ')?;
+        }
+        is_first = false;
+        push_moment(alloc, line, *moment)?;
     }
-    Ok(line)
+    Ok(())
 }
 
-fn answer(alloc: Global, row: &[u8]) -> Result<Vec<u8>, AllocError> {
-    let Some(row) = row_of(alloc, row)? else {
-        return Vec::from_slice(alloc, b"unread");
-    };
-    match Recurrence::read(alloc, &row.trigger) {
-        Ok(recurrence) => listed(alloc, &fires(alloc, &recurrence, row.from, row.count)?),
-        Err(RecurrenceFault::NotRecurrence) => Vec::from_slice(alloc, b"NotRecurrence"),
-        Err(RecurrenceFault::Form { pointer }) => told(alloc, "Form", &pointer),
-        Err(RecurrenceFault::Zone { name }) => told(alloc, "Zone", &name),
+// Puts when the trigger is due.
+fn push_fires(
+    alloc: Global,
+    trigger: &Val,
+    span: Span,
+    line: &mut Vec<u8>,
+) -> Result<(), AllocError> {
+    match Recurrence::read(alloc, trigger) {
+        Ok(recurrence) => {
+            let moments = fires(alloc, &recurrence, span.from, span.count)?;
+            push_moments(alloc, line, moments.as_slice())
+        }
+        Err(RecurrenceFault::NotRecurrence) => line.extend_from_slice(b"NotRecurrence"),
+        Err(RecurrenceFault::Form { pointer }) => push_told(line, "Form", &pointer),
+        Err(RecurrenceFault::Zone { name }) => push_told(line, "Zone", &name),
         Err(RecurrenceFault::Memory) => Err(AllocError),
     }
 }
 
+fn push_answer(alloc: Global, row: &str, line: &mut Vec<u8>) -> Result<(), AllocError> {
+    let Some((trigger, parts)) = row.split_once("\t") else {
+        return line.extend_from_slice(b"unread");
+    };
+    let Some(span) = span_of(parts) else {
+        return line.extend_from_slice(b"unread");
+    };
+    match wf_json::read(alloc, trigger.as_bytes()) {
+        Ok(trigger) => push_fires(alloc, &trigger, span, line),
+        Err(JsonFault::Memory) => Err(AllocError),
+        Err(_) => line.extend_from_slice(b"unread"),
+    }
+}
+
+// The lines that answer the rows.
+fn answers(alloc: Global, rows: &str) -> Result<Vec<u8>, AllocError> {
+    let mut lines = Vec::new(alloc);
+    for row in rows.lines() {
+        if row.starts_with('#') {
+            lines.extend_from_slice(row.as_bytes())?;
+            lines.push(b'\n')?;
+        } else if !row.is_empty() {
+            push_answer(alloc, row, &mut lines)?;
+            lines.push(b'\n')?;
+        }
+    }
+    Ok(lines)
+}
+
 fn main(rt: HostRuntime) -> io::Result<()> {
     let alloc = rt.alloc();
-    let mut rows = Vec::new(alloc);
-    rt.reader().read_to_end(&mut rows)?;
-    let mut out = io::BufWriter::new(alloc, io::writer(&rt))?;
-    for row in rows.split(|byte| *byte == b'\n') {
-        if row.is_empty() {
-            continue;
-        }
-        if row.starts_with(b"#") {
-            out.write_all(row)?;
-        } else {
-            out.write_all(answer(alloc, row)?.as_slice())?;
-        }
-        out.write_all(b"\n")?;
-    }
-    out.flush()
+    let rows = io::read_to_string(alloc, rt.reader())?;
+    io::writer(&rt).write_all(answers(alloc, rows.as_str())?.as_slice())
 }

@@ -12,7 +12,7 @@
 #![tactic(auto)]
 
 use std::alloc::{AllocError, Global};
-use std::io::{self, Read, Write};
+use std::io::{self, Write};
 use wf_json::JsonFault;
 use wf_schema::{Schema, SchemaFault, mismatch};
 use wf_val::{Text, Val};
@@ -26,60 +26,79 @@ fn spelled(alloc: Global, text: &str) -> Result<Option<Val>, AllocError> {
     }
 }
 
-// A word, and a pointer as a JSON text.
-fn told(alloc: Global, word: &str, pointer: &Text) -> Result<Vec<u8>, AllocError> {
-    let mut line = Vec::from_slice(alloc, word.as_bytes())?;
+// Puts a word, and a pointer as a JSON text.
+fn push_told(line: &mut Vec<u8>, word: &str, pointer: &Text) -> Result<(), AllocError> {
+    line.extend_from_slice(word.as_bytes())?;
     line.push(b' ')?;
-    wf_json::quote_to(&mut line, pointer.as_str())?;
-    Ok(line)
+    wf_json::quote_to(line, pointer.as_str())
 }
 
-// How the value stands to the schema.
-fn against(alloc: Global, schema: &Schema, value: &Val) -> Result<Vec<u8>, AllocError> {
+// Puts how the value stands to the schema.
+fn push_against(
+    alloc: Global,
+    schema: &Schema,
+    value: &Val,
+    line: &mut Vec<u8>,
+) -> Result<(), AllocError> {
     match mismatch(alloc, schema, value)? {
-        None => Vec::from_slice(alloc, b"passes"),
-        Some(pointer) => told(alloc, "fails", &pointer),
+        None => line.extend_from_slice(b"passes"),
+        Some(pointer) => push_told(line, "fails", &pointer),
     }
 }
 
-fn judged(alloc: Global, schema: &Val, value: &Val) -> Result<Vec<u8>, AllocError> {
+fn push_judged(
+    alloc: Global,
+    schema: &Val,
+    value: &Val,
+    line: &mut Vec<u8>,
+) -> Result<(), AllocError> {
     match Schema::read(alloc, schema) {
-        Ok(schema) => against(alloc, &schema, value),
-        Err(SchemaFault::Form { pointer }) => told(alloc, "no schema", &pointer),
+        Ok(schema) => push_against(alloc, &schema, value, line),
+        Err(SchemaFault::Form { pointer }) => push_told(line, "no schema", &pointer),
         Err(SchemaFault::Memory) => Err(AllocError),
     }
 }
 
-fn answer(alloc: Global, row: &[u8]) -> Result<Vec<u8>, AllocError> {
-    let Ok(row) = str::from_utf8(row) else {
-        return Vec::from_slice(alloc, b"unread");
-    };
-    let Some((schema, value)) = row.split_once("\t") else {
-        return Vec::from_slice(alloc, b"unread");
-    };
-    let schema = spelled(alloc, schema)?;
-    let value = spelled(alloc, value)?;
-    match (&schema, &value) {
-        (Some(schema), Some(value)) => judged(alloc, schema, value),
-        _ => Vec::from_slice(alloc, b"unread"),
+// Puts the answer for a schema and the text of a value.
+fn push_with(
+    alloc: Global,
+    schema: &Val,
+    value: &str,
+    line: &mut Vec<u8>,
+) -> Result<(), AllocError> {
+    match spelled(alloc, value)? {
+        Some(value) => push_judged(alloc, schema, &value, line),
+        None => line.extend_from_slice(b"unread"),
     }
+}
+
+fn push_answer(alloc: Global, row: &str, line: &mut Vec<u8>) -> Result<(), AllocError> {
+    let Some((schema, value)) = row.split_once("\t") else {
+        return line.extend_from_slice(b"unread");
+    };
+    match spelled(alloc, schema)? {
+        Some(schema) => push_with(alloc, &schema, value, line),
+        None => line.extend_from_slice(b"unread"),
+    }
+}
+
+// The lines that answer the rows.
+fn answers(alloc: Global, rows: &str) -> Result<Vec<u8>, AllocError> {
+    let mut lines = Vec::new(alloc);
+    for row in rows.lines() {
+        if row.starts_with('#') {
+            lines.extend_from_slice(row.as_bytes())?;
+            lines.push(b'\n')?;
+        } else if !row.is_empty() {
+            push_answer(alloc, row, &mut lines)?;
+            lines.push(b'\n')?;
+        }
+    }
+    Ok(lines)
 }
 
 fn main(rt: HostRuntime) -> io::Result<()> {
     let alloc = rt.alloc();
-    let mut rows = Vec::new(alloc);
-    rt.reader().read_to_end(&mut rows)?;
-    let mut out = io::BufWriter::new(alloc, io::writer(&rt))?;
-    for row in rows.split(|byte| *byte == b'\n') {
-        if row.is_empty() {
-            continue;
-        }
-        if row.starts_with(b"#") {
-            out.write_all(row)?;
-        } else {
-            out.write_all(answer(alloc, row)?.as_slice())?;
-        }
-        out.write_all(b"\n")?;
-    }
-    out.flush()
+    let rows = io::read_to_string(alloc, rt.reader())?;
+    io::writer(&rt).write_all(answers(alloc, rows.as_str())?.as_slice())
 }
