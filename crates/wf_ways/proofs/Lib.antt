@@ -1,0 +1,5 @@
+pub mod CallLemmas
+pub mod FailLemmas
+pub mod StandLemmas
+pub mod WayLemmas
+mod WorkedWays

@@ -1,0 +1,5 @@
+use Rattle.wf_ways.proofs.CallLemmas.{called_by_a_row}
+use Rattle.wf_ways.proofs.an_address_is_called_by_a_row.Goals as goal
+
+pub returns : goal.returns
+returns g c = λ read is_skipped fits r d. called_by_a_row read is_skipped fits r d

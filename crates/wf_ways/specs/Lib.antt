@@ -1,0 +1,4 @@
+pub mod Way
+pub mod Along
+pub mod CalledBy
+pub mod FailsBy
