@@ -1,0 +1,3 @@
+pub mod Redoes
+pub mod Sets
+mod WorkedSets

@@ -1,0 +1,2 @@
+pub mod Redoes
+pub mod Sets
