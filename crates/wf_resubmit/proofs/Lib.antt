@@ -1,0 +1,4 @@
+pub mod ChosenLemmas
+pub mod LeastLemmas
+pub mod RefusedLemmas
+mod WorkedRefusals
