@@ -1,0 +1,10 @@
+pub mod ListLemmas
+pub mod PointLemmas
+pub mod LastLemmas
+pub mod SeeingLemmas
+pub mod WriterLemmas
+pub mod AccessLemmas
+pub mod RangeLemmas
+pub mod WholeLemmas
+pub mod ListedLemmas
+mod WriterRows

@@ -1,0 +1,5 @@
+pub mod Writers
+pub mod Tables
+pub mod Last
+pub mod Listed
+pub mod Store

@@ -1,0 +1,94 @@
+//! What a run keeps in place of its table of rows: the last writer of each variable, and the rows in one list.
+//!
+//! A definition means a table of rows (`wf_meant`). Its points look for the value of a variable among all writers that they see, of which
+//! the last counts; a machine keeps only the writer that was the last to end. Here stands that these are the same, for each accepted
+//! definition: writers are in one order with each other and with who reads (`wf_accepted_laws`), so that the laws of a store of `wf_layers`
+//! hold of a store that keeps the last writer's address; and whatever that law says to be the last writer which a point sees has given the
+//! value that the point finds. `specs/Writers` says what is written, `specs/Last` what is read, `specs/Store` what the store tells as a run
+//! goes on.
+//!
+//! That all writers are found which have a row is a law on tables: rows stand at instances, and the row of each loop tells of all
+//! iterations in which there are rows (`specs/Tables`). It holds of the table that a definition means.
+//!
+//! It has no code: each public function has an empty body but for the laws that it calls, and its contract is a law.
+#![tactic(auto)]
+
+ghost use Rattle.std.specs.Prelude.{◌≡◌, ℕ, List, None};
+ghost use Rattle.wf_layers.specs.Address.{Table};
+ghost use Rattle.wf_layers.specs.Variables.{OneOrder};
+ghost use Rattle.wf_def.specs.DefTree.{DefTree};
+ghost use Rattle.wf_reading.specs.Read.{IsRead};
+ghost use Rattle.wf_record.specs.Record.{Row};
+ghost use Rattle.wf_rules.specs.Broken.{broken_of};
+ghost use Rattle.wf_meaning.specs.Environment.{Environment};
+ghost use Rattle.wf_meant.specs.Points.{graph_of};
+ghost use Rattle.wf_meant.specs.Record.{depth_of};
+ghost use Rattle.wf_meant.specs.Source.{source, table_of};
+ghost use Rattle.wf_meant_laws.specs.Last.{AccessesHaveOrder, LastIsReadAtInstances, LastIsReadAtTests};
+ghost use Rattle.wf_meant_laws.specs.Listed.{StandFor};
+ghost use Rattle.wf_meant_laws.specs.Store.{StoresTell};
+ghost use Rattle.wf_meant_laws.specs.Tables.{AreWhole, StandAtInstances};
+ghost use Rattle.wf_meant_laws.specs.Writers.{writes_to};
+
+/// The rows that an accepted definition means stand at instances, each in iterations of which the rows of the loops round it tell.
+pub fn meant_rows_are_whole()
+    ensures { (d : DefTree) → IsRead d → broken_of d ≡ None → (e : Environment) → AreWhole d (table_of d e (depth_of d)) }
+{
+    wf_instance::a_definition_is_an_instance();
+    wf_known_laws::numbers_stand_once();
+    wf_known_laws::numbers_are_had();
+    wf_known_laws::numbers_have_their_ranges();
+}
+
+/// Writers of a variable are in one order with each other, and each is in what reads or writes the variable, in one order with it, or
+/// excludes it: the premises of the laws of a store that keeps the last writer's address.
+pub fn writers_are_in_one_order()
+    ensures writers { (d : DefTree) → IsRead d → broken_of d ≡ None → (e : Environment) (rows : Table Row) → StandAtInstances d rows
+        → (v : List ℕ) → OneOrder (graph_of d) (source d e) (writes_to d v) rows }
+    ensures readers { (d : DefTree) → IsRead d → broken_of d ≡ None → (e : Environment) (rows : Table Row) → StandAtInstances d rows
+        → AccessesHaveOrder d e rows }
+{
+    wf_accepted_laws::variables_are_in_one_order();
+    wf_known_laws::numbers_stand_once();
+    wf_uses::names_are_those_named();
+}
+
+/// The value of a variable at a point is what the last writer that the point sees gave it, or none where it sees no writer.
+pub fn the_last_writer_is_read()
+    ensures at_instances { (d : DefTree) → IsRead d → broken_of d ≡ None → (e : Environment) (rows : Table Row) → AreWhole d rows
+        → LastIsReadAtInstances d e rows }
+    ensures at_tests { (d : DefTree) → IsRead d → broken_of d ≡ None → (e : Environment) (rows : Table Row) → AreWhole d rows
+        → LastIsReadAtTests d e rows }
+{
+    wf_seen_laws::what_is_seen_is_earlier();
+    wf_seen_laws::loops_round_what_is_seen_are_seen();
+    wf_seen_laws::nobody_sees_who_sees_him();
+    wf_loops::what_is_earlier_is_seen();
+    wf_instance::depths_are_how_many_are_before();
+    wf_order::order_is_exact();
+    wf_order::before_is_an_order();
+    wf_order::what_stands_inside_goes_along();
+    wf_known_laws::numbers_stand_once();
+    wf_known_laws::numbers_are_below();
+    wf_known_laws::entries_stay_in_their_graph();
+    wf_refs::read_actions_have_their_numbers();
+}
+
+/// A record's rows are those of the table that it is read from, each once: in the order of the actions' numbers, and of one action in that
+/// of the indexes.
+pub fn listed_rows_stand_for_the_table()
+    ensures { (d : DefTree) → IsRead d → (rows : Table Row) → AreWhole d rows → StandFor d rows }
+{
+    wf_known_laws::numbers_are_below();
+}
+
+/// So a store that each writer which ends overwrites with its own address tells the variable, whatever events came: as an action is decided
+/// that reads or writes it, while such a leaf runs, and as an Until is tested.
+pub fn a_store_of_last_writers_tells_variables()
+    ensures { (d : DefTree) → IsRead d → broken_of d ≡ None → (e : Environment) → StoresTell d e }
+{
+    wf_instance::a_definition_is_an_instance();
+    meant_rows_are_whole();
+    writers_are_in_one_order();
+    the_last_writer_is_read();
+}
