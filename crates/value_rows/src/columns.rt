@@ -8,21 +8,25 @@ use wf_val::Val;
 // The longest column that is written as it is, in bytes.
 const LONGEST: usize = 400;
 
-/// The columns of a value, beside the value before it.
-pub(crate) fn columns(
+/// Puts the columns of a value, beside the value before it.
+pub(crate) fn push_columns(
     alloc: Global,
+    line: &mut Vec<u8>,
     value: &Val,
     last: &Option<Val>,
-) -> Result<Vec<u8>, AllocError> {
-    let size = value.size();
-    let sizes = format!(in alloc; "{}\t{}\t", size.depth, size.weight)?;
-    let mut line = Vec::from_slice(alloc, sizes.as_bytes())?;
-    let fits = if value.fits() { "fits\t" } else { "big\t" };
-    line.extend_from_slice(fits.as_bytes())?;
+) -> Result<(), AllocError> {
+    push_size(alloc, line, value)?;
+    line.extend_from_slice(if value.fits() { b"fits\t" } else { b"big\t" })?;
     line.extend_from_slice(order_sign(value, last).as_bytes())?;
     line.push(b'\t')?;
-    push_texts(alloc, &mut line, value)?;
-    Ok(line)
+    push_texts(alloc, line, value)
+}
+
+// How deep the value nests, and its weight.
+fn push_size(alloc: Global, line: &mut Vec<u8>, value: &Val) -> Result<(), AllocError> {
+    let size = value.size();
+    let sizes = format!(in alloc; "{}\t{}\t", size.depth, size.weight)?;
+    line.extend_from_slice(sizes.as_bytes())
 }
 
 // How the value stands to the one before it.

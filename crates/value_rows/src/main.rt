@@ -19,63 +19,67 @@
 mod columns;
 mod row;
 
-use crate::columns::columns;
+use crate::columns::push_columns;
 use crate::row::bytes_of_row;
 use std::alloc::{AllocError, Global};
 use std::io::{self, Read, Write};
 use wf_json::JsonFault;
 use wf_val::{Text, Val};
 
-// A fault, with its pointer as a JSON text.
-fn fault_line(alloc: Global, word: &str, pointer: &Text) -> Result<Vec<u8>, AllocError> {
-    let mut line = Vec::from_slice(alloc, word.as_bytes())?;
+// Puts a fault, with its pointer as a JSON text.
+fn push_pointed(line: &mut Vec<u8>, word: &str, pointer: &Text) -> Result<(), AllocError> {
+    line.extend_from_slice(word.as_bytes())?;
     line.push(b' ')?;
-    wf_json::quote_to(&mut line, pointer.as_str())?;
-    Ok(line)
+    wf_json::quote_to(line, pointer.as_str())
 }
 
-// The answer to the bytes, and their value where they have one.
-fn answer(
-    alloc: Global,
-    bytes: &[u8],
-    last: &Option<Val>,
-) -> Result<(Vec<u8>, Option<Val>), AllocError> {
-    match wf_json::read(alloc, bytes) {
-        Ok(value) => {
-            let line = columns(alloc, &value, last)?;
-            Ok((line, Some(value)))
-        }
-        Err(JsonFault::NotJson) => Ok((Vec::from_slice(alloc, b"NotJson")?, None)),
-        Err(JsonFault::NotWhole { pointer }) => {
-            Ok((fault_line(alloc, "NotWhole", &pointer)?, None))
-        }
-        Err(JsonFault::TooDeep { pointer }) => Ok((fault_line(alloc, "TooDeep", &pointer)?, None)),
-        Err(JsonFault::Memory) => Err(AllocError),
+fn push_fault(line: &mut Vec<u8>, fault: &JsonFault) -> Result<(), AllocError> {
+    match fault {
+        JsonFault::NotJson => line.extend_from_slice(b"NotJson"),
+        JsonFault::NotWhole { pointer } => push_pointed(line, "NotWhole", pointer),
+        JsonFault::TooDeep { pointer } => push_pointed(line, "TooDeep", pointer),
+        JsonFault::Memory => Err(AllocError),
     }
 }
 
-fn main(rt: HostRuntime) -> io::Result<()> {
-    let alloc = rt.alloc();
-    let mut rows = Vec::new(alloc);
-    rt.reader().read_to_end(&mut rows)?;
-    let mut out = io::BufWriter::new(alloc, io::writer(&rt))?;
+// Puts the answer to a row, whose value is then the last one.
+fn push_answer(
+    alloc: Global,
+    row: &[u8],
+    last: &mut Option<Val>,
+    line: &mut Vec<u8>,
+) -> Result<(), AllocError> {
+    match wf_json::read(alloc, bytes_of_row(alloc, row)?.as_slice()) {
+        Ok(value) => {
+            push_columns(alloc, line, &value, last)?;
+            *last = Some(value);
+            Ok(())
+        }
+        Err(fault) => push_fault(line, &fault),
+    }
+}
+
+// The lines that answer the rows.
+fn answers(alloc: Global, rows: &[u8]) -> Result<Vec<u8>, AllocError> {
+    let mut lines = Vec::new(alloc);
     let mut last = None;
     for row in rows.split(|byte| *byte == b'\n') {
         if row.is_empty() {
             continue;
         }
         if row.starts_with(b"#") {
-            out.write_all(row)?;
-            out.write_all(b"\n")?;
-            continue;
+            lines.extend_from_slice(row)?;
+        } else {
+            push_answer(alloc, row, &mut last, &mut lines)?;
         }
-        let bytes = bytes_of_row(alloc, row)?;
-        let (line, value) = answer(alloc, bytes.as_slice(), &last)?;
-        out.write_all(line.as_slice())?;
-        out.write_all(b"\n")?;
-        if value.is_some() {
-            last = value;
-        }
+        lines.push(b'\n')?;
     }
-    out.flush()
+    Ok(lines)
+}
+
+fn main(rt: HostRuntime) -> io::Result<()> {
+    let alloc = rt.alloc();
+    let mut rows = Vec::new(alloc);
+    rt.reader().read_to_end(&mut rows)?;
+    io::writer(&rt).write_all(answers(alloc, rows.as_slice())?.as_slice())
 }

@@ -1,5 +1,4 @@
 //! The bytes that a row stands for.
-use hex::FromHexError;
 use std::alloc::{AllocError, Global};
 
 // The most bytes that a row may stand for.
@@ -90,11 +89,20 @@ fn nested(
     Ok(Some(bytes))
 }
 
+// The byte that two hexadecimal digits spell.
+fn byte_of(digits: &[u8]) -> Option<u8> {
+    let digits = str::from_utf8(digits).ok()?;
+    u8::from_str_radix(digits, 16).ok()
+}
+
 // The bytes that hexadecimal digits spell.
 fn hexadecimal(alloc: Global, digits: &str) -> Result<Option<Vec<u8>>, AllocError> {
-    match hex::decode(alloc, digits) {
-        Ok(bytes) => Ok(Some(bytes)),
-        Err(FromHexError::OutOfMemory) => Err(AllocError),
-        Err(_) => Ok(None),
+    let mut bytes = Vec::new(alloc);
+    for pair in digits.as_bytes().chunks(2) {
+        match byte_of(pair) {
+            Some(byte) => bytes.push(byte)?,
+            None => return Ok(None),
+        }
     }
+    Ok(Some(bytes))
 }
