@@ -11,17 +11,15 @@
 //! - `tree`: a value whose texts are templates.
 //! - `condition`: a condition.
 //!
-//! The answer is the value in JSON, or `!` and the fault; then a tab and the number of words drawn. A value of more than
+//! The answer is the value in JSON, or `!` and the fault, or `no template`; then a tab and the number of words drawn. A value of more than
 //! 400 bytes is told by their number and their SHA-256 digest.
 //!
 //! The rows are data: a new row is proved by nothing and proves nothing anew. This program is no part of the engine.
 #![tactic(auto)]
 
-mod made;
 mod row;
 mod table;
 
-use crate::made::{cond_of, tree_of};
 use crate::row::text_of;
 use crate::table::Table;
 use sha2::{Digest as _, Sha256};
@@ -30,106 +28,161 @@ use std::io::{self, Write};
 use wf_eval::{eval, eval_cond, eval_tree};
 use wf_expr::{ParseFault, parse_template};
 use wf_json::JsonFault;
+use wf_leaves::{condition_at, data_in};
 use wf_val::{EvalFault, Fields, Val};
 
 // The longest value that is written as it is, in bytes.
 const LONGEST: usize = 400;
 
-// What the row gives in the look; a row that is none, or whose text is no template, is a syntax fault.
-fn given(
+// Puts the text, or its length and digest where that is long.
+fn push_shortened(alloc: Global, line: &mut Vec<u8>, text: &[u8]) -> Result<(), AllocError> {
+    if text.len() <= LONGEST {
+        return line.extend_from_slice(text);
+    }
+    let digest = hex::encode(alloc, Sha256::digest(text))?;
+    let told = format!(in alloc; "{} bytes {digest}", text.len())?;
+    line.extend_from_slice(told.as_bytes())
+}
+
+fn push_value(alloc: Global, line: &mut Vec<u8>, value: &Val) -> Result<(), AllocError> {
+    let text = wf_json::write(alloc, value)?;
+    push_shortened(alloc, line, text.as_slice())
+}
+
+// Puts a fault. Want of memory is no answer.
+fn push_fault(alloc: Global, line: &mut Vec<u8>, fault: &EvalFault) -> Result<(), AllocError> {
+    if fault.is_memory() {
+        return Err(AllocError);
+    }
+    let text = wf_json::fault_text(alloc, fault)?;
+    line.extend_from_slice(b"!")?;
+    line.extend_from_slice(text.as_str().as_bytes())
+}
+
+// Puts how many words were drawn.
+fn push_drawn(alloc: Global, line: &mut Vec<u8>, drawn: u64) -> Result<(), AllocError> {
+    let told = format!(in alloc; "\t{drawn}")?;
+    line.extend_from_slice(told.as_bytes())
+}
+
+fn push_answer(
     alloc: Global,
+    line: &mut Vec<u8>,
+    answer: &Result<Val, EvalFault>,
+) -> Result<(), AllocError> {
+    match answer {
+        Ok(value) => push_value(alloc, line, value),
+        Err(fault) => push_fault(alloc, line, fault),
+    }
+}
+
+fn push_text(
+    alloc: Global,
+    line: &mut Vec<u8>,
+    what: &Val,
+    look: &mut Table,
+) -> Result<(), AllocError> {
+    let text = text_of(alloc, what)?;
+    match parse_template(alloc, &text) {
+        Ok(template) => push_answer(alloc, line, &eval(alloc, &template, look)),
+        Err(ParseFault::Memory) => Err(AllocError),
+        Err(_) => line.extend_from_slice(b"no template"),
+    }
+}
+
+fn push_tree(
+    alloc: Global,
+    line: &mut Vec<u8>,
+    what: &Val,
+    look: &mut Table,
+) -> Result<(), AllocError> {
+    let tree = data_in(alloc, Some(what))?;
+    push_answer(alloc, line, &eval_tree(alloc, &tree, look))
+}
+
+fn push_condition(
+    alloc: Global,
+    line: &mut Vec<u8>,
+    what: &Val,
+    look: &mut Table,
+) -> Result<(), AllocError> {
+    let condition = condition_at(alloc, Some(what))?;
+    match eval_cond(alloc, &condition, look) {
+        Ok(holds) => line.extend_from_slice(if holds { b"true" } else { b"false" }),
+        Err(fault) => push_fault(alloc, line, &fault),
+    }
+}
+
+// Puts the line for a row of this name; a row that is a look replaces the one that there is.
+fn push_named(
+    alloc: Global,
+    line: &mut Vec<u8>,
+    name: &str,
+    what: &Val,
+    look: &mut Table,
+) -> Result<(), AllocError> {
+    look.drawn = 0;
+    match (name, what) {
+        ("look", Val::Obj(data)) => {
+            look.take(alloc, data)?;
+            return line.extend_from_slice(b"look");
+        }
+        ("text", _) => push_text(alloc, line, what, look)?,
+        ("tree", _) => push_tree(alloc, line, what, look)?,
+        ("condition", _) => push_condition(alloc, line, what, look)?,
+        _ => return line.extend_from_slice(b"no row"),
+    }
+    push_drawn(alloc, line, look.drawn)
+}
+
+fn push_object(
+    alloc: Global,
+    line: &mut Vec<u8>,
     row: &Fields,
     look: &mut Table,
-) -> Result<Result<Val, EvalFault>, ParseFault> {
-    let [(name, what)] = row.as_slice() else {
-        return Err(ParseFault::Syntax { at: 0 });
-    };
-    match name.as_str() {
-        "text" => {
-            let text = text_of(alloc, what)?;
-            Ok(eval(alloc, &parse_template(alloc, &text)?, look))
-        }
-        "tree" => Ok(eval_tree(alloc, &tree_of(alloc, what)?, look)),
-        "condition" => Ok(truth(eval_cond(alloc, &cond_of(alloc, what)?, look))),
-        _ => Err(ParseFault::Syntax { at: 0 }),
-    }
-}
-
-// A Boolean as a value.
-fn truth(answer: Result<bool, EvalFault>) -> Result<Val, EvalFault> {
-    match answer {
-        Ok(holds) => Ok(Val::Bool(holds)),
-        Err(fault) => Err(fault),
-    }
-}
-
-// The value in JSON, or its length and digest where that is long; or the fault. Want of memory is no answer.
-fn told(alloc: Global, answer: &Result<Val, EvalFault>) -> Result<String, AllocError> {
-    match answer {
-        Ok(value) => {
-            let text = wf_json::write(alloc, value)?;
-            if text.len() > LONGEST {
-                let digest = hex::encode(alloc, Sha256::digest(&text))?;
-                return format!(in alloc; "{} bytes {digest}", text.len());
-            }
-            String::from_utf8(text).map_err(|_| AllocError)
-        }
-        Err(EvalFault::Memory) => Err(AllocError),
-        Err(fault) => {
-            let text = wf_json::fault_text(alloc, fault)?;
-            format!(in alloc; "!{}", text.as_str())
-        }
-    }
-}
-
-// The line that answers a row in the look.
-fn answer(alloc: Global, row: &Fields, look: &mut Table) -> Result<String, AllocError> {
-    look.drawn = 0;
-    match given(alloc, row, look) {
-        Ok(given) => {
-            let said = told(alloc, &given)?;
-            format!(in alloc; "{said}\t{}", look.drawn)
-        }
-        Err(ParseFault::Memory) => Err(AllocError),
-        Err(_) => String::from_str(alloc, "no row"),
-    }
-}
-
-// The look that a row gives for those behind it, if it gives one.
-fn look_of(alloc: Global, row: &Fields) -> Result<Option<Table>, AllocError> {
+) -> Result<(), AllocError> {
     match row.as_slice() {
-        [(name, Val::Obj(data))] if name.as_str() == "look" => {
-            Ok(Some(Table::of(alloc, data.copy(alloc)?)?))
-        }
-        _ => Ok(None),
+        [(name, what)] => push_named(alloc, line, name.as_str(), what, look),
+        _ => line.extend_from_slice(b"no row"),
     }
 }
 
-// The line for a row; a row that is a look replaces the one that there is.
-fn said(alloc: Global, line: &str, look: &mut Table) -> Result<String, AllocError> {
-    let row = match wf_json::read(alloc, line.as_bytes()) {
-        Ok(Val::Obj(row)) => row,
-        Err(JsonFault::Memory) => return Err(AllocError),
-        _ => return String::from_str(alloc, "no row"),
-    };
-    match look_of(alloc, &row)? {
-        Some(told) => {
-            *look = told;
-            String::from_str(alloc, "look")
-        }
-        None => answer(alloc, &row, look),
+fn push_row(
+    alloc: Global,
+    line: &mut Vec<u8>,
+    row: &str,
+    look: &mut Table,
+) -> Result<(), AllocError> {
+    match wf_json::read(alloc, row.as_bytes()) {
+        Ok(Val::Obj(row)) => push_object(alloc, line, &row, look),
+        Err(JsonFault::Memory) => Err(AllocError),
+        _ => line.extend_from_slice(b"no row"),
     }
+}
+
+// Puts the lines that answer the rows.
+fn push_rows(
+    alloc: Global,
+    lines: &mut Vec<u8>,
+    rows: &str,
+    look: &mut Table,
+) -> Result<(), AllocError> {
+    for row in rows.lines() {
+        push_row(alloc, lines, row, look)?;
+        lines.extend_from_slice(b"\n")?;
+    }
+    Ok(())
+}
+
+fn answers(alloc: Global, rows: &str) -> Result<Vec<u8>, AllocError> {
+    let mut look = Table::empty(alloc);
+    let mut lines = Vec::new(alloc);
+    push_rows(alloc, &mut lines, rows, &mut look)?;
+    Ok(lines)
 }
 
 fn main(rt: HostRuntime) -> io::Result<()> {
     let alloc = rt.alloc();
     let rows = io::read_to_string(alloc, rt.reader())?;
-    let mut look = Table::of(alloc, Fields::new(alloc))?;
-    let mut out = io::BufWriter::new(alloc, io::writer(&rt))?;
-    for row in rows.as_str().lines() {
-        let line = said(alloc, row, &mut look)?;
-        out.write_all(line.as_str().as_bytes())?;
-        out.write_all("\n".as_bytes())?;
-    }
-    out.flush()
+    io::writer(&rt).write_all(answers(alloc, rows.as_str())?.as_slice())
 }

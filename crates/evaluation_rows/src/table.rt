@@ -64,8 +64,8 @@ fn no_trigger(alloc: Global) -> Result<Val, AllocError> {
 }
 
 impl Table {
-    // The look that has nothing.
-    fn empty(alloc: Global) -> Table {
+    /// The look that has nothing.
+    pub(crate) fn empty(alloc: Global) -> Table {
         Table {
             parameters: Fields::new(alloc),
             variables: Fields::new(alloc),
@@ -116,14 +116,12 @@ impl Table {
         Ok(())
     }
 
-    /// The look that the data tells; `own` is there only where the data has it.
-    pub(crate) fn of(alloc: Global, data: Fields) -> Result<Table, AllocError> {
-        let mut data = data;
-        let mut table = Table::empty(alloc);
-        table.take_named(alloc, &mut data)?;
-        table.take_single(alloc, &mut data)?;
-        table.take_trigger(alloc, &mut data)?;
-        Ok(table)
+    /// Becomes the look that the data tells; `own` is there only where the data has it.
+    pub(crate) fn take(&mut self, alloc: Global, data: &Fields) -> Result<(), AllocError> {
+        let mut data = data.copy(alloc)?;
+        self.take_named(alloc, &mut data)?;
+        self.take_single(alloc, &mut data)?;
+        self.take_trigger(alloc, &mut data)
     }
 }
 
