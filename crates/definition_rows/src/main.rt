@@ -31,118 +31,145 @@ use std::io::{self, Write};
 use wf_json::JsonFault;
 use wf_reading::{Def, RuleFault, read_def};
 use wf_rules::check;
-use wf_val::Text;
+use wf_val::{Text, Val};
 
 // The longest outline that is written as it is, in bytes.
 const LONGEST: usize = 400;
 
-// The line of a fault at a place.
-fn refused(alloc: Global, fault: &str, pointer: &Text) -> Result<String, AllocError> {
-    let mut line = String::from_str(alloc, "definition ")?;
-    line.push_str(fault)?;
-    line.push(' ')?;
-    push_quoted(alloc, &mut line, pointer)?;
-    Ok(line)
+// Puts the line of a fault at a place.
+fn push_refused(
+    alloc: Global,
+    lines: &mut String,
+    fault: &str,
+    pointer: &Text,
+) -> Result<(), AllocError> {
+    lines.push_str("definition ")?;
+    lines.push_str(fault)?;
+    lines.push_str(" ")?;
+    push_quoted(alloc, lines, pointer)
 }
 
-// The outline, or its length and digest where it is long.
-fn shortened(alloc: Global, outline: String) -> Result<String, AllocError> {
-    if outline.len() <= LONGEST {
-        return Ok(outline);
+fn push_json_fault(alloc: Global, lines: &mut String, fault: &JsonFault) -> Result<(), AllocError> {
+    match fault {
+        JsonFault::NotJson => lines.push_str("definition NotJson"),
+        JsonFault::NotWhole { pointer } => push_refused(alloc, lines, "NotWhole", pointer),
+        JsonFault::TooDeep { pointer } => push_refused(alloc, lines, "TooDeep", pointer),
+        JsonFault::Memory => Err(AllocError),
     }
-    let digest = hex::encode(alloc, Sha256::digest(outline.as_bytes()))?;
-    format!(in alloc; "{} bytes {digest}", outline.len())
 }
 
-// The three columns of a definition.
-fn columns(alloc: Global, def: &Def) -> Result<String, AllocError> {
-    let mut outline = String::new(alloc);
-    push_outline(alloc, &mut outline, def)?;
-    let outline = shortened(alloc, outline)?;
-    let digest = hex::encode(alloc, def.digest.bytes)?;
-    let names = def.top.names(alloc)?;
-    format!(in alloc; "read {}\t{digest}\t{outline}", names.len())
-}
-
-// The line of a broken rule.
-fn broken(alloc: Global, fault: RuleFault) -> Result<String, AllocError> {
+// Puts the line of a broken rule.
+fn push_broken(alloc: Global, lines: &mut String, fault: &RuleFault) -> Result<(), AllocError> {
     match fault {
         RuleFault::Rule { rule, pointer } => {
             let name = format!(in alloc; "V{rule}")?;
-            refused(alloc, name.as_str(), &pointer)
+            push_refused(alloc, lines, name.as_str(), pointer)
         }
         RuleFault::Memory => Err(AllocError),
     }
 }
 
-// The definition in a file, or the line that refuses it.
-fn definition_in(alloc: Global, file: &str) -> Result<Result<Def, String>, AllocError> {
-    let value = match wf_json::read(alloc, file.as_bytes()) {
-        Ok(value) => value,
-        Err(JsonFault::NotJson) => {
-            return Ok(Err(String::from_str(alloc, "definition NotJson")?))
-        }
-        Err(JsonFault::NotWhole { pointer }) => {
-            return Ok(Err(refused(alloc, "NotWhole", &pointer)?))
-        }
-        Err(JsonFault::TooDeep { pointer }) => {
-            return Ok(Err(refused(alloc, "TooDeep", &pointer)?))
-        }
-        Err(JsonFault::Memory) => return Err(AllocError),
-    };
-    match read_def(alloc, &value) {
-        Ok(def) => Ok(Ok(def)),
-        Err(fault) => Ok(Err(broken(alloc, fault)?)),
-    }
+// Puts a word and how many actions there are.
+fn push_count(alloc: Global, lines: &mut String, word: &str, def: &Def) -> Result<(), AllocError> {
+    let count = def.top.names(alloc)?.len();
+    let told = format!(in alloc; "{word} {count}")?;
+    lines.push_str(told.as_str())
 }
 
-// The answer to a file that is read.
-fn read(alloc: Global, file: &str) -> Result<String, AllocError> {
-    match definition_in(alloc, file)? {
-        Ok(def) => columns(alloc, &def),
-        Err(line) => Ok(line),
-    }
+fn push_digest(alloc: Global, lines: &mut String, def: &Def) -> Result<(), AllocError> {
+    let digest = hex::encode(alloc, def.digest.bytes)?;
+    lines.push_str(digest.as_str())
 }
 
-// The answer to a file that is checked.
-fn checked(alloc: Global, file: &str) -> Result<String, AllocError> {
-    let def = match definition_in(alloc, file)? {
-        Ok(def) => def,
-        Err(line) => return Ok(line),
-    };
+// Puts the outline, or its length and digest where it is long.
+fn push_shortened(alloc: Global, lines: &mut String, outline: &str) -> Result<(), AllocError> {
+    if outline.len() <= LONGEST {
+        return lines.push_str(outline);
+    }
+    let digest = hex::encode(alloc, Sha256::digest(outline.as_bytes()))?;
+    let told = format!(in alloc; "{} bytes {digest}", outline.len())?;
+    lines.push_str(told.as_str())
+}
+
+// Puts the three columns of a definition.
+fn push_columns(alloc: Global, lines: &mut String, def: &Def) -> Result<(), AllocError> {
+    push_count(alloc, lines, "read", def)?;
+    lines.push_str("\t")?;
+    push_digest(alloc, lines, def)?;
+    lines.push_str("\t")?;
+    let mut outline = String::new(alloc);
+    push_outline(alloc, &mut outline, def)?;
+    push_shortened(alloc, lines, outline.as_str())
+}
+
+// Puts the answer to a definition that is checked.
+fn push_checked(alloc: Global, lines: &mut String, def: Def) -> Result<(), AllocError> {
     match check(alloc, def) {
-        Ok(accepted) => {
-            let names = accepted.def.top.names(alloc)?;
-            format!(in alloc; "accepted {}", names.len())
-        }
-        Err(fault) => broken(alloc, fault),
+        Ok(accepted) => push_count(alloc, lines, "accepted", &accepted.def),
+        Err(fault) => push_broken(alloc, lines, &fault),
     }
 }
 
-// The line for a row, or a heading as it is.
-fn line_for(alloc: Global, row: &str) -> Result<String, AllocError> {
-    if row.starts_with('#') {
-        return String::from_str(alloc, row);
+fn push_definition(
+    alloc: Global,
+    lines: &mut String,
+    value: &Val,
+    is_checked: bool,
+) -> Result<(), AllocError> {
+    match read_def(alloc, value) {
+        Ok(def) if is_checked => push_checked(alloc, lines, def),
+        Ok(def) => push_columns(alloc, lines, &def),
+        Err(fault) => push_broken(alloc, lines, &fault),
     }
-    let (is_checked, row) = match row.strip_prefix("check ") {
-        Some(row) => (true, row),
-        None => (false, row),
-    };
+}
+
+fn push_file(
+    alloc: Global,
+    lines: &mut String,
+    file: &str,
+    is_checked: bool,
+) -> Result<(), AllocError> {
+    match wf_json::read(alloc, file.as_bytes()) {
+        Ok(value) => push_definition(alloc, lines, &value, is_checked),
+        Err(fault) => push_json_fault(alloc, lines, &fault),
+    }
+}
+
+fn push_row(
+    alloc: Global,
+    lines: &mut String,
+    row: &str,
+    is_checked: bool,
+) -> Result<(), AllocError> {
     match file_of_row(alloc, row)? {
-        Some(file) if is_checked => checked(alloc, file.as_str()),
-        Some(file) => read(alloc, file.as_str()),
-        None => String::from_str(alloc, "no row"),
+        Some(file) => push_file(alloc, lines, file.as_str(), is_checked),
+        None => lines.push_str("no row"),
     }
+}
+
+// Puts the line for a row, or a heading as it is.
+fn push_answer(alloc: Global, lines: &mut String, row: &str) -> Result<(), AllocError> {
+    if row.starts_with('#') {
+        return lines.push_str(row);
+    }
+    match row.strip_prefix("check ") {
+        Some(row) => push_row(alloc, lines, row, true),
+        None => push_row(alloc, lines, row, false),
+    }
+}
+
+// The lines that answer the rows.
+fn answers(alloc: Global, rows: &str) -> Result<String, AllocError> {
+    let mut lines = String::new(alloc);
+    for row in rows.lines() {
+        push_answer(alloc, &mut lines, row)?;
+        lines.push_str("\n")?;
+    }
+    Ok(lines)
 }
 
 fn main(rt: HostRuntime) -> io::Result<()> {
     let alloc = rt.alloc();
     let rows = io::read_to_string(alloc, rt.reader())?;
-    let mut out = io::BufWriter::new(alloc, io::writer(&rt))?;
-    for row in rows.as_str().lines() {
-        let line = line_for(alloc, row)?;
-        out.write_all(line.as_str().as_bytes())?;
-        out.write_all("\n".as_bytes())?;
-    }
-    out.flush()
+    io::writer(&rt).write_all(answers(alloc, rows.as_str())?.as_bytes())
 }
