@@ -13,55 +13,52 @@
 #![tactic(auto)]
 
 use std::alloc::{AllocError, Global};
-use std::io::{self, Read, Write};
+use std::io::{self, Write};
 use wf_json::JsonFault;
 use wf_record::record_line;
 use wf_record_form::{RecordFault, of_val};
-use wf_val::{Text, Val};
+use wf_val::Val;
 
-// A line with a pointer as a JSON text.
-fn form_line(alloc: Global, pointer: &Text) -> Result<Vec<u8>, AllocError> {
-    let mut line = Vec::from_slice(alloc, b"Form ")?;
-    wf_json::quote_to(&mut line, pointer.as_str())?;
-    line.push(b'\n')?;
-    Ok(line)
-}
-
-// The line of the record that a value is, or of why it is none.
-fn read_back(alloc: Global, value: &Val) -> Result<Vec<u8>, AllocError> {
+// Puts the line of the record that a value is, or of why it is none.
+fn push_read_back(alloc: Global, value: &Val, line: &mut Vec<u8>) -> Result<(), AllocError> {
     match of_val(alloc, value) {
-        Ok(record) => record_line(alloc, &record),
+        Ok(record) => line.extend_from_slice(record_line(alloc, &record)?.as_slice()),
         Err(RecordFault::Version { number }) => {
-            Ok(format!(in alloc; "Version {number}\n")?.into_bytes())
+            line.extend_from_slice(format!(in alloc; "Version {number}\n")?.as_bytes())
         }
-        Err(RecordFault::Form { pointer }) => form_line(alloc, &pointer),
+        Err(RecordFault::Form { pointer }) => {
+            line.extend_from_slice(b"Form ")?;
+            wf_json::quote_to(line, pointer.as_str())?;
+            line.extend_from_slice(b"\n")
+        }
         Err(RecordFault::Memory) => Err(AllocError),
     }
 }
 
-fn answer(alloc: Global, row: &[u8]) -> Result<Vec<u8>, AllocError> {
-    match wf_json::read(alloc, row) {
-        Ok(value) => read_back(alloc, &value),
+fn push_answer(alloc: Global, row: &str, line: &mut Vec<u8>) -> Result<(), AllocError> {
+    match wf_json::read(alloc, row.as_bytes()) {
+        Ok(value) => push_read_back(alloc, &value, line),
         Err(JsonFault::Memory) => Err(AllocError),
-        Err(_) => Vec::from_slice(alloc, b"unread\n"),
+        Err(_) => line.extend_from_slice(b"unread\n"),
     }
+}
+
+// The lines that answer the rows.
+fn answers(alloc: Global, rows: &str) -> Result<Vec<u8>, AllocError> {
+    let mut lines = Vec::new(alloc);
+    for row in rows.lines() {
+        if row.starts_with('#') {
+            lines.extend_from_slice(row.as_bytes())?;
+            lines.push(b'\n')?;
+        } else if !row.is_empty() {
+            push_answer(alloc, row, &mut lines)?;
+        }
+    }
+    Ok(lines)
 }
 
 fn main(rt: HostRuntime) -> io::Result<()> {
     let alloc = rt.alloc();
-    let mut rows = Vec::new(alloc);
-    rt.reader().read_to_end(&mut rows)?;
-    let mut out = io::BufWriter::new(alloc, io::writer(&rt))?;
-    for row in rows.split(|byte| *byte == b'\n') {
-        if row.is_empty() {
-            continue;
-        }
-        if row.starts_with(b"#") {
-            out.write_all(row)?;
-            out.write_all(b"\n")?;
-        } else {
-            out.write_all(answer(alloc, row)?.as_slice())?;
-        }
-    }
-    out.flush()
+    let rows = io::read_to_string(alloc, rt.reader())?;
+    io::writer(&rt).write_all(answers(alloc, rows.as_str())?.as_slice())
 }

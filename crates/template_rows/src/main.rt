@@ -24,7 +24,7 @@ use crate::row::text_of_row;
 use crate::show::{fault_shown, shown};
 use sha2::{Digest as _, Sha256};
 use std::alloc::{AllocError, Global};
-use std::io::ErrorKind;
+use std::io::{ErrorKind, Write};
 use std::{env, io};
 use wf_expr::{ParseFault, parse_template};
 use wf_json::quoted;
@@ -66,42 +66,69 @@ fn spelled(alloc: Global, text: &Text) -> Result<String, AllocError> {
     }
 }
 
-// The four columns of a template.
-fn columns(alloc: Global, template: &Template) -> Result<String, AllocError> {
-    let tree = shown(alloc, template)?;
-    let mut line = String::new(alloc);
-    push_column(alloc, &mut line, &tree)?;
-    let copy = shown(alloc, &template.copy(alloc)?)?;
-    push_same(alloc, &mut line, &tree, &copy)?;
-    let text = printed(alloc, template)?;
-    line.push('\t')?;
-    push_column(alloc, &mut line, quoted(alloc, text.as_str())?.as_str())?;
-    push_same(alloc, &mut line, &tree, &spelled(alloc, &text)?)?;
-    Ok(line)
+fn shown_copy(alloc: Global, template: &Template) -> Result<String, AllocError> {
+    let copy = template.copy(alloc)?;
+    shown(alloc, &copy)
 }
 
-// The answer to a row, or a heading as it is.
-fn answer(alloc: Global, line: &str) -> Result<String, AllocError> {
-    if line.starts_with('#') {
-        return String::from_str(alloc, line);
+fn push_copy(
+    alloc: Global,
+    line: &mut String,
+    template: &Template,
+    tree: &str,
+) -> Result<(), AllocError> {
+    let copy = shown_copy(alloc, template)?;
+    push_same(alloc, line, tree, copy.as_str())
+}
+
+fn push_text(alloc: Global, line: &mut String, text: &Text) -> Result<(), AllocError> {
+    let text = quoted(alloc, text.as_str())?;
+    line.push_str("\t")?;
+    push_column(alloc, line, text.as_str())
+}
+
+fn push_again(alloc: Global, line: &mut String, text: &Text, tree: &str) -> Result<(), AllocError> {
+    let again = spelled(alloc, text)?;
+    push_same(alloc, line, tree, again.as_str())
+}
+
+// Puts the four columns of a template.
+fn push_columns(alloc: Global, line: &mut String, template: &Template) -> Result<(), AllocError> {
+    let tree = shown(alloc, template)?;
+    push_column(alloc, line, tree.as_str())?;
+    push_copy(alloc, line, template, tree.as_str())?;
+    let text = printed(alloc, template)?;
+    push_text(alloc, line, &text)?;
+    push_again(alloc, line, &text, tree.as_str())
+}
+
+fn push_fault(alloc: Global, line: &mut String, fault: &ParseFault) -> Result<(), AllocError> {
+    let fault = fault_shown(alloc, fault)?;
+    line.push_str(fault.as_str())
+}
+
+// Puts the answer to a row, or a heading as it is.
+fn push_answer(alloc: Global, line: &mut String, row: &str) -> Result<(), AllocError> {
+    if row.starts_with('#') {
+        return line.push_str(row);
     }
-    let Some(text) = text_of_row(alloc, line)? else {
-        return String::from_str(alloc, "no row");
+    let Some(text) = text_of_row(alloc, row)? else {
+        return line.push_str("no row");
     };
     match parse_template(alloc, &text) {
-        Ok(template) => columns(alloc, &template),
-        Err(fault) => fault_shown(alloc, &fault),
+        Ok(template) => push_columns(alloc, line, &template),
+        Err(fault) => push_fault(alloc, line, &fault),
     }
 }
 
-fn answer_rows(rt: &HostRuntime) -> io::Result<()> {
-    let alloc = rt.alloc();
-    let rows = io::read_to_string(alloc, rt.reader())?;
-    for line in rows.lines() {
-        let said = answer(alloc, line)?;
-        println!(rt; "{said}")?;
+// The lines that answer the rows.
+fn answers(alloc: Global, rows: &str) -> Result<String, AllocError> {
+    let mut lines = String::new(alloc);
+    for row in rows.lines() {
+        push_answer(alloc, &mut lines, row)?;
+        lines.push_str("\n")?;
     }
-    Ok(())
+    Ok(lines)
 }
 
 // What kind of template the text spells, in a word.
@@ -115,18 +142,30 @@ fn kind_of(alloc: Global, text: &Text) -> Result<String, AllocError> {
     }
 }
 
-fn main(rt: HostRuntime) -> io::Result<()> {
+fn answer_rows(rt: &HostRuntime) -> io::Result<()> {
     let alloc = rt.alloc();
-    let Some(word) = env::args(&rt)?.nth(1) else {
-        return answer_rows(&rt);
-    };
+    let rows = io::read_to_string(alloc, rt.reader())?;
+    let lines = answers(alloc, rows.as_str())?;
+    io::writer(rt).write_all(lines.as_bytes())
+}
+
+// Answers the whole input as one text.
+fn answer_text(rt: &HostRuntime, word: &str) -> io::Result<()> {
+    let alloc = rt.alloc();
     let text = io::read_to_string(alloc, rt.reader())?;
-    match word.as_str() {
+    match word {
         "read" => println!(rt; "bytes {}", text.len()),
         "parse" => {
             let said = kind_of(alloc, &Text::from_string(text))?;
             println!(rt; "{said}")
         }
         _ => Err(io::Error::from(ErrorKind::InvalidInput)),
+    }
+}
+
+fn main(rt: HostRuntime) -> io::Result<()> {
+    match env::args(&rt)?.nth(1) {
+        Some(word) => answer_text(&rt, word.as_str()),
+        None => answer_rows(&rt),
     }
 }
