@@ -8,9 +8,17 @@ use wf_val::{EvalFault, Val};
 // The longest value that is written as it is, in bytes.
 const LONGEST: usize = 400;
 
-/// Puts a tab behind the line, unless it is empty, and then the words.
+// Whether nothing stands on the last line yet.
+fn is_at_start(lines: &[u8]) -> bool {
+    match lines.last() {
+        Some(byte) => *byte == b'\n',
+        None => true,
+    }
+}
+
+/// Puts a tab behind the last line, unless it is empty, and then the words.
 pub(crate) fn push_word(line: &mut Vec<u8>, word: &str) -> Result<(), AllocError> {
-    if !line.is_empty() {
+    if !is_at_start(line) {
         line.push(b'\t')?;
     }
     line.extend_from_slice(word.as_bytes())

@@ -36,7 +36,7 @@ mod table;
 use crate::line::{push_attempts, push_fault, push_number, push_value, push_word};
 use crate::table::Table;
 use std::alloc::{AllocError, Global};
-use std::io::{self, Read, Write};
+use std::io::{self, Write};
 use wf_answers::{Inputs, InputsFault, read_inputs};
 use wf_connect::{Tried, attempt, try_of};
 use wf_data::run_status;
@@ -145,42 +145,60 @@ fn gives(alloc: Global, kind: &Kind, done: &Done) -> Result<Val, AllocError> {
     }
 }
 
-// The tracked properties, with the action's own view in the look.
-fn tracked_of(
+// Puts the tracked properties, with the action's own view in the look.
+fn push_tracked(
     alloc: Global,
+    line: &mut Vec<u8>,
     action: &Action,
     done: &Done,
     look: &mut Table,
-) -> Result<Val, AllocError> {
+) -> Result<(), AllocError> {
     look.own = Some(view(alloc, &action.name, done)?);
     let properties = tracked(alloc, action.tracked.as_slice(), look)?;
     look.own = None;
-    Ok(properties)
+    push_value(alloc, line, "", &properties)
 }
 
-fn leaf_line(
+fn push_given(
     alloc: Global,
+    line: &mut Vec<u8>,
+    kind: &Kind,
+    done: &Done,
+) -> Result<(), AllocError> {
+    if done.status != Status::Succeeded {
+        return push_word(line, "{}");
+    }
+    let values = gives(alloc, kind, done)?;
+    push_value(alloc, line, "", &values)
+}
+
+// Puts what the action came to.
+fn push_done(
+    alloc: Global,
+    line: &mut Vec<u8>,
+    done: &Done,
+    attempts: &Tries,
+) -> Result<(), AllocError> {
+    push_word(line, done.status.name())?;
+    push_word(line, done.code.as_str())?;
+    push_value(alloc, line, "", &done.inputs)?;
+    push_value(alloc, line, "", &done.outputs)?;
+    push_value(alloc, line, "", &done.error)?;
+    push_attempts(alloc, line, attempts)
+}
+
+fn push_leaf(
+    alloc: Global,
+    line: &mut Vec<u8>,
     action: &Action,
     inputs: &Inputs,
     look: &mut Table,
-) -> Result<Vec<u8>, AllocError> {
+) -> Result<(), AllocError> {
     let mut attempts = Tries::new(alloc);
     let done = done_by(alloc, action, inputs, look, &mut attempts)?;
-    let properties = tracked_of(alloc, action, &done, look)?;
-    let mut line = Vec::new(alloc);
-    push_word(&mut line, done.status.name())?;
-    push_word(&mut line, done.code.as_str())?;
-    push_value(alloc, &mut line, "", &done.inputs)?;
-    push_value(alloc, &mut line, "", &done.outputs)?;
-    push_value(alloc, &mut line, "", &done.error)?;
-    push_attempts(alloc, &mut line, &attempts)?;
-    push_value(alloc, &mut line, "", &properties)?;
-    if done.status == Status::Succeeded {
-        push_value(alloc, &mut line, "", &gives(alloc, &action.kind, &done)?)?;
-    } else {
-        push_word(&mut line, "{}")?;
-    }
-    Ok(line)
+    push_done(alloc, line, &done, &attempts)?;
+    push_tracked(alloc, line, action, &done, look)?;
+    push_given(alloc, line, &action.kind, &done)
 }
 
 // ---- containers
@@ -213,16 +231,29 @@ fn push_test(
     push_word(line, if ends(&verdict) { "ends" } else { "goes on" })
 }
 
-fn container_line(alloc: Global, kind: &Kind, look: &mut Table) -> Result<Vec<u8>, AllocError> {
+fn push_opened(
+    alloc: Global,
+    line: &mut Vec<u8>,
+    kind: &Kind,
+    look: &mut Table,
+) -> Result<(), AllocError> {
     let decision = open(alloc, kind, look)?;
-    let mut line = Vec::new(alloc);
-    push_decision(alloc, &mut line, &decision)?;
-    push_number(alloc, &mut line, taken(&decision))?;
-    push_number(alloc, &mut line, items_of(&decision))?;
-    if let Kind::Until { test, .. } = kind {
-        push_test(alloc, &mut line, test, look)?;
+    push_decision(alloc, line, &decision)?;
+    push_number(alloc, line, taken(&decision))?;
+    push_number(alloc, line, items_of(&decision))
+}
+
+fn push_container(
+    alloc: Global,
+    line: &mut Vec<u8>,
+    kind: &Kind,
+    look: &mut Table,
+) -> Result<(), AllocError> {
+    push_opened(alloc, line, kind, look)?;
+    match kind {
+        Kind::Until { test, .. } => push_test(alloc, line, test, look),
+        _ => Ok(()),
     }
-    Ok(line)
 }
 
 fn is_container(kind: &Kind) -> bool {
@@ -238,113 +269,164 @@ fn is_container(kind: &Kind) -> bool {
 
 // ---- rows
 
+fn put(alloc: Global, fields: &mut Fields, name: &str, value: Val) -> Result<(), AllocError> {
+    let name = Text::of(alloc, name)?;
+    fields.put(name, value)?;
+    Ok(())
+}
+
+fn put_text(alloc: Global, fields: &mut Fields, name: &str, text: &str) -> Result<(), AllocError> {
+    put(alloc, fields, name, Val::Text(Text::of(alloc, text)?))
+}
+
+// An object of one member.
+fn object_of(alloc: Global, name: &str, value: Val) -> Result<Val, AllocError> {
+    let mut fields = Fields::new(alloc);
+    put(alloc, &mut fields, name, value)?;
+    Ok(Val::Obj(fields))
+}
+
 // A definition of this one action.
 fn definition_of(alloc: Global, action: &Val) -> Result<Val, AllocError> {
-    let mut actions = Fields::new(alloc);
-    actions.put(Text::of(alloc, "A")?, action.copy(alloc)?)?;
-    let mut definition = Fields::new(alloc);
-    definition.put(Text::of(alloc, "actions")?, Val::Obj(actions))?;
-    Ok(Val::Obj(definition))
+    let actions = object_of(alloc, "A", action.copy(alloc)?)?;
+    object_of(alloc, "actions", actions)
+}
+
+fn answers_of(alloc: Global, answers: Option<&Val>) -> Result<Val, AllocError> {
+    match answers {
+        Some(answers) => answers.copy(alloc),
+        None => Ok(Val::List(Vals::new(alloc))),
+    }
 }
 
 // Inputs with these answers, or with none.
 fn inputs_of(alloc: Global, answers: Option<&Val>) -> Result<Val, AllocError> {
     let mut inputs = Fields::new(alloc);
-    let answers = match answers {
-        Some(answers) => answers.copy(alloc)?,
-        None => Val::List(Vals::new(alloc)),
-    };
-    inputs.put(Text::of(alloc, "answers")?, answers)?;
-    inputs.put(
-        Text::of(alloc, "moment")?,
-        Val::Text(Text::of(alloc, "2024-05-01T12:00:00Z")?),
-    )?;
-    inputs.put(Text::of(alloc, "run")?, Val::Text(Text::of(alloc, "r")?))?;
+    put(alloc, &mut inputs, "answers", answers_of(alloc, answers)?)?;
+    put_text(alloc, &mut inputs, "moment", "2024-05-01T12:00:00Z")?;
+    put_text(alloc, &mut inputs, "run", "r")?;
     Ok(Val::Obj(inputs))
 }
 
-fn no_row(alloc: Global) -> Result<Vec<u8>, AllocError> {
-    Vec::from_slice(alloc, b"no row")
-}
-
-// The line that refuses a definition.
-fn broken(alloc: Global, fault: RuleFault) -> Result<Vec<u8>, AllocError> {
+// Puts the line that refuses a definition.
+fn push_broken(alloc: Global, line: &mut Vec<u8>, fault: &RuleFault) -> Result<(), AllocError> {
     match fault {
         RuleFault::Rule { rule, pointer } => {
             let told = format!(in alloc; "definition V{rule} ")?;
-            let mut line = Vec::from_slice(alloc, told.as_bytes())?;
-            wf_json::quote_to(&mut line, pointer.as_str())?;
-            Ok(line)
+            line.extend_from_slice(told.as_bytes())?;
+            wf_json::quote_to(line, pointer.as_str())
         }
         RuleFault::Memory => Err(AllocError),
     }
 }
 
-fn action_line(
+fn push_action(
     alloc: Global,
+    line: &mut Vec<u8>,
+    action: Option<&Action>,
+    inputs: &Inputs,
+    look: &mut Table,
+) -> Result<(), AllocError> {
+    look.drawn = 0;
+    match action {
+        Some(action) if is_container(&action.kind) => {
+            push_container(alloc, line, &action.kind, look)
+        }
+        Some(action) => push_leaf(alloc, line, action, inputs, look),
+        None => push_word(line, "no row"),
+    }
+}
+
+// Puts the line for an action with these inputs.
+fn push_defined(
+    alloc: Global,
+    line: &mut Vec<u8>,
     action: &Val,
     inputs: &Inputs,
     look: &mut Table,
-) -> Result<Vec<u8>, AllocError> {
-    let def = match read_def(alloc, &definition_of(alloc, action)?) {
-        Ok(def) => def,
-        Err(fault) => return broken(alloc, fault),
-    };
-    look.drawn = 0;
-    match def.top.actions.at(0) {
-        Some(action) if is_container(&action.kind) => container_line(alloc, &action.kind, look),
-        Some(action) => leaf_line(alloc, action, inputs, look),
-        None => no_row(alloc),
+) -> Result<(), AllocError> {
+    let definition = definition_of(alloc, action)?;
+    match read_def(alloc, &definition) {
+        Ok(def) => push_action(alloc, line, def.top.actions.at(0), inputs, look),
+        Err(fault) => push_broken(alloc, line, &fault),
     }
 }
 
-// The line for an action with the answers that it has.
-fn answered(
+// Puts the line for an action with the answers that it has.
+fn push_answered(
     alloc: Global,
+    line: &mut Vec<u8>,
     action: &Val,
     answers: Option<&Val>,
     look: &mut Table,
-) -> Result<Vec<u8>, AllocError> {
-    match read_inputs(alloc, &inputs_of(alloc, answers)?) {
-        Ok(inputs) => action_line(alloc, action, &inputs, look),
+) -> Result<(), AllocError> {
+    let inputs = inputs_of(alloc, answers)?;
+    match read_inputs(alloc, &inputs) {
+        Ok(inputs) => push_defined(alloc, line, action, &inputs, look),
         Err(InputsFault::Memory) => Err(AllocError),
-        Err(_) => no_row(alloc),
+        Err(_) => push_word(line, "no row"),
     }
 }
 
-// The line for a row; a row that is a look replaces the one that there is.
-fn row_line(alloc: Global, row: &[u8], look: &mut Table) -> Result<Vec<u8>, AllocError> {
-    let row = match wf_json::read(alloc, row) {
-        Ok(row) => row,
-        Err(JsonFault::Memory) => return Err(AllocError),
-        Err(_) => return no_row(alloc),
-    };
+// Puts the line for what a row says.
+fn push_said(
+    alloc: Global,
+    line: &mut Vec<u8>,
+    row: &Val,
+    look: &mut Table,
+) -> Result<(), AllocError> {
     if let Some(Val::Obj(data)) = row.member("look") {
-        *look = Table::of(alloc, data.copy(alloc)?)?;
-        return Vec::from_slice(alloc, b"look");
+        look.take(alloc, data)?;
+        return push_word(line, "look");
     }
     match row.member("action") {
-        Some(action) => answered(alloc, action, row.member("answers"), look),
-        None => no_row(alloc),
+        Some(action) => push_answered(alloc, line, action, row.member("answers"), look),
+        None => push_word(line, "no row"),
     }
+}
+
+// Puts the line for a row; a row that is a look replaces the one that there is.
+fn push_answer(
+    alloc: Global,
+    line: &mut Vec<u8>,
+    row: &str,
+    look: &mut Table,
+) -> Result<(), AllocError> {
+    match wf_json::read(alloc, row.as_bytes()) {
+        Ok(row) => push_said(alloc, line, &row, look),
+        Err(JsonFault::Memory) => Err(AllocError),
+        Err(_) => push_word(line, "no row"),
+    }
+}
+
+// Puts the lines that answer the rows.
+fn push_answers(
+    alloc: Global,
+    lines: &mut Vec<u8>,
+    rows: &str,
+    look: &mut Table,
+) -> Result<(), AllocError> {
+    for row in rows.lines() {
+        if row.starts_with('#') {
+            lines.extend_from_slice(row.as_bytes())?;
+            lines.push(b'\n')?;
+        } else if !row.is_empty() {
+            push_answer(alloc, lines, row, look)?;
+            lines.push(b'\n')?;
+        }
+    }
+    Ok(())
+}
+
+fn answers(alloc: Global, rows: &str) -> Result<Vec<u8>, AllocError> {
+    let mut look = Table::empty(alloc)?;
+    let mut lines = Vec::new(alloc);
+    push_answers(alloc, &mut lines, rows, &mut look)?;
+    Ok(lines)
 }
 
 fn main(rt: HostRuntime) -> io::Result<()> {
     let alloc = rt.alloc();
-    let mut rows = Vec::new(alloc);
-    rt.reader().read_to_end(&mut rows)?;
-    let mut look = Table::of(alloc, Fields::new(alloc))?;
-    let mut out = io::BufWriter::new(alloc, io::writer(&rt))?;
-    for row in rows.split(|byte| *byte == b'\n') {
-        if row.is_empty() {
-            continue;
-        }
-        if row.starts_with(b"#") {
-            out.write_all(row)?;
-        } else {
-            out.write_all(row_line(alloc, row, &mut look)?.as_slice())?;
-        }
-        out.write_all(b"\n")?;
-    }
-    out.flush()
+    let rows = io::read_to_string(alloc, rt.reader())?;
+    io::writer(&rt).write_all(answers(alloc, rows.as_str())?.as_slice())
 }

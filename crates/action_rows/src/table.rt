@@ -47,21 +47,47 @@ fn number_in(alloc: Global, data: &mut Fields, name: &str) -> Result<i64, AllocE
 }
 
 impl Table {
-    /// The look that the data tell.
-    pub(crate) fn of(alloc: Global, data: Fields) -> Result<Table, AllocError> {
-        let mut data = data;
+    /// The look that has nothing.
+    pub(crate) fn empty(alloc: Global) -> Result<Table, AllocError> {
+        let run = Text::of(alloc, "r")?;
         Ok(Table {
-            parameters: object_in(alloc, &mut data, "parameters")?,
-            variables: object_in(alloc, &mut data, "variables")?,
-            views: object_in(alloc, &mut data, "views")?,
-            results: object_in(alloc, &mut data, "results")?,
-            items: list_in(alloc, &mut data, "items")?,
-            trigger: Val::Obj(object_in(alloc, &mut data, "trigger")?),
+            parameters: Fields::new(alloc),
+            variables: Fields::new(alloc),
+            views: Fields::new(alloc),
+            results: Fields::new(alloc),
+            items: Vals::new(alloc),
+            trigger: Val::Obj(Fields::new(alloc)),
             own: None,
-            moment: number_in(alloc, &mut data, "moment")?,
-            run: Text::of(alloc, "r")?,
+            moment: 0,
+            run,
             drawn: 0,
         })
+    }
+
+    /// Becomes the look that the data tell.
+    pub(crate) fn take(&mut self, alloc: Global, data: &Fields) -> Result<(), AllocError> {
+        let mut data = data.copy(alloc)?;
+        self.take_named(alloc, &mut data)?;
+        self.take_single(alloc, &mut data)
+    }
+
+    // Takes what is found by names.
+    fn take_named(&mut self, alloc: Global, data: &mut Fields) -> Result<(), AllocError> {
+        self.parameters = object_in(alloc, data, "parameters")?;
+        self.variables = object_in(alloc, data, "variables")?;
+        self.views = object_in(alloc, data, "views")?;
+        self.results = object_in(alloc, data, "results")?;
+        Ok(())
+    }
+
+    // Takes what is there once.
+    fn take_single(&mut self, alloc: Global, data: &mut Fields) -> Result<(), AllocError> {
+        self.items = list_in(alloc, data, "items")?;
+        self.trigger = Val::Obj(object_in(alloc, data, "trigger")?);
+        self.own = None;
+        self.moment = number_in(alloc, data, "moment")?;
+        self.drawn = 0;
+        Ok(())
     }
 }
 
