@@ -64,40 +64,48 @@ fn given(alloc: Global, call: &Call) -> Option<Result<Val, EvalFault>> {
     urls::given(alloc, call.function, &call.args)
 }
 
-// `!` and the fault. Want of memory is no answer.
-fn marked(alloc: Global, fault: &EvalFault) -> Result<Vec<u8>, AllocError> {
+// Puts `!` and the fault. Want of memory is no answer.
+fn push_fault(alloc: Global, line: &mut Vec<u8>, fault: &EvalFault) -> Result<(), AllocError> {
     if fault.is_memory() {
         return Err(AllocError);
     }
-    let mut line = Vec::from_slice(alloc, "!".as_bytes())?;
-    line.extend_from_slice(wf_json::fault_text(alloc, fault)?.as_str().as_bytes())?;
-    Ok(line)
+    let text = wf_json::fault_text(alloc, fault)?;
+    line.extend_from_slice(b"!")?;
+    line.extend_from_slice(text.as_str().as_bytes())
 }
 
-// The line that answers a row, without its end.
-fn answer(alloc: Global, row: &str) -> Result<Vec<u8>, AllocError> {
+// Puts what the call gives.
+fn push_given(alloc: Global, line: &mut Vec<u8>, call: &Call) -> Result<(), AllocError> {
+    match given(alloc, call) {
+        Some(Ok(value)) => line.extend_from_slice(wf_json::write(alloc, &value)?.as_slice()),
+        Some(Err(fault)) => push_fault(alloc, line, &fault),
+        None => line.extend_from_slice(b"no such call"),
+    }
+}
+
+// Puts the line that answers a row, without its end.
+fn push_answer(alloc: Global, line: &mut Vec<u8>, row: &str) -> Result<(), AllocError> {
     if row.starts_with('#') {
-        return Vec::from_slice(alloc, row.as_bytes());
+        return line.extend_from_slice(row.as_bytes());
     }
-    let call = match asked(alloc, row)? {
-        Some(call) => call,
-        None => return Vec::from_slice(alloc, "no such call".as_bytes()),
-    };
-    match given(alloc, &call) {
-        Some(Ok(value)) => wf_json::write(alloc, &value),
-        Some(Err(fault)) => marked(alloc, &fault),
-        None => Vec::from_slice(alloc, "no such call".as_bytes()),
+    match asked(alloc, row)? {
+        Some(call) => push_given(alloc, line, &call),
+        None => line.extend_from_slice(b"no such call"),
     }
+}
+
+// The lines that answer the rows.
+fn answers(alloc: Global, rows: &str) -> Result<Vec<u8>, AllocError> {
+    let mut lines = Vec::new(alloc);
+    for row in rows.lines() {
+        push_answer(alloc, &mut lines, row)?;
+        lines.push(b'\n')?;
+    }
+    Ok(lines)
 }
 
 fn main(rt: HostRuntime) -> io::Result<()> {
     let alloc = rt.alloc();
     let rows = io::read_to_string(alloc, rt.reader())?;
-    let mut out = io::BufWriter::new(alloc, io::writer(&rt))?;
-    for row in rows.as_str().lines() {
-        let line = answer(alloc, row)?;
-        out.write_all(line.as_slice())?;
-        out.write_all("\n".as_bytes())?;
-    }
-    out.flush()
+    io::writer(&rt).write_all(answers(alloc, rows.as_str())?.as_slice())
 }
