@@ -4,7 +4,7 @@ use Rattle.std.specs.declared.cmp.Ordering.TheVariants.{Less, Equal, Greater}
 use Rattle.wf_layers.specs.Address.{address}
 use Rattle.wf_asks.specs.Instances.{address_of, instance_cmp, rows_in}
 use Rattle.wf_asks.specs.declared.instance.Instance.{Instance}
-use Rattle.wf_asks.specs.declared.rows.RowAt.{RowAt}
+use Rattle.wf_asks.specs.declared.known.RowAt.{RowAt}
 
 abbrev at : ℕ → List ℕ → Instance
 at n i = record { action = n; at = i }

@@ -8,7 +8,7 @@ use Rattle.std.proofs.lemmas.Cmp.{on_total, nat_list_cmp_total}
 use Rattle.wf_lists.specs.KeyOrder.{find_key}
 use Rattle.wf_layers.specs.Address.{Address, Table, address}
 use Rattle.wf_asks.specs.declared.instance.Instance.{Instance}
-use Rattle.wf_asks.specs.declared.rows.RowAt.{RowAt}
+use Rattle.wf_asks.specs.declared.known.RowAt.{RowAt}
 
 -- the list by which an instance is ordered, and the order: by the number of the action, and then by those of iterations, where a front of
 -- a list is below it

@@ -11,8 +11,8 @@
 
 mod acts;
 mod instance;
-mod rows;
+mod known;
 
 pub use acts::Acts;
 pub use instance::Instance;
-pub use rows::{RowAt, Rows};
+pub use known::{Known, OpenAt, Opens, RowAt, Rows, Store, WriterAt};
