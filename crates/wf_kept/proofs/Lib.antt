@@ -5,3 +5,6 @@ pub mod Events
 pub mod Edited
 pub mod Followers
 pub mod Quiet
+pub mod Informed
+pub mod Stored
+pub mod Taken

@@ -12,21 +12,27 @@
 //! them as said here, is the engine's part.
 #![tactic(auto)]
 
-ghost use Rattle.std.specs.Prelude.{[], ◌≡◌, Bool, List, suc, true, ℕ};
-ghost use Rattle.wf_layers.specs.Address.{Address, Table, address};
-ghost use Rattle.wf_layers.specs.Bound.{left};
+ghost use Rattle.std.specs.Prelude.{[], ◌*◌, ◌+◌, ◌≡◌, ◌≤◌, Bool, List, None, Option, Some, suc, true, ℕ};
+ghost use Rattle.wf_layers.specs.Address.{Address, SeenIn, Table, address};
+ghost use Rattle.wf_layers.specs.Bound.{Costs, TellsTurns, left};
 ghost use Rattle.wf_layers.specs.Changes.{is_named};
-ghost use Rattle.wf_layers.specs.Definition.{Graph, Kind, Need, needs_of};
+ghost use Rattle.wf_layers.specs.Definition.{Closed, Graph, IsDepth, Kind, Leaf, Need, Until, kind_of, needs_of};
 ghost use Rattle.wf_layers.specs.Enabled.{own_event};
-ghost use Rattle.wf_layers.specs.Laws.{Exact};
-ghost use Rattle.wf_layers.specs.Machine.{Event, IsThere, State, Step};
+ghost use Rattle.wf_layers.specs.Facts.{Facts};
+ghost use Rattle.wf_layers.specs.Laws.{Exact, IsInstance};
+ghost use Rattle.wf_layers.specs.Listed.{Lists, sum_of};
+ghost use Rattle.wf_layers.specs.Machine.{Event, IsContainer, IsDecided, IsThere, MayTest, Opening, Running, State, Step, fresh};
 ghost use Rattle.wf_layers.specs.Meaning.{meaning};
-ghost use Rattle.wf_layers.specs.Source.{Source};
+ghost use Rattle.wf_layers.specs.Resubmission.{IsOldTable, pin, resumed};
+ghost use Rattle.wf_layers.specs.Source.{Sound, Source};
+ghost use Rattle.wf_layers.specs.Variables.{IsLastSeen, IsLastWritten, OneOrder, SeenByTest, written};
 ghost use Rattle.wf_kept.specs.Counted.{AreCounts, AreLacksAfter, waits_after};
 ghost use Rattle.wf_kept.specs.Event.{AreLeft, AreLeftAfter, counted_event};
 ghost use Rattle.wf_kept.specs.Quiet.{is_quiet};
 ghost use Rattle.wf_kept.specs.Reached.{IsReached};
 ghost use Rattle.wf_kept.specs.Ready.{IsEdited, IsReady, IsRefreshed};
+ghost use Rattle.wf_kept.specs.Stored.{IsStored, MayRead, kept_rows};
+ghost use Rattle.wf_kept.specs.Taken.{HasTaken};
 
 /// A step leads from a reached state to a reached one.
 pub fn steps_reach_states<Row, Begun, Decision, Verdict>()
@@ -101,4 +107,125 @@ pub fn the_ready_set_is_kept<Row, Begun, Decision, Verdict>()
     ensures { (d : Graph) (depth : ℕ → ℕ) (m : Source Row Begun Decision Verdict) (s : State Row Begun Decision Verdict)
         → IsReached d depth m s → (e : Event) (s' : State Row Begun Decision Verdict) → Step d m s e s'
         → (ready ready' : Table Event) → IsReady d m s ready → IsEdited d m s e s' ready ready' → IsReady d m s' ready' }
+{}
+
+/// Each reached state has the facts of states (`wf_layers`, `specs/Facts`), with the meaning's rows.
+pub fn reached_states_have_the_facts<Row, Begun, Decision, Verdict>()
+    ensures { (d : Graph) (depth : ℕ → ℕ) (m : Source Row Begun Decision Verdict) (s : State Row Begun Decision Verdict)
+        → IsReached d depth m s → Facts d m (meaning m depth d) s }
+{}
+
+/// An action of an open graph is the definition's of its number: of that kind, waiting for what it names there.
+pub fn kinds_are_known<Row, Begun, Decision, Verdict>()
+    ensures { (d : Graph) (depth : ℕ → ℕ) (m : Source Row Begun Decision Verdict) (s : State Row Begun Decision Verdict)
+        → IsReached d depth m s → (n : ℕ) (i : List ℕ) (after : List Need) (kind : Kind) → IsThere d m s n i after kind
+        → (kind_of d n ≡ Some kind) × (needs_of d n ≡ after) }
+{}
+
+/// What an action sees is there as the meaning has it: as it is decided, while it is running or open, and, for an Until, as it is tested,
+/// also what the test sees.
+pub fn what_is_seen_is_there<Row, Begun, Decision, Verdict>()
+    ensures decided { (d : Graph) (depth : ℕ → ℕ) (m : Source Row Begun Decision Verdict) (s : State Row Begun Decision Verdict)
+        → IsReached d depth m s → (n : ℕ) (i : List ℕ) (after : List Need) (kind : Kind) → IsDecided d m s n i after kind
+        → (y : Address) → SeenIn d (address n i) y → s.rows y ≡ meaning m depth d y }
+    ensures running { (d : Graph) (depth : ℕ → ℕ) (m : Source Row Begun Decision Verdict) (s : State Row Begun Decision Verdict)
+        → IsReached d depth m s → (x : Address) (w : Running Begun) → s.running x ≡ Some w
+        → (y : Address) → SeenIn d x y → s.rows y ≡ meaning m depth d y }
+    ensures opened { (d : Graph) (depth : ℕ → ℕ) (m : Source Row Begun Decision Verdict) (s : State Row Begun Decision Verdict)
+        → IsReached d depth m s → (x : Address) (w : Opening Decision Verdict) → s.opens x ≡ Some w
+        → (y : Address) → SeenIn d x y → s.rows y ≡ meaning m depth d y }
+    ensures tested { (d : Graph) (depth : ℕ → ℕ) (m : Source Row Begun Decision Verdict) (s : State Row Begun Decision Verdict)
+        → IsReached d depth m s → (n : ℕ) (i : List ℕ) (after : List Need) (most : ℕ) (g : Graph) (w : Opening Decision Verdict) (j : ℕ)
+        → IsThere d m s n i after (Until most g) → s.opens (address n i) ≡ Some w → MayTest m (Until most g) i w s.rows j
+        → (y : Address) → SeenByTest d n i g j y → s.rows y ≡ meaning m depth d y }
+{}
+
+/// What an open container decided is what it would decide by the rows that are there now.
+pub fn open_containers_keep_what_they_decide<Row, Begun, Decision, Verdict>()
+    ensures { (d : Graph) (depth : ℕ → ℕ) (m : Source Row Begun Decision Verdict) (s : State Row Begun Decision Verdict)
+        → IsReached d depth m s → (x : Address) (w : Opening Decision Verdict) → s.opens x ≡ Some w → w.decision ≡ m.decide x s.rows }
+{}
+
+/// What is running or open stands in an open graph, and is nothing else: a leaf that has no row and isn't open, and a container that has no
+/// row and isn't running.
+pub fn running_and_open_instances_stand<Row, Begun, Decision, Verdict>()
+    ensures running { (d : Graph) (depth : ℕ → ℕ) (m : Source Row Begun Decision Verdict) (s : State Row Begun Decision Verdict)
+        → IsReached d depth m s → (x : Address) (w : Running Begun) → s.running x ≡ Some w
+        → ((after : List Need) × IsThere d m s x.name x.at after Leaf) × (s.rows x ≡ None) × (s.opens x ≡ None) }
+    ensures opened { (d : Graph) (depth : ℕ → ℕ) (m : Source Row Begun Decision Verdict) (s : State Row Begun Decision Verdict)
+        → IsReached d depth m s → (x : Address) (w : Opening Decision Verdict) → s.opens x ≡ Some w
+        → ((after : List Need) × (kind : Kind) × IsContainer kind × IsThere d m s x.name x.at after kind) × (s.rows x ≡ None)
+        × (s.running x ≡ None) }
+{}
+
+/// As a run begins a store has no value; as an old record is gone on from it has what the last kept writer wrote, if any.
+pub fn stores_begin<Row, Begun, Decision, Verdict, Value>()
+    ensures begun { (d : Graph) (depth : ℕ → ℕ) (m : Source Row Begun Decision Verdict) (writes : Address → Row → Option Value)
+        → IsInstance d m depth → IsStored d depth m writes fresh None }
+    ensures resumed { (d : Graph) (depth : ℕ → ℕ) (a b : Source Row Begun Decision Verdict) (writes : Address → Row → Option Value)
+        (redo again : ℕ → Bool) (r : Table Row) (recall : Address → Decision) (v : Option Value)
+        → IsDepth d depth → Closed d d → Sound b (SeenIn d) d 0 → IsOldTable d a redo again r recall
+        → IsLastWritten d (pin a b redo again r recall) writes (kept_rows redo again r) v
+        → IsStored d depth (pin a b redo again r recall) writes (resumed d redo again r recall) v }
+{}
+
+/// And each event makes of it what `written` says.
+pub fn stores_go_on<Row, Begun, Decision, Verdict, Value>()
+    ensures { (d : Graph) (depth : ℕ → ℕ) (m : Source Row Begun Decision Verdict) (writes : Address → Row → Option Value)
+        (s : State Row Begun Decision Verdict) (v : Option Value) → IsStored d depth m writes s v
+        → (e : Event) (s' : State Row Begun Decision Verdict) → Step d m s e s'
+        → IsStored d depth m writes s' (written d m writes e s' v) }
+{}
+
+/// A state that has a store is reached.
+pub fn states_with_stores_are_reached<Row, Begun, Decision, Verdict, Value>()
+    ensures { (d : Graph) (depth : ℕ → ℕ) (m : Source Row Begun Decision Verdict) (writes : Address → Row → Option Value)
+        (s : State Row Begun Decision Verdict) (v : Option Value) → IsStored d depth m writes s v → IsReached d depth m s }
+{}
+
+/// Where the writers of a variable are in one order, its store holds what the last writer that an action sees wrote: as the action is
+/// decided, while it is running, and, for an Until, as it is tested, what the last writer that the test sees wrote. It is told by the rows
+/// that are there, for each action that may read the variable.
+pub fn stores_hold_the_last<Row, Begun, Decision, Verdict, Value>()
+    ensures written { (d : Graph) (depth : ℕ → ℕ) (m : Source Row Begun Decision Verdict) (writes : Address → Row → Option Value)
+        → OneOrder d m writes (meaning m depth d) → (s : State Row Begun Decision Verdict) (v : Option Value)
+        → IsStored d depth m writes s v → IsLastWritten d m writes s.rows v }
+    ensures decided { (d : Graph) (depth : ℕ → ℕ) (m : Source Row Begun Decision Verdict) (writes : Address → Row → Option Value)
+        → OneOrder d m writes (meaning m depth d) → (s : State Row Begun Decision Verdict) (v : Option Value)
+        → IsStored d depth m writes s v → (n : ℕ) (i : List ℕ) (after : List Need) (kind : Kind) → IsDecided d m s n i after kind
+        → MayRead d writes n kind i → IsLastSeen d m writes s.rows (SeenIn d (address n i)) v }
+    ensures running { (d : Graph) (depth : ℕ → ℕ) (m : Source Row Begun Decision Verdict) (writes : Address → Row → Option Value)
+        → OneOrder d m writes (meaning m depth d) → (s : State Row Begun Decision Verdict) (v : Option Value)
+        → IsStored d depth m writes s v → (n : ℕ) (i : List ℕ) (w : Running Begun) → s.running (address n i) ≡ Some w
+        → MayRead d writes n Leaf i → IsLastSeen d m writes s.rows (SeenIn d (address n i)) v }
+    ensures tested { (d : Graph) (depth : ℕ → ℕ) (m : Source Row Begun Decision Verdict) (writes : Address → Row → Option Value)
+        → OneOrder d m writes (meaning m depth d) → (s : State Row Begun Decision Verdict) (v : Option Value)
+        → IsStored d depth m writes s v → (n : ℕ) (i : List ℕ) (after : List Need) (most : ℕ) (g : Graph) (w : Opening Decision Verdict)
+        (j : ℕ) → IsThere d m s n i after (Until most g) → s.opens (address n i) ≡ Some w → MayTest m (Until most g) i w s.rows j
+        → MayRead d writes n (Until most g) i → IsLastSeen d m writes s.rows (SeenByTest d n i g j) v }
+{}
+
+/// The events that a state has taken are none as a run begins, and as an old record is gone on from; and each step takes one more.
+pub fn events_are_taken_one_by_one<Row, Begun, Decision, Verdict>()
+    ensures begun { (d : Graph) (depth : ℕ → ℕ) (m : Source Row Begun Decision Verdict) → IsInstance d m depth
+        → HasTaken d depth m fresh 0 }
+    ensures resumed { (d : Graph) (depth : ℕ → ℕ) (a b : Source Row Begun Decision Verdict) (redo again : ℕ → Bool) (r : Table Row)
+        (recall : Address → Decision) → IsDepth d depth → Closed d d → Sound b (SeenIn d) d 0 → IsOldTable d a redo again r recall
+        → HasTaken d depth (pin a b redo again r recall) (resumed d redo again r recall) 0 }
+    ensures goes_on { (d : Graph) (depth : ℕ → ℕ) (m : Source Row Begun Decision Verdict) (s : State Row Begun Decision Verdict)
+        → IsReached d depth m s → (k : ℕ) → HasTaken d depth m s k → (e : Event) (s' : State Row Begun Decision Verdict)
+        → Step d m s e s' → HasTaken d depth m s' (suc k) }
+{}
+
+/// 32 times the number of events that a state has taken is at most the cost of what is placed, begun and tried, in whatever lists the
+/// state is kept.
+pub fn events_taken_are_few<Row, Begun, Decision, Verdict, RowAt, LeafAt, OpenAt>()
+    ensures { (d : Graph) (depth : ℕ → ℕ) (m : Source Row Begun Decision Verdict) (s : State Row Begun Decision Verdict)
+        → IsReached d depth m s → (k : ℕ) → HasTaken d depth m s k → (turns : (Row → ℕ)) → TellsTurns d m (meaning m depth d) turns
+        → (row_at : (RowAt → Address)) (row : (RowAt → Row)) (leaf_at : (LeafAt → Address)) (leaf : (LeafAt → Running Begun))
+        (open_at : (OpenAt → Address)) (opening : (OpenAt → Opening Decision Verdict))
+        (of_row : (RowAt → ℕ)) (of_leaf : (LeafAt → ℕ)) (of_open : (OpenAt → ℕ)) → Costs turns row leaf opening of_row of_leaf of_open
+        → (rows : List RowAt) (leaves : List LeafAt) (opens : List OpenAt) → Lists row_at row s.rows rows
+        → Lists leaf_at leaf s.running leaves → Lists open_at opening s.opens opens
+        → 32 * k ≤ sum_of of_row rows + sum_of of_leaf leaves + sum_of of_open opens }
 {}
