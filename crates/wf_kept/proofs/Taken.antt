@@ -1,11 +1,11 @@
 -- How many events a reached state has taken.
-use Rattle.std.proofs.Common.{◌≡◌, ◌≤◌, ◌+◌, ◌*◌, ℕ, suc, List, [], length, arith, refl, subst}
+use Rattle.std.proofs.Common.{◌≡◌, ◌≤◌, ◌+◌, ◌*◌, ℕ, suc, List, length, arith, subst}
 use Rattle.wf_layers.specs.Definition.{Graph}
 use Rattle.wf_layers.specs.Address.{Address}
 use Rattle.wf_layers.specs.Source.{Source}
 use Rattle.wf_layers.specs.Meaning.{meaning}
-use Rattle.wf_layers.specs.Bound.{TellsTurns, Costs, left, total}
-use Rattle.wf_layers.specs.Laws.{EventsAreFew, IsInstance}
+use Rattle.wf_layers.specs.Bound.{TellsTurns, Costs}
+use Rattle.wf_layers.specs.Laws.{EventsAreFew}
 use Rattle.wf_layers.specs.Listed.{Lists, sum_of}
 use Rattle.wf_layers.specs.Machine.{Running, Opening, State, Event, Step}
 use Rattle.wf_layers.proofs.Bounded.{events_are_counted}
@@ -19,6 +19,10 @@ module _ {Row Begun Decision Verdict : Type 0} (d : Graph) (depth : ℕ → ℕ)
   pub one_more_taken : (m : Source Row Begun Decision Verdict) (s : State Row Begun Decision Verdict) → IsReached d depth m s → (k : ℕ)
       → HasTaken d depth m s k → (e : Event) (s' : State Row Begun Decision Verdict) → Step d m s e s' → HasTaken d depth m s' (suc k)
   one_more_taken m s reached k taken e s' st = let fall = left_falls d depth m s reached e s' st in omega (arith, taken, fall)
+
+  pub taken_once : (m : Source Row Begun Decision Verdict) (s : State Row Begun Decision Verdict) (k l : ℕ) → HasTaken d depth m s k
+      → HasTaken d depth m s l → k ≡ l
+  taken_once m s k l first second = omega (arith, first, second)
 
 module _ {Row Begun Decision Verdict RowAt LeafAt OpenAt : Type 0} (d : Graph) (depth : ℕ → ℕ) where
   -- the list of events that leads to the state is as long as the state tells

@@ -8,11 +8,16 @@
 //! say, of each kind of event and whatever the source of answers is, what an engine has to change so that all of it is that of the next
 //! state. They hold of each state that is reached (`specs/Reached`), by a run that begins or by one that goes on from an old record.
 //!
+//! Further laws say what an engine owes to those who answer for the actions, as it asks them. What an action sees is there as the definition
+//! means it; what open containers keep is what they would decide by the rows that are there; and a store that each writer of a variable
+//! overwrites (`specs/Stored`) holds what the last writer that the action sees wrote. And the events that a state has taken
+//! (`specs/Taken`) are few by the cost of what is in it, so that an engine that bounds the one bounds the other.
+//!
 //! It has no code. Each public function has an empty body, and its contract is a law. How an engine keeps its counts, and that it changes
 //! them as said here, is the engine's part.
 #![tactic(auto)]
 
-ghost use Rattle.std.specs.Prelude.{[], ◌*◌, ◌+◌, ◌≡◌, ◌≤◌, Bool, List, None, Option, Some, suc, true, ℕ};
+ghost use Rattle.std.specs.Prelude.{[], ◌*◌, ◌+◌, ◌≡◌, ◌≤◌, Bool, List, None, Option, Some, length, suc, true, ℕ};
 ghost use Rattle.wf_layers.specs.Address.{Address, SeenIn, Table, address};
 ghost use Rattle.wf_layers.specs.Bound.{Costs, TellsTurns, left};
 ghost use Rattle.wf_layers.specs.Changes.{is_named};
@@ -21,7 +26,7 @@ ghost use Rattle.wf_layers.specs.Enabled.{own_event};
 ghost use Rattle.wf_layers.specs.Facts.{Facts};
 ghost use Rattle.wf_layers.specs.Laws.{Exact, IsInstance};
 ghost use Rattle.wf_layers.specs.Listed.{Lists, sum_of};
-ghost use Rattle.wf_layers.specs.Machine.{Event, IsContainer, IsDecided, IsThere, MayTest, Opening, Running, State, Step, fresh};
+ghost use Rattle.wf_layers.specs.Machine.{Event, IsContainer, IsDecided, IsThere, MayTest, Opening, Run, Running, State, Step, fresh};
 ghost use Rattle.wf_layers.specs.Meaning.{meaning};
 ghost use Rattle.wf_layers.specs.Resubmission.{IsOldTable, pin, resumed};
 ghost use Rattle.wf_layers.specs.Source.{Sound, Source};
@@ -205,16 +210,20 @@ pub fn stores_hold_the_last<Row, Begun, Decision, Verdict, Value>()
         → MayRead d writes n (Until most g) i → IsLastSeen d m writes s.rows (SeenByTest d n i g j) v }
 {}
 
-/// The events that a state has taken are none as a run begins, and as an old record is gone on from; and each step takes one more.
+/// The events that a state has taken are as many as each run to it has; and a step takes one more.
 pub fn events_are_taken_one_by_one<Row, Begun, Decision, Verdict>()
     ensures begun { (d : Graph) (depth : ℕ → ℕ) (m : Source Row Begun Decision Verdict) → IsInstance d m depth
-        → HasTaken d depth m fresh 0 }
+        → (es : List Event) (s : State Row Begun Decision Verdict) → Run d m fresh es s → HasTaken d depth m s (length es) }
     ensures resumed { (d : Graph) (depth : ℕ → ℕ) (a b : Source Row Begun Decision Verdict) (redo again : ℕ → Bool) (r : Table Row)
         (recall : Address → Decision) → IsDepth d depth → Closed d d → Sound b (SeenIn d) d 0 → IsOldTable d a redo again r recall
-        → HasTaken d depth (pin a b redo again r recall) (resumed d redo again r recall) 0 }
+        → (es : List Event) (s : State Row Begun Decision Verdict)
+        → Run d (pin a b redo again r recall) (resumed d redo again r recall) es s
+        → HasTaken d depth (pin a b redo again r recall) s (length es) }
     ensures goes_on { (d : Graph) (depth : ℕ → ℕ) (m : Source Row Begun Decision Verdict) (s : State Row Begun Decision Verdict)
         → IsReached d depth m s → (k : ℕ) → HasTaken d depth m s k → (e : Event) (s' : State Row Begun Decision Verdict)
         → Step d m s e s' → HasTaken d depth m s' (suc k) }
+    ensures once { (d : Graph) (depth : ℕ → ℕ) (m : Source Row Begun Decision Verdict) (s : State Row Begun Decision Verdict) (k l : ℕ)
+        → HasTaken d depth m s k → HasTaken d depth m s l → k ≡ l }
 {}
 
 /// 32 times the number of events that a state has taken is at most the cost of what is placed, begun and tried, in whatever lists the
