@@ -88,7 +88,7 @@ pub trait Acts {
         requires last { HoldsLast (graph self.now) (depth self.now) (source self.now) (writes self.now) (rows_in row_tree known.rows.now.0)
             (store_in known.store.now.0) place.now.action Leaf place.now.at }
         ensures { IfOk result (λ b. begun_tree b
-            ≡ (source self.now).start (address_of place.now) (rows_in row_tree known.rows.now.0)) };
+            ≡ (source self.now).start (address_of place.now) (rows_in row_tree known.entry.rows.now.0)) };
 
     /// Whether a running leaf that made so many attempts makes another.
     fn has_try(&self, place: &Instance, begun: &Self::Begun, made: u64) -> bool
@@ -105,7 +105,7 @@ pub trait Acts {
         requires informed { IsInformed (graph self.now) (depth self.now) (source self.now) (rows_in row_tree known.rows.now.0)
             (opens_in decision_tree verdict_tree known.opens.now.0) place.now.action place.now.at Leaf }
         ensures { IfOk result (λ r. row_tree r
-            ≡ (source self.now).finish (address_of place.now) (begun_tree begun.now) (rows_in row_tree known.rows.now.0)) };
+            ≡ (source self.now).finish (address_of place.now) (begun_tree begun.now) (rows_in row_tree known.entry.rows.now.0)) };
 
     /// The row of an action that doesn't run.
     fn skipped(&self, alloc: Global, place: &Instance) -> Result<Self::Row, AllocError>
@@ -124,7 +124,7 @@ pub trait Acts {
             × HoldsLast (graph self.now) (depth self.now) (source self.now) (writes self.now) (rows_in row_tree known.rows.now.0)
             (store_in known.store.now.0) place.now.action kind place.now.at }
         ensures { IfOk result (λ d. decision_tree d
-            ≡ (source self.now).decide (address_of place.now) (rows_in row_tree known.rows.now.0)) };
+            ≡ (source self.now).decide (address_of place.now) (rows_in row_tree known.entry.rows.now.0)) };
 
     /// The number of the branch that a decision means, counted from 1; another number means none.
     fn taken(&self, decision: &Self::Decision) -> u64
@@ -148,7 +148,7 @@ pub trait Acts {
             × HoldsLastAtTest (graph self.now) (depth self.now) (source self.now) (writes self.now) (rows_in row_tree known.rows.now.0)
             (store_in known.store.now.0) place.now.action most g place.now.at index }
         ensures { IfOk result (λ v. verdict_tree v
-            ≡ (source self.now).test (address_of place.now) index (rows_in row_tree known.rows.now.0)) };
+            ≡ (source self.now).test (address_of place.now) index (rows_in row_tree known.entry.rows.now.0)) };
 
     /// Whether a test ends its loop.
     fn ends(&self, verdict: &Self::Verdict) -> bool
@@ -168,7 +168,7 @@ pub trait Acts {
             × IsInformed (graph self.now) (depth self.now) (source self.now) (rows_in row_tree known.rows.now.0)
             (opens_in decision_tree verdict_tree known.opens.now.0) place.now.action place.now.at kind }
         ensures { IfOk result (λ r. row_tree r ≡ (source self.now).close (address_of place.now) (decision_tree decision.now) count
-            (option_map (λ v. verdict_tree v.now) test.entry) (rows_in row_tree known.rows.now.0)) };
+            (option_map (λ v. verdict_tree v.now) test.entry) (rows_in row_tree known.entry.rows.now.0)) };
 
     /// Whether something beside its `runAfter` keeps an action from running.
     fn halts(
@@ -176,7 +176,7 @@ pub trait Acts {
         place: &Instance,
         known: Known<'_, Self::Row, Self::Decision, Self::Verdict>,
     ) -> bool
-        ensures { result ≡ (source self.now).halts (address_of place.now) (rows_in row_tree known.rows.now.0) };
+        ensures { result ≡ (source self.now).halts (address_of place.now) (rows_in row_tree known.entry.rows.now.0) };
 
     /// How an action ended whose row this is.
     fn status(&self, row: &Self::Row) -> Status
