@@ -1,1 +1,3 @@
+pub mod CloseLemmas
+pub mod InsideLemmas
 pub mod JudgedLemmas

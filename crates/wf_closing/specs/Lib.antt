@@ -1,3 +1,5 @@
 pub mod Steps
 pub mod StepsSeen
 pub mod Judged
+pub mod Inside
+pub mod InsideSeen
