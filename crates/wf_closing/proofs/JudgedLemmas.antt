@@ -1,6 +1,6 @@
 -- A graph's status step by step is its status: steps are taken of all its actions, each behind those that it waits for.
 use Rattle.std.proofs.Common.{◌≡◌, ◌+◌, ◌<◌, ◌≤◌, ℕ, zero, suc, Bool, true, false, ◌||◌, ◌&&◌, not, cond, List, [], ◌∷◌, length, map, set, replicate}
-use Rattle.std.proofs.Common.{Option, Some, None, filter, max, nat_eq, refl, sym, ap, ◌∙◌, subst, arith, eqb-true, eq-eqb, ⊎_elim, true≢false, if◌then◌else◌}
+use Rattle.std.proofs.Common.{Option, Some, None, filter, nat_eq, refl, sym, ap, ◌∙◌, subst, arith, eqb-true, eq-eqb, ⊎_elim, true≢false, if◌then◌else◌}
 use Rattle.std.proofs.lemmas.Option.{none-some}
 use Rattle.std.specs.List.{AllByRecursion, find, list_all, list_any}
 use Rattle.wf_layers.specs.Address.{Table, address}

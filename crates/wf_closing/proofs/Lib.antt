@@ -1,3 +1,4 @@
+mod ClosingRows
 pub mod CloseLemmas
 pub mod InsideLemmas
 pub mod JudgedLemmas

@@ -1,9 +1,9 @@
 -- WHAT CLOSING ASKS OF A CONTAINER beside its kind: its own graphs, as they are judged, and the Terminates inside it.
 use Rattle.std.specs.Prelude.{◌≡◌, ℕ, zero, suc, Bool, false, ◌||◌, cond, List, [], ◌∷◌, ◌++◌, length, map, filter, Option, Some, None, nat_eq, nat_lt}
 use Rattle.std.specs.Prelude.{slice_get, codes, if◌then◌else◌}
-use Rattle.std.specs.List.{AllByRecursion, list_any}
+use Rattle.std.specs.List.{AllByRecursion}
 use Rattle.wf_layers.specs.Address.{Table, address}
-use Rattle.wf_def.specs.ActionTree.{ActionTree, ActionTrees, CaseTrees, KindTree, action_kind, action_number, actions_in, no_cases, case_then}
+use Rattle.wf_def.specs.ActionTree.{ActionTrees, CaseTrees, KindTree, action_kind, action_number, actions_in, no_cases, case_then}
 use Rattle.wf_def.specs.ActionTree.{scope, branch, switch, switch_else, foreach, until}
 use Rattle.wf_def.specs.AllActions.{kind_actions}
 use Rattle.wf_record.specs.Record.{Row}
@@ -13,8 +13,10 @@ use Rattle.wf_val.specs.Arguments.{wrong_type}
 use Rattle.wf_val.specs.ValueTree.{null, list, trees}
 use Rattle.wf_val.specs.declared.function.Fun.{Fun}
 use Rattle.wf_opening.specs.Decisions.{DecisionTree, each, too_many, faulty}
+use Rattle.wf_opening.specs.Verdicts.{VerdictTree}
 use Rattle.wf_done.specs.Done.{DoneTree, faulted}
-use Rattle.wf_meant.specs.Containers.{closed_as, failed_by, has_succeeded, is_failed, is_terminate}
+use Rattle.wf_meant.specs.Containers.{close_branch, close_until, closed_as, failed_by, has_succeeded, is_failed}
+use Rattle.wf_meant.specs.Containers.{is_terminate, iterations_value, unless_cut}
 use Rattle.wf_meant.specs.Status.{graph_status}
 use Rattle.wf_closing.specs.Judged.{status_by}
 use Rattle.wf_closing.specs.Steps.{JudgedTree, judged_of}
@@ -100,3 +102,22 @@ foreach_closed graphs at known (each ts) =
 foreach_closed graphs at known too_many = failed_by (codes "LimitExceeded") null
 foreach_closed graphs at known (faulty f) = faulted f
 foreach_closed graphs at known decision = faulted (wrong_type Fun.Foreach 0)
+
+-- ---- each kind of container, by its own graphs
+
+abbrev pub closed_by : KindTree → List ℕ → DecisionTree → (iterations : ℕ) → Option VerdictTree → Table Row → DoneTree
+closed_by (scope graph) at decision n verdict known =
+    unless_cut at known (scope graph) null (own_status (graphs_in (scope graph)) 0 at known)
+closed_by (branch test yes' no') at decision n verdict known =
+    close_branch at known (branch test yes' no')
+    (λ k. own_status (graphs_in (branch test yes' no')) (branch_place (branch test yes' no') k) at known) decision
+closed_by (switch on cases) at decision n verdict known =
+    close_branch at known (switch on cases) (λ k. own_status (graphs_in (switch on cases)) (branch_place (switch on cases) k) at known) decision
+closed_by (switch_else on cases default) at decision n verdict known =
+    close_branch at known (switch_else on cases default)
+    (λ k. own_status (graphs_in (switch_else on cases default)) (branch_place (switch_else on cases default) k) at known) decision
+closed_by (foreach items repetitions graph) at decision n verdict known =
+    foreach_closed (graphs_in (foreach items repetitions graph)) at known decision
+closed_by (until test count fails graph) at decision n verdict known =
+    close_until fails (last_own_status (graphs_in (until test count fails graph)) at known n) (iterations_value n) verdict
+closed_by kind at decision n verdict known = closed_as Succeeded null null

@@ -1,6 +1,6 @@
 -- THE STEPS OF A GRAPH: its actions, each behind those that it waits for. At each turn the first is taken that isn't marked though all that
 -- it waits for are.
-use Rattle.std.specs.Prelude.{◌≡◌, ◌<◌, ℕ, zero, suc, Bool, true, false, not, ◌&&◌, List, [], ◌∷◌, ◌++◌, map, length, replicate, set, slice_get, max}
+use Rattle.std.specs.Prelude.{◌≡◌, ◌<◌, ℕ, zero, suc, Bool, true, false, not, ◌&&◌, List, [], ◌∷◌, map, length, replicate, set, slice_get, max}
 use Rattle.std.specs.Prelude.{Option, Some, None, nat_eq, filter}
 use Rattle.std.specs.List.{AllByRecursion, find, list_all, list_any}
 use Rattle.wf_def.specs.ActionTree.{ActionTree, action_after, action_number}

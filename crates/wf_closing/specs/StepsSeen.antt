@@ -1,5 +1,5 @@
 -- Steps and judged graphs as contracts see them.
-use Rattle.std.specs.Prelude.{List, map}
+use Rattle.std.specs.Prelude.{map}
 use Rattle.wf_record.specs.Record as record_of
 use Rattle.wf_record.specs.Seen.{row_tree}
 use Rattle.wf_record.specs.declared.row.Row.{Row}

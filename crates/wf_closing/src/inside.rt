@@ -104,11 +104,7 @@ fn add_terminate(numbers: &mut Vec<u32>, action: &Action) -> Result<(), AllocErr
     }
 }
 
-fn terminates_in(
-    alloc: Global,
-    numbers: &mut Vec<u32>,
-    graph: &Graph,
-) -> Result<(), AllocError>
+fn terminates_in(alloc: Global, numbers: &mut Vec<u32>, graph: &Graph) -> Result<(), AllocError>
     ensures { OnOk result (numbers.new.items ≡ numbers.old.items
         ++ map action_number (filter (λ a. is_terminate (action_kind a)) (all_actions (graph_tree graph.now)))) }
 {

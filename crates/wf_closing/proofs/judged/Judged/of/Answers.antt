@@ -1,4 +1,4 @@
-use Rattle.std.proofs.Common.{◌≡◌, ℕ, Bool, List, false, filter, length, map, not, replicate, ap, ◌∙◌, sym}
+use Rattle.std.proofs.Common.{◌≡◌, false, filter, length, map, not, replicate, ap, ◌∙◌, sym}
 use Rattle.std.proofs.lemmas.List.{length-map}
 use Rattle.wf_def.specs.ActionSeen.{action_tree}
 use Rattle.wf_def.specs.ActionTree.{action_number}

@@ -5,10 +5,10 @@ ghost use Rattle.wf_asks.specs.Instances.{rows_in};
 ghost use Rattle.wf_def.specs.ActionSeen.{kind_tree};
 ghost use Rattle.wf_done.specs.Done.{faulted};
 ghost use Rattle.wf_done.specs.DoneSeen.{done_tree};
-ghost use Rattle.wf_meant.specs.Containers.{close_branch, close_until, closed_as, code_of, cut_short, failed_by, iterations_value, unless_cut};
+ghost use Rattle.wf_meant.specs.Containers.{close_branch, close_until, closed, closed_as, code_of, cut_short, failed_by, iterations_value, unless_cut};
 ghost use Rattle.wf_record.specs.declared.status.Status.TheVariants.{Failed, Succeeded};
 ghost use Rattle.wf_opening.specs.DecisionSeen.{decision_tree, verdict_tree};
-ghost use Rattle.wf_closing.specs.Inside.{AreJudged, any_own_failed, branch_place, case_place, foreach_closed, graphs_in, inside_of, last_own_status, own_status};
+ghost use Rattle.wf_closing.specs.Inside.{AreJudged, any_own_failed, branch_place, case_place, closed_by, foreach_closed, graphs_in, inside_of, last_own_status, own_status};
 ghost use Rattle.wf_closing.specs.InsideSeen.{inside_tree};
 ghost use Rattle.wf_closing.specs.StepsSeen.{row_content};
 
@@ -144,7 +144,11 @@ fn branch_place(kind: &Kind, branch: u64) -> u64
             yes: _,
             no: _,
         } => { if branch == 1 { 0 } else { 1 } }
-        Kind::Switch { on: _, cases, default } => match default {
+        Kind::Switch {
+            on: _,
+            cases,
+            default,
+        } => match default {
             Some(_) => case_place(cases.len(), branch),
             None => case_place(cases.len(), branch),
         },
@@ -240,7 +244,10 @@ fn any_failed(
     let mut failed = false;
     for index in 0..count {
         if !failed {
-            failed = matches!(iteration_status(alloc, kind, inside, at, index, rows)?, Status::Failed);
+            failed = matches!(
+                iteration_status(alloc, kind, inside, at, index, rows)?,
+                Status::Failed
+            );
         }
     }
     Ok(failed)
@@ -273,7 +280,12 @@ fn close_foreach(
     match decision {
         Decision::Each(items) => {
             let failed = any_failed(alloc, kind, inside, at, items.len(), rows)?;
-            closed_as(alloc, loop_status(failed), Val::List(items.copy(alloc)?), Val::Null)
+            closed_as(
+                alloc,
+                loop_status(failed),
+                Val::List(items.copy(alloc)?),
+                Val::Null,
+            )
         }
         Decision::TooMany => failed_by(alloc, "LimitExceeded", Val::Null),
         Decision::Faulty(fault) => faulted(alloc, fault, Val::Null),
@@ -326,4 +338,85 @@ fn close_until(
         Some(Verdict::Met(false)) if fails => failed_by(alloc, "LimitReached", outputs),
         _ => closed_as(alloc, status, Val::Null, outputs),
     }
+}
+
+// What a container comes to, by its own graphs.
+fn close_by(
+    alloc: Global,
+    kind: &Kind,
+    inside: &Inside,
+    at: &Indexes,
+    decision: &Decision,
+    count: u64,
+    verdict: Option<&Verdict>,
+    rows: &Rows<Row>,
+) -> Result<Done, AllocError>
+    requires inside { inside_tree inside.now ≡ inside_of (kind_tree kind.now) }
+    requires judged { AreJudged (kind_tree kind.now) }
+    requires count { count < 2 ^ 63 }
+    ensures { IfOk result (λ d. done_tree d ≡ closed_by (kind_tree kind.now) at.now (decision_tree decision.now) count
+        (option_map (λ v. verdict_tree v.now) verdict.entry) (rows_in row_content rows.now.0)) }
+{
+    match kind {
+        Kind::Scope { graph: _ } => {
+            let status = own_status(alloc, kind, inside, 0, at, rows)?;
+            unless_cut(alloc, kind, inside, at, rows, Val::Null, status)
+        }
+        Kind::If {
+            test: _,
+            yes: _,
+            no: _,
+        } => close_branch(alloc, kind, inside, decision, at, rows),
+        Kind::Switch {
+            on: _,
+            cases: _,
+            default,
+        } => match default {
+            Some(_) => close_branch(alloc, kind, inside, decision, at, rows),
+            None => close_branch(alloc, kind, inside, decision, at, rows),
+        },
+        Kind::Foreach {
+            list: _,
+            repetitions: _,
+            graph: _,
+        } => close_foreach(alloc, kind, inside, decision, at, rows),
+        Kind::Until {
+            test: _,
+            count: _,
+            fails,
+            graph: _,
+        } => {
+            let status = last_status(alloc, kind, inside, at, count, rows)?;
+            close_until(
+                alloc,
+                *fails,
+                status,
+                iterations_value(alloc, count)?,
+                verdict,
+            )
+        }
+        _ => closed_as(alloc, Status::Succeeded, Val::Null, Val::Null),
+    }
+}
+
+/// What a container comes to as it closes, at these indexes: by what it decided, how many iterations an Until had, its last test, and the
+/// rows inside it ("Control workflow action types").
+#[tactic(auto, using(crate::proofs::CloseLemmas::closed_is))]
+pub fn close(
+    alloc: Global,
+    kind: &Kind,
+    inside: &Inside,
+    at: &Indexes,
+    decision: &Decision,
+    count: u64,
+    verdict: Option<&Verdict>,
+    rows: &Rows<Row>,
+) -> Result<Done, AllocError>
+    requires inside { inside_tree inside.now ≡ inside_of (kind_tree kind.now) }
+    requires judged { AreJudged (kind_tree kind.now) }
+    requires count { count < 2 ^ 63 }
+    ensures { IfOk result (λ d. done_tree d ≡ closed (kind_tree kind.now) at.now (decision_tree decision.now) count
+        (option_map (λ v. verdict_tree v.now) verdict.entry) (rows_in row_content rows.now.0)) }
+{
+    close_by(alloc, kind, inside, at, decision, count, verdict, rows)
 }
