@@ -1,14 +1,14 @@
 -- What is there as an action is asked.
 use Rattle.std.proofs.Common.{◌≡◌, ℕ, List, Option, Some, None, inl, inr, refl, sym, ◌∙◌, subst, length}
 use Rattle.wf_layers.specs.Definition.{Need, Kind, Leaf, Scope, Choice, Foreach, Until, Graph, needs_of, kind_of}
-use Rattle.wf_layers.specs.Address.{Address, address, Table, SeenIn}
+use Rattle.wf_layers.specs.Address.{Address, address, SeenIn}
 use Rattle.wf_layers.specs.Source.{Source, SoundIn}
 use Rattle.wf_layers.specs.Meaning.{meaning}
 use Rattle.wf_layers.specs.Facts.{Facts, OpenFact}
 use Rattle.wf_layers.specs.Machine.{Running, Opening, State, IsContainer, MayTest, IsThere, IsDecided}
 use Rattle.wf_layers.specs.Variables.{SeenAreThere, SeenByTest, TestSees}
 use Rattle.wf_layers.proofs.Facts.{facts_of_states}
-use Rattle.wf_layers.proofs.Open.{Placed, open_sub, placed_in, kind_there, fact_of}
+use Rattle.wf_layers.proofs.Open.{open_sub, placed_in, kind_there, fact_of}
 use Rattle.wf_layers.proofs.OldTable.{any_facts, any_order}
 use Rattle.wf_layers.proofs.Tests.{tests_in_order}
 use Rattle.wf_layers.proofs.Variables.{variables_in_order}
@@ -65,7 +65,11 @@ module _ {Row Begun Decision Verdict : Type 0} (d : Graph) (depth : ℕ → ℕ)
 
   pub running_stands : (x : Address) (w : Running Begun) → s.running x ≡ Some w
       → ((after : List Need) × IsThere d m s x.name x.at after Leaf) × (s.rows x ≡ None) × (s.opens x ≡ None)
-  running_stands x w e = ((th.0, subst (λ z. IsThere d m s x.name x.at th.0 z) is_leaf th.2), k.busy.no_row x (inl (w, e)), closed (s.opens x) refl)
+  running_stands x w e = (
+    (th.0, subst (λ z. IsThere d m s x.name x.at th.0 z) is_leaf th.2),
+    k.busy.no_row x (inl (w, e)),
+    closed (s.opens x) refl,
+  )
     where
       k : Known d depth m s
       k = known d depth m s reached

@@ -1,6 +1,6 @@
 -- What is known of a reached state, however its run began.
 use Rattle.std.proofs.Common.{◌≡◌, ℕ, suc, List, [], ◌∷◌, ◌++◌, length, ap, refl, arith}
-use Rattle.wf_layers.specs.Definition.{Graph, Closed}
+use Rattle.wf_layers.specs.Definition.{Graph, Closed, IsDepth}
 use Rattle.wf_layers.specs.Address.{SeenIn}
 use Rattle.wf_layers.specs.Source.{Source, Sound}
 use Rattle.wf_layers.specs.Rule.{Obeys}
@@ -26,6 +26,7 @@ pub record Known {Row Begun Decision Verdict : Type 0} (d : Graph) (depth : ℕ 
   pub so : Sound m (SeenIn d) d 0
   pub sol : Obeys m d (meaning m depth d)
   pub own_graph : Closed d d
+  pub falls : IsDepth d depth
   pub closed : IsClosed m d so (meaning m depth d) sol
   pub out : SpecialOut m d so (meaning m depth d) sol
   pub keeps : Keeps m d so (meaning m depth d) sol s
@@ -42,6 +43,7 @@ module _ {Row Begun Decision Verdict : Type 0} (d : Graph) (depth : ℕ → ℕ)
     so = is.local;
     sol = sol_of d m depth is;
     own_graph = is.closed;
+    falls = is.falls;
     closed = closed_is m d is.local (meaning m depth d) (sol_of d m depth is) is.closed;
     out = nothing_special d m depth is;
     keeps = kept_state d m depth is es s run;
@@ -52,6 +54,7 @@ module _ {Row Begun Decision Verdict : Type 0} (d : Graph) (depth : ℕ → ℕ)
     so = old_sound a b redo again d depth falls sb r recall old;
     sol = old_solves a b redo again d depth falls sb r recall old;
     own_graph = closed;
+    falls = falls;
     closed = old_closed a b redo again d depth falls sb r recall old closed;
     out = old_out a b redo again d depth falls sb r recall old;
     keeps = any_keeps a b redo again d depth falls sb r recall old closed es s run;

@@ -8,3 +8,4 @@ pub mod Quiet
 pub mod Informed
 pub mod Stored
 pub mod Taken
+pub mod OneWay

@@ -17,6 +17,9 @@ use Rattle.wf_layers.proofs.Store.{stores_run, store_holds}
 use Rattle.wf_kept.specs.Reached.{IsReached}
 use Rattle.wf_kept.specs.Reached as reached
 use Rattle.wf_kept.specs.Stored.{IsStored, begun, resumed, MayRead}
+use Rattle.wf_kept.proofs.Followers.{once_sound}
+use Rattle.wf_kept.proofs.Known.{known}
+use Rattle.wf_kept.proofs.OneWay.{last_is_one}
 use Rattle.wf_kept.proofs.Informed.{decided_sees, running_sees, test_sees}
 
 module _ {Row Begun Decision Verdict Value : Type 0} (d : Graph) (depth : ℕ → ℕ) where
@@ -106,3 +109,9 @@ module _ {Row Begun Decision Verdict Value : Type 0} (d : Graph) (depth : ℕ �
     store_tested n i after most g w j th e mt may =
         seen_alike s.rows (meaning m depth d) (SeenByTest d n i g j) v (test_sees d depth m s is_reached n i after most g w j th e mt)
         ((holds d depth m writes order s v stored).2 n i after most g w j th e mt (has_order n (Until most g) i may))
+
+    pub store_is_one : (u : Option Value) → IsStored d depth m writes s u → v ≡ u
+    store_is_one u other =
+        let k = known d depth m s is_reached in
+        last_is_one d depth m writes (once_sound m d d 0 k.so) k.falls s.rows v u store_is_written
+        (holds d depth m writes order s u other).0

@@ -8,10 +8,10 @@
 //! say, of each kind of event and whatever the source of answers is, what an engine has to change so that all of it is that of the next
 //! state. They hold of each state that is reached (`specs/Reached`), by a run that begins or by one that goes on from an old record.
 //!
-//! Further laws say what an engine owes to those who answer for the actions, as it asks them. What an action sees is there as the definition
-//! means it; what open containers keep is what they would decide by the rows that are there; and a store that each writer of a variable
-//! overwrites (`specs/Stored`) holds what the last writer that the action sees wrote. And the events that a state has taken
-//! (`specs/Taken`) are few by the cost of what is in it, so that an engine that bounds the one bounds the other.
+//! Further laws say what an engine owes as it asks what an action does. What the action sees is there as the definition means it; what open
+//! containers keep is what they would decide by the rows that are there; and a store that each writer of a variable overwrites
+//! (`specs/Stored`) holds what the last writer that the action sees wrote. And the events that a state has taken (`specs/Taken`) are few by
+//! the cost of what is in it, so that an engine that bounds this cost bounds its steps.
 //!
 //! It has no code. Each public function has an empty body, and its contract is a law. How an engine keeps its counts, and that it changes
 //! them as said here, is the engine's part.
@@ -208,6 +208,13 @@ pub fn stores_hold_the_last<Row, Begun, Decision, Verdict, Value>()
         → IsStored d depth m writes s v → (n : ℕ) (i : List ℕ) (after : List Need) (most : ℕ) (g : Graph) (w : Opening Decision Verdict)
         (j : ℕ) → IsThere d m s n i after (Until most g) → s.opens (address n i) ≡ Some w → MayTest m (Until most g) i w s.rows j
         → MayRead d writes n (Until most g) i → IsLastSeen d m writes s.rows (SeenByTest d n i g j) v }
+{}
+
+/// And two stores of one state hold the same, whatever list of events each has: so a store belongs to its state.
+pub fn stores_are_one<Row, Begun, Decision, Verdict, Value>()
+    ensures { (d : Graph) (depth : ℕ → ℕ) (m : Source Row Begun Decision Verdict) (writes : Address → Row → Option Value)
+        → OneOrder d m writes (meaning m depth d) → (s : State Row Begun Decision Verdict) (v u : Option Value)
+        → IsStored d depth m writes s v → IsStored d depth m writes s u → v ≡ u }
 {}
 
 /// The events that a state has taken are as many as each run to it has; and a step takes one more.
