@@ -10,8 +10,9 @@ use Rattle.wf_layers.proofs.Basics.{two, either, or_first, or_second, same_self,
 use Rattle.wf_def.specs.ActionTree.{ActionTree, action_kind, action_number, ActionTrees}
 use Rattle.wf_def.specs.AllActions.{all_actions, has_number}
 use Rattle.wf_def.specs.Layered.{layered, layered_kind}
-use Rattle.wf_plan.specs.Exact.{HasEntry, IsExact, is_among}
-use Rattle.wf_plan.specs.Plan.{EntryTree, entry_for, entry_of, followers_of, holder_of, holds_directly, needs}
+use Rattle.wf_asks.specs.Known.{is_among}
+use Rattle.wf_plan.specs.Exact.{HasEntry, IsExact}
+use Rattle.wf_plan.specs.Plan.{EntryTree, entry_for, entry_of, followers_of, holder_of, holds_directly, needs, shown}
 use Rattle.wf_plan.proofs.NumberLemmas.{IsHad, all_had}
 
 some_is : {A : Type 0} {u v : A} → Some u ≡ Some v → u ≡ v
@@ -78,6 +79,7 @@ module _ (d : Graph) where
             of_kind = ap (kind_of d) at ∙ had.0.0;
             after = ap (λ (z : EntryTree). z.after) (sym it) ∙ sym (ap (needs_of d) at ∙ had.0.1);
             shape = ap (λ (z : EntryTree). z.shape) (sym it);
+            block = ap (λ (z : EntryTree). z.block) (sym it) ∙ ap (λ x. x ∷ shown (layered_kind (action_kind a))) (sym at);
           })
           (λ u. go bs had.1 (sym (ap (option_map entry_of) (unless (has_number n a) (Some a) (find (has_number n) bs) u)) ∙ e'))
           (two (has_number n a))

@@ -1,6 +1,9 @@
+pub mod BlockLemmas
 pub mod ExactLemmas
+pub mod GraphLemmas
 pub mod NumberLemmas
 pub mod OnceLemmas
+pub mod PlanOfLemmas
 pub mod PlanRows
 pub mod ShapeLemmas
 pub mod TableLemmas

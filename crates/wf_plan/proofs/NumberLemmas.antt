@@ -19,7 +19,7 @@ not_first : (rest : Branches) (x : ℕ) (b : Graph) → has_any rest x ≡ true 
     → has b x ≡ false
 not_first rest x b there apart = not_true (has b x) (λ t. true≢false (sym there ∙ apart x t))
 
-neither : (a b : Bool) → (a || b) ≡ false → (a ≡ false) × (b ≡ false)
+pub neither : (a b : Bool) → (a || b) ≡ false → (a ≡ false) × (b ≡ false)
 neither true b e = absurd (true≢false e)
 neither false b e = (refl, e)
 

@@ -9,7 +9,7 @@ use Rattle.wf_layers.proofs.Basics.{either, not_true, or_first, or_second, same_
 use Rattle.wf_def.specs.ActionTree.{ActionTree, action, action_number, KindTree, compose, connector, wait, response, terminate, select, query, join, parse_json, initialize, set_to, increment, decrement, append_array, append_string, scope, branch, switch, switch_else, foreach, until, ActionTrees, no_actions, action_then, CaseTrees, no_cases, case_then}
 use Rattle.wf_def.specs.AllActions.{all_actions, cases_actions, kind_actions}
 use Rattle.wf_def.specs.Layered.{layered, layered_cases, layered_kind}
-use Rattle.wf_plan.specs.Exact.{is_among}
+use Rattle.wf_asks.specs.Known.{is_among}
 use Rattle.wf_plan.specs.Once.{AreApart, AreDistinct, NamesOnce, StandOnce, has_one}
 use Rattle.wf_plan.specs.Plan.{followers_of, needs}
 use Rattle.wf_plan.proofs.ExactLemmas.{among_or, among_same}

@@ -14,7 +14,7 @@ use Rattle.wf_def.specs.declared.graph.Kind.TheVariants.{rolls-If, rolls-Switch}
 use Rattle.wf_def.proofs.SizeLemmas.{case_tree-is}
 use Rattle.wf_template.specs.declared.cond.Cond.{Cond}
 use Rattle.wf_template.specs.declared.template.Template.{Template}
-use Rattle.wf_plan.specs.Plan.{branch_numbers, case_numbers, choice, default_numbers, own_numbers, shape_of}
+use Rattle.wf_plan.specs.Plan.{branch_of, branches_of, case_branches, choice, default_branch, own_numbers, shape_of}
 
 -- what an action stands for, by its fields
 pub action_tree-is : (a : Action) → action_tree a
@@ -29,16 +29,16 @@ own_next a rest = ap (λ t. own_numbers (layered (action_then t rest))) (action_
 
 -- a case, and those behind it
 pub case_next : (c : Case) (cs : List CaseTree)
-    → case_numbers (case_trees (case_tree c ∷ cs)) ≡ own_numbers (layered (graph_tree (out-Case c).graph)) ∷ case_numbers (case_trees cs)
-case_next c cs = ap (λ (z : CaseTree). own_numbers (layered z.1.1) ∷ case_numbers (case_trees cs)) (case_tree-is c)
+    → case_branches (case_trees (case_tree c ∷ cs)) ≡ branch_of (layered (graph_tree (out-Case c).graph)) ∷ case_branches (case_trees cs)
+case_next c cs = ap (λ (z : CaseTree). branch_of (layered z.1.1) ∷ case_branches (case_trees cs)) (case_tree-is c)
 
 -- the cases, and what is behind them
-branches_then : (cs : CaseTrees) (last : layers.Branches) → branch_numbers (layered_cases cs last) ≡ case_numbers cs ++ branch_numbers last
+branches_then : (cs : CaseTrees) (last : layers.Branches) → branches_of (layered_cases cs last) ≡ case_branches cs ++ branches_of last
 branches_then no_cases last = refl
-branches_then (case_then name value graph rest) last = ap (λ bs. own_numbers (layered graph) ∷ bs) (branches_then rest last)
+branches_then (case_then name value graph rest) last = ap (λ bs. branch_of (layered graph) ∷ bs) (branches_then rest last)
 
 pub if_shape : (test : Cond) (yes' no' : Graph) → shape_of (layered_kind (kind_tree (kinds.If test yes' no')))
-    ≡ choice (own_numbers (layered (graph_tree yes')) ∷ own_numbers (layered (graph_tree no')) ∷ [])
+    ≡ choice (branch_of (layered (graph_tree yes')) ∷ branch_of (layered (graph_tree no')) ∷ [])
 if_shape test yes' no' = ap shape_of seen
   where
     seen : layered_kind (kind_tree (kinds.If test yes' no'))
@@ -47,7 +47,7 @@ if_shape test yes' no' = ap shape_of seen
 
 pub switch_shape : (on : Template) (cases : Cases) (default : Option Graph)
     → shape_of (layered_kind (kind_tree (kinds.Switch on cases default)))
-    ≡ choice (case_numbers (case_trees (cases_seen cases)) ++ default_numbers (option_map graph_tree default) ∷ [])
+    ≡ choice (case_branches (case_trees (cases_seen cases)) ++ default_branch (option_map graph_tree default) ∷ [])
 switch_shape on cases None =
     ap shape_of seen ∙ ap choice (branches_then (case_trees (cases_seen cases)) (layers.branch layers.done layers.no_branch))
   where

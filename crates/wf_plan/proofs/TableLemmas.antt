@@ -11,9 +11,9 @@ use Rattle.wf_def.specs.ActionTree.{ActionTree, ActionTrees, action_after, actio
 use Rattle.wf_def.specs.AllActions.{all_actions, has_number}
 use Rattle.wf_def.specs.Layered.{layered, layered_kind, need_of}
 use Rattle.wf_def.specs.declared.after.After.{After}
-use Rattle.wf_plan.specs.Plan.{EntryTree, PlanTree, branch_numbers, entry_for, entry_of, followers_of, holder_of, holds_directly, needs, own_numbers, plan_of, shape_of, tabled}
+use Rattle.wf_plan.specs.Plan.{EntryTree, PlanTree, branches_of, entry_for, entry_of, followers_of, holder_of, holds_directly, needs, own_numbers, plan_of, shape_of, tabled}
 use Rattle.wf_plan.specs.PlanSeen.{entries_seen, entry_tree, lists_of}
-use Rattle.wf_plan.specs.Walk.{add_at, added, all_added, all_entered, all_held, all_numbers, edit_at, held, is_free, numbers_in, or_this, take_place}
+use Rattle.wf_plan.specs.Walk.{add_at, added, all_added, all_entered, all_held, all_own, edit_at, held, is_free, numbers_in, or_this, take_place}
 use Rattle.wf_plan.specs.declared.plan.Entry.{Entry}
 
 -- ---- tables
@@ -131,10 +131,10 @@ among_own : (g : Graph) (m : ℕ) → among (own_numbers g) m ≡ has_own g m
 among_own done m = refl
 among_own (add n after kind rest) m = ap (λ z. nat_eq n m || z) (among_own rest m)
 
-among_branches : (bs : Branches) (m : ℕ) → among (all_numbers (branch_numbers bs)) m ≡ owns_any bs m
+among_branches : (bs : Branches) (m : ℕ) → among (all_own (branches_of bs)) m ≡ owns_any bs m
 among_branches no_branch m = refl
 among_branches (branch b rest) m =
-    among_both (own_numbers b) (all_numbers (branch_numbers rest)) m ∙ ap₂ (λ x y. x || y) (among_own b m) (among_branches rest m)
+    among_both (own_numbers b) (all_own (branches_of rest)) m ∙ ap₂ (λ x y. x || y) (among_own b m) (among_branches rest m)
 
 among_shape : (kind : Kind) (m : ℕ) → among (numbers_in (shape_of kind)) m ≡ owns (Some kind) m
 among_shape Leaf m = refl

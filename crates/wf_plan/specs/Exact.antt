@@ -1,14 +1,11 @@
 -- WHAT A PLAN HAS, in the words of the laws of order.
-use Rattle.std.specs.Prelude.{◌≡◌, ℕ, Bool, true, false, ◌||◌, List, [], ◌∷◌, Some, None, nat_eq}
+use Rattle.std.specs.Prelude.{◌≡◌, ℕ, true, false, List, ◌∷◌, Some, None}
 use Rattle.std.specs.List.{AllByRecursion}
 use Rattle.wf_layers.specs.Changes.{is_named, owns}
 use Rattle.wf_layers.specs.Definition.{Graph, Kind, kind_of, needs_of}
 use Rattle.wf_def.specs.ActionTree.{ActionTree, action_number}
-use Rattle.wf_plan.specs.Plan.{EntryTree, entry_for, followers_of, holder_of, shape_of}
-
-abbrev pub is_among : ℕ → List ℕ → Bool
-is_among q [] = false
-is_among q (n ∷ ns) = nat_eq n q || is_among q ns
+use Rattle.wf_asks.specs.Known.{is_among}
+use Rattle.wf_plan.specs.Plan.{EntryTree, entry_for, followers_of, holder_of, shape_of, shown}
 
 module _ (d : Graph) (as' : List ActionTree) where
   -- the entry of a number is that of the graph's action
@@ -17,6 +14,7 @@ module _ (d : Graph) (as' : List ActionTree) where
     pub of_kind : kind_of d n ≡ Some kind
     pub after : e.after ≡ needs_of d n
     pub shape : e.shape ≡ shape_of kind
+    pub block : e.block ≡ n ∷ shown kind
 
   pub record IsExact : Type 0 where
     pub entries : (n : ℕ) (e : EntryTree) → entry_for as' n ≡ Some e → HasEntry n e

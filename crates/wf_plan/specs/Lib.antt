@@ -3,3 +3,4 @@ pub mod PlanSeen
 pub mod Walk
 pub mod Exact
 pub mod Once
+pub mod PlanOf

@@ -4,7 +4,7 @@ use Rattle.std.specs.List.{AllByRecursion}
 use Rattle.wf_layers.specs.Waiting.{times}
 use Rattle.wf_def.specs.ActionTree.{ActionTree, action_number, ActionTrees}
 use Rattle.wf_def.specs.AllActions.{all_actions}
-use Rattle.wf_plan.specs.Exact.{is_among}
+use Rattle.wf_asks.specs.Known.{is_among}
 use Rattle.wf_plan.specs.Plan.{followers_of, needs}
 
 -- each number once

@@ -1,5 +1,5 @@
 -- WHAT A PLAN HAS of a definition, by the list of all its actions.
-use Rattle.std.specs.Prelude.{ℕ, zero, suc, Bool, List, [], ◌∷◌, ◌++◌, Option, Some, None, map, option_map, length, replicate}
+use Rattle.std.specs.Prelude.{ℕ, zero, suc, Bool, List, [], ◌∷◌, ◌++◌, cond, Option, Some, None, map, option_map, length, replicate}
 use Rattle.std.specs.List.{find}
 use Rattle.wf_layers.specs.Changes.{owns}
 use Rattle.wf_layers.specs.Definition as layers
@@ -10,37 +10,86 @@ use Rattle.wf_def.specs.Layered.{layered, layered_kind, need_of}
 
 -- ---- the graphs that an action holds
 
--- each as the numbers of its actions, in their order
-pub data ShapeTree : Type 0 where
-  leaf : ShapeTree
-  scope : List ℕ → ShapeTree
-  choice : List (List ℕ) → ShapeTree
-  foreach : layers.Pace → List ℕ → ShapeTree
-  until : (most : ℕ) → List ℕ → ShapeTree
-
 abbrev pub own_numbers : layers.Graph → List ℕ
 own_numbers layers.done = []
 own_numbers (layers.add n after kind rest) = n ∷ own_numbers rest
 
-abbrev pub branch_numbers : layers.Branches → List (List ℕ)
-branch_numbers layers.no_branch = []
-branch_numbers (layers.branch b rest) = own_numbers b ∷ branch_numbers rest
+-- all that stand in a container in no loop there, an action before those inside it: what gets rows with it, where it doesn't run
+abbrev mutual
+  pub shown : layers.Kind → List ℕ
+  shown layers.Leaf = []
+  shown (layers.Scope g) = shown_in g
+  shown (layers.Choice bs) = shown_any bs
+  shown (layers.Foreach pace g) = []
+  shown (layers.Until most g) = []
+
+  pub shown_any : layers.Branches → List ℕ
+  shown_any layers.no_branch = []
+  shown_any (layers.branch b rest) = shown_in b ++ shown_any rest
+
+  pub shown_in : layers.Graph → List ℕ
+  shown_in layers.done = []
+  shown_in (layers.add n after kind rest) = n ∷ (shown kind ++ shown_in rest)
+
+-- a branch: its own actions, and all that stand in it in no loop there
+pub record BranchTree : Type 0 where
+  pub own : List ℕ
+  pub all : List ℕ
+
+-- each graph as the numbers of its actions, in their order
+pub data ShapeTree : Type 0 where
+  leaf : ShapeTree
+  scope : List ℕ → ShapeTree
+  choice : List BranchTree → ShapeTree
+  foreach : layers.Pace → List ℕ → ShapeTree
+  until : (most : ℕ) → List ℕ → ShapeTree
+
+abbrev pub branch_of : layers.Graph → BranchTree
+branch_of g = record { own = own_numbers g; all = shown_in g }
+
+abbrev pub branches_of : layers.Branches → List BranchTree
+branches_of layers.no_branch = []
+branches_of (layers.branch b rest) = branch_of b ∷ branches_of rest
 
 abbrev pub shape_of : layers.Kind → ShapeTree
 shape_of layers.Leaf = leaf
 shape_of (layers.Scope g) = scope (own_numbers g)
-shape_of (layers.Choice bs) = choice (branch_numbers bs)
+shape_of (layers.Choice bs) = choice (branches_of bs)
 shape_of (layers.Foreach pace g) = foreach pace (own_numbers g)
 shape_of (layers.Until most g) = until most (own_numbers g)
 
 -- the cases of a Switch, and its default
-abbrev pub case_numbers : CaseTrees → List (List ℕ)
-case_numbers no_cases = []
-case_numbers (case_then name value graph rest) = own_numbers (layered graph) ∷ case_numbers rest
+abbrev pub case_branches : CaseTrees → List BranchTree
+case_branches no_cases = []
+case_branches (case_then name value graph rest) = branch_of (layered graph) ∷ case_branches rest
 
-abbrev pub default_numbers : Option ActionTrees → List ℕ
-default_numbers None = []
-default_numbers (Some graph) = own_numbers (layered graph)
+abbrev pub default_branch : Option ActionTrees → BranchTree
+default_branch None = record { own = []; all = [] }
+default_branch (Some graph) = branch_of (layered graph)
+
+-- the branch of this number, counted from 1
+abbrev pub taken_at : List BranchTree → ℕ → Option BranchTree
+taken_at [] c = None
+taken_at (b ∷ bs) c = cond (layers.is_one c) (Some b) (taken_at bs (layers.less_one c))
+
+abbrev pub taken_of : ShapeTree → ℕ → Option BranchTree
+taken_of (choice bs) c = taken_at bs c
+taken_of leaf c = None
+taken_of (scope ns) c = None
+taken_of (foreach pace ns) c = None
+taken_of (until most ns) c = None
+
+-- What is passed over where the branch of this number is taken, counted from 1: all other branches; another number takes none.
+abbrev pub passed_but : List BranchTree → ℕ → List ℕ
+passed_but [] c = []
+passed_but (b ∷ bs) c = cond (layers.is_one c) [] b.all ++ passed_but bs (layers.less_one c)
+
+abbrev pub passed_over : ShapeTree → ℕ → List ℕ
+passed_over (choice bs) c = passed_but bs c
+passed_over leaf c = []
+passed_over (scope ns) c = []
+passed_over (foreach pace ns) c = []
+passed_over (until most ns) c = []
 
 -- ---- what it waits for, who waits for it, and what holds it
 
@@ -61,13 +110,18 @@ holder_of as' n = option_map action_number (find (holds_directly n) as')
 
 -- ---- the plan
 
--- what an action waits for, and which graphs it holds
+-- what an action waits for, which graphs it holds, and which actions get rows with it, where it doesn't run
 pub record EntryTree : Type 0 where
   pub after : List layers.Need
   pub shape : ShapeTree
+  pub block : List ℕ
 
 abbrev pub entry_of : ActionTree → EntryTree
-entry_of a = record { after = needs a; shape = shape_of (layered_kind (action_kind a)) }
+entry_of a = record {
+  after = needs a;
+  shape = shape_of (layered_kind (action_kind a));
+  block = action_number a ∷ shown (layered_kind (action_kind a));
+}
 
 -- by the number of an action: where several have it, of the first
 abbrev pub entry_for : List ActionTree → ℕ → Option EntryTree

@@ -3,19 +3,26 @@ use Rattle.std.specs.Prelude.{ℕ, List, [], Option, Some, None, map, option_map
 use Rattle.std.specs.Global.{Vec}
 use Rattle.wf_layers.specs.Definition.{Need}
 use Rattle.wf_def.specs.Layered.{listed_of, pace}
-use Rattle.wf_plan.specs.Plan.{EntryTree, PlanTree, ShapeTree, leaf, scope, choice, foreach, until}
+use Rattle.wf_plan.specs.Plan.{BranchTree, EntryTree, PlanTree, ShapeTree, leaf, scope, choice, foreach, until}
 use Rattle.wf_plan.specs.declared.plan.Entry.{Entry}
 use Rattle.wf_plan.specs.declared.plan.Plan.{Plan}
 use Rattle.wf_plan.specs.declared.plan.Wait.{Wait}
+use Rattle.wf_plan.specs.declared.shape.Branch.{Branch}
 use Rattle.wf_plan.specs.declared.shape.Shape.{Shape}
 
 abbrev pub lists_of : List (Vec ℕ) → List (List ℕ)
 lists_of vs = map (λ v. v.items) vs
 
+abbrev pub branch_tree : Branch → BranchTree
+branch_tree b = record { own = b.own.items; all = b.all.items }
+
+abbrev pub branches_seen : List Branch → List BranchTree
+branches_seen bs = map branch_tree bs
+
 abbrev pub shape_tree : Shape → ShapeTree
 shape_tree Shape.Leaf = leaf
 shape_tree (Shape.Scope g) = scope g.items
-shape_tree (Shape.Choice bs) = choice (lists_of bs.items)
+shape_tree (Shape.Choice bs) = choice (branches_seen bs.items)
 shape_tree (Shape.Foreach repetitions g) = foreach (pace repetitions) g.items
 shape_tree (Shape.Until count g) = until count g.items
 
@@ -23,7 +30,7 @@ abbrev pub wait_need : Wait → Need
 wait_need w = record { name = w.number; listed = listed_of w.statuses }
 
 abbrev pub entry_tree : Entry → EntryTree
-entry_tree e = record { after = map wait_need e.after.items; shape = shape_tree e.shape }
+entry_tree e = record { after = map wait_need e.after.items; shape = shape_tree e.shape; block = e.block.items }
 
 abbrev pub entries_seen : List (Option Entry) → List (Option EntryTree)
 entries_seen es = map (option_map entry_tree) es

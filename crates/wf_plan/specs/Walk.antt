@@ -1,8 +1,11 @@
 -- The tables of a plan as a walk over all actions fills them.
 use Rattle.std.specs.Prelude.{ℕ, zero, suc, Bool, true, false, List, [], ◌∷◌, ◌++◌, Option, Some, None, map}
-use Rattle.wf_def.specs.ActionTree.{ActionTree, action_after, action_kind, action_number}
+use Rattle.wf_def.specs.ActionTree.{ActionTree, action, action_after, action_kind, action_number, KindTree, compose, connector, wait, response, terminate}
+use Rattle.wf_def.specs.ActionTree.{select, query, join, parse_json, initialize, set_to, increment, decrement, append_array, append_string}
+use Rattle.wf_def.specs.ActionTree.{branch, switch, switch_else, ActionTrees, no_actions, action_then, CaseTrees, no_cases, case_then}
+use Rattle.wf_def.specs.ActionTree as trees
 use Rattle.wf_def.specs.Layered.{layered_kind}
-use Rattle.wf_plan.specs.Plan.{EntryTree, ShapeTree, leaf, scope, choice, foreach, until, entry_of, shape_of}
+use Rattle.wf_plan.specs.Plan.{BranchTree, EntryTree, ShapeTree, leaf, scope, choice, foreach, until, entry_of, shape_of}
 
 -- a table with another item at a place
 abbrev pub edit_at : {A : Type 0} → List A → ℕ → (A → A) → List A
@@ -43,18 +46,55 @@ abbrev pub held : List (Option ℕ) → List ℕ → ℕ → List (Option ℕ)
 held table [] n = table
 held table (place ∷ places) n = held (take_place table place n) places n
 
-abbrev pub all_numbers : List (List ℕ) → List ℕ
-all_numbers [] = []
-all_numbers (ns ∷ more) = ns ++ all_numbers more
+abbrev pub all_own : List BranchTree → List ℕ
+all_own [] = []
+all_own (b ∷ bs) = b.own ++ all_own bs
 
 -- the actions that stand in a graph of the shape
 abbrev pub numbers_in : ShapeTree → List ℕ
 numbers_in leaf = []
 numbers_in (scope ns) = ns
-numbers_in (choice bs) = all_numbers bs
+numbers_in (choice bs) = all_own bs
 numbers_in (foreach pace ns) = ns
 numbers_in (until most ns) = ns
 
 abbrev pub all_held : List (Option ℕ) → List ActionTree → List (Option ℕ)
 all_held table [] = table
 all_held table (a ∷ as') = all_held (held table (numbers_in (shape_of (layered_kind (action_kind a)))) (action_number a)) as'
+
+-- The actions of a tree that stand in no loop there, an action before those inside it.
+abbrev mutual
+  pub block_in : ActionTrees → List ℕ
+  block_in no_actions = []
+  block_in (action_then (action name number pointer after kind tracked) rest) = number ∷ (block_inside kind ++ block_in rest)
+
+  pub block_inside : KindTree → List ℕ
+  block_inside (compose inputs) = []
+  block_inside (connector inputs policy) = []
+  block_inside (wait inputs) = []
+  block_inside (response inputs) = []
+  block_inside (terminate inputs) = []
+  block_inside (select from item) = []
+  block_inside (query from filter) = []
+  block_inside (join from with') = []
+  block_inside (parse_json content schema) = []
+  block_inside (initialize variables) = []
+  block_inside (set_to name value) = []
+  block_inside (increment name value) = []
+  block_inside (decrement name value) = []
+  block_inside (append_array name value) = []
+  block_inside (append_string name value) = []
+  block_inside (trees.scope graph) = block_in graph
+  block_inside (branch test yes' no') = block_in yes' ++ block_in no'
+  block_inside (switch on cases) = block_cases cases
+  block_inside (switch_else on cases default) = block_cases cases ++ block_in default
+  block_inside (trees.foreach items repetitions graph) = []
+  block_inside (trees.until test count fails graph) = []
+
+  pub block_cases : CaseTrees → List ℕ
+  block_cases no_cases = []
+  block_cases (case_then name value graph rest) = block_in graph ++ block_cases rest
+
+-- an action, and those
+abbrev pub block_of : ActionTree → List ℕ
+block_of (action name number pointer after kind tracked) = number ∷ block_inside kind

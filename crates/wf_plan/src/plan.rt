@@ -6,6 +6,7 @@ ghost use Rattle.wf_plan.specs.Plan.{entry_of, plan_of};
 ghost use Rattle.wf_plan.specs.PlanSeen.{at_place, entries_seen, entry_tree, list_at, lists_of, plan_tree, wait_need};
 ghost use Rattle.wf_plan.specs.Walk.{all_added, all_entered, all_held};
 
+use crate::block::block_of;
 use crate::shape::{Shape, numbers_of, shape_of};
 use crate::tables::{add_entries, hold_all, take_place};
 use std::alloc::{AllocError, Global};
@@ -23,6 +24,8 @@ pub struct Wait {
 pub struct Entry {
     pub after: Vec<Wait>,
     pub shape: Shape,
+    /// The action and all inside it that stand in no loop there: those that get rows together where it doesn't run.
+    pub block: Vec<u32>,
 }
 
 /// The actions of a definition by their numbers.
@@ -53,6 +56,7 @@ fn entry_of(alloc: Global, action: &Action) -> Result<Entry, AllocError>
     Ok(Entry {
         after: waits_of(alloc, &action.after)?,
         shape: shape_of(alloc, &action.kind)?,
+        block: block_of(alloc, action)?,
     })
 }
 
@@ -133,7 +137,7 @@ impl Plan {
         &self.top
     }
 
-    /// What an action waits for, and which graphs it holds.
+    /// What an action waits for, which graphs it holds, and which actions get rows with it.
     pub fn entry(&self, action: u32) -> Option<&Entry>
         ensures { option_map (λ e. entry_tree e.now) result ≡ at_place (plan_tree self.now).entries action }
     {

@@ -1,9 +1,9 @@
 //! Tables by the numbers of actions, as they are filled.
 ghost use Rattle.std.specs.Prelude.{◌≡◌, ◌<◌, ◌∷◌, ◌++◌, [], OnOk, length, map, slice_get};
-ghost use Rattle.wf_plan.specs.PlanSeen.{lists_of, shape_tree};
-ghost use Rattle.wf_plan.specs.Walk.{add_at, added, all_numbers, held, is_free, numbers_in, take_place};
+ghost use Rattle.wf_plan.specs.PlanSeen.{branches_seen, lists_of, shape_tree};
+ghost use Rattle.wf_plan.specs.Walk.{add_at, added, all_own, held, is_free, numbers_in, take_place};
 
-use crate::shape::Shape;
+use crate::shape::{Branch, Shape};
 use std::alloc::AllocError;
 use wf_def::Afters;
 
@@ -71,11 +71,11 @@ fn hold(table: &mut Vec<Option<u32>>, numbers: &[u32], holder: u32)
     }
 }
 
-fn hold_branches(table: &mut Vec<Option<u32>>, branches: &[Vec<u32>], holder: u32)
-    ensures { table.new.items ≡ held table.old.items (all_numbers (lists_of branches.now)) holder }
+fn hold_branches(table: &mut Vec<Option<u32>>, branches: &[Branch], holder: u32)
+    ensures { table.new.items ≡ held table.old.items (all_own (branches_seen branches.now)) holder }
 {
-    for numbers in branches {
-        hold(table, numbers, holder);
+    for branch in branches {
+        hold(table, &branch.own, holder);
     }
 }
 

@@ -1,9 +1,9 @@
 use Rattle.std.proofs.Common.{◌≡◌, drop}
-use Rattle.wf_plan.specs.PlanSeen.{lists_of}
-use Rattle.wf_plan.specs.Walk.{all_numbers, held}
+use Rattle.wf_plan.specs.PlanSeen.{branches_seen}
+use Rattle.wf_plan.specs.Walk.{all_own, held}
 use Rattle.wf_plan.proofs.tables.hold_branches.Given as goal
 
-abbrev pub invariant-loop-numbers : goal.invariant-loop-numbers
-invariant-loop-numbers l =
-    held l.table.items (all_numbers (lists_of (drop l.numbers-index l.branches))) l.holder
-    ≡ held l.fn.table.items (all_numbers (lists_of l.branches)) l.holder
+abbrev pub invariant-loop-branch : goal.invariant-loop-branch
+invariant-loop-branch l =
+    held l.table.items (all_own (branches_seen (drop l.branch-index l.branches))) l.holder
+    ≡ held l.fn.table.items (all_own (branches_seen l.branches)) l.holder
