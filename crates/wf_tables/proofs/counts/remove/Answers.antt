@@ -1,0 +1,9 @@
+use Rattle.std.proofs.Common.{ap, ◌∙◌}
+use Rattle.wf_tables.specs.Tables.{count_in}
+use Rattle.wf_tables.proofs.CountLemmas.{last_lowered}
+use Rattle.wf_tables.proofs.counts.remove.Goals as goal
+
+pub returns-clause-counts : goal.returns-clause-counts
+returns-clause-counts c x =
+    ap (λ xs. count_in xs x) c.take-removed.ensures.rest
+    ∙ last_lowered c.args.place.now c.args.counts.now.0 c.take-removed.ensures.in_order c.requires x
