@@ -137,3 +137,27 @@ module _ {Decision Verdict : Type 0} (k : Instance) (xs : List (OpenAt Decision 
           ∙ sym (found_is at_of seen k xs order None e x t))
           (λ u. unless (is_own k.action k.at x) None (table_of at_of seen xs x) u)
           (two (is_own k.action k.at x))
+
+-- ---- what is seen of decisions and tests
+
+module _ {Decision Verdict Decided Told : Type 0} (decided : Decision → Decided) (told : Verdict → Told) where
+  abbrev again : Opening Decision Verdict → Opening Decided Told
+  again w = record { decision = decided w.decision; next = w.next; test = option_map told w.test }
+
+  same_test : (t : Option Verdict) → option_map told t ≡ option_map told (option_map (λ v. v) t)
+  same_test None = refl
+  same_test (Some v) = refl
+
+  seen_again : (xs : List (OpenAt Decision Verdict)) (x : Address)
+      → opens_in decided told xs x ≡ option_map again (opens_in (λ d. d) (λ v. v) xs x)
+  seen_again xs x = go (find_key instance_cmp (λ (o : OpenAt Decision Verdict). o.instance) (instance_of x) xs)
+    where
+      go : (o : Option (OpenAt Decision Verdict))
+          → option_map (open_tree decided told) o ≡ option_map again (option_map (open_tree (λ d. d) (λ v. v)) o)
+      go None = refl
+      go (Some o) = ap (λ t. Some (record { decision = decided o.decision; next = o.next; test = t })) (same_test o.test)
+
+  -- where the containers are the same, what is seen of them is
+  pub opens_same : (xs ys : List (OpenAt Decision Verdict)) → opens_in (λ d. d) (λ v. v) xs ≡ opens_in (λ d. d) (λ v. v) ys
+      → opens_in decided told xs ≡ opens_in decided told ys
+  opens_same xs ys e = λ k x. (seen_again xs x ∙ ap (λ t. option_map again (t x)) e ∙ sym (seen_again ys x)) k
