@@ -27,8 +27,12 @@ owned_at : (m : ℕ) (after : List Need) (kind : Kind) (rest : Graph) (c n : ℕ
     → OwnedAt m kind rest c n
 owned_at m after kind rest c n h =
     ⊎_elim
-    (λ t. inl (eqb-true m c t, sym (ap (λ o. owns o n) (when (nat_eq m c) (Some kind) (cond (holds kind c) (kind_in kind c) (kind_of rest c)) t)) ∙ h))
-    (λ u. let h' = sym (ap (λ o. owns o n) (unless (nat_eq m c) (Some kind) (cond (holds kind c) (kind_in kind c) (kind_of rest c)) u)) ∙ h in
+    (λ t. inl (
+      eqb-true m c t,
+      sym (ap (λ o. owns o n) (when (nat_eq m c) (Some kind) (cond (holds kind c) (kind_in kind c) (kind_of rest c)) t)) ∙ h,
+    ))
+    (λ u. let h' = sym
+    (ap (λ o. owns o n) (unless (nat_eq m c) (Some kind) (cond (holds kind c) (kind_in kind c) (kind_of rest c)) u)) ∙ h in
     ⊎_elim
     (λ t. inr (inl (sym (ap (λ o. owns o n) (when (holds kind c) (kind_in kind c) (kind_of rest c) t)) ∙ h')))
     (λ v. inr (inr (sym (ap (λ o. owns o n) (unless (holds kind c) (kind_in kind c) (kind_of rest c) v)) ∙ h')))
@@ -147,7 +151,8 @@ mutual
       ⊎_elim
       (λ p. ⊎_elim
       (λ p'. sym p.0 ∙ p'.0)
-      (λ q'. ⊎_elim (λ i'. absurd (own_in_apart kind once.2 c n p.1 i')) (λ r'. absurd (off (owns_holds kind n p.1) (owned_of rest c n r'))) q')
+      (λ q'. ⊎_elim (λ i'. absurd (own_in_apart kind once.2 c n p.1 i'))
+      (λ r'. absurd (off (owns_holds kind n p.1) (owned_of rest c n r'))) q')
       (owned_at m after kind rest c n k))
       (λ q. ⊎_elim
       (λ i. ⊎_elim
@@ -215,7 +220,8 @@ mutual
   once_at done once n found e = absurd (none-some found e)
   once_at (add m after kind rest) once n found e =
       ⊎_elim
-      (λ t. let it : Some kind ≡ Some found = sym (when (nat_eq m n) (Some kind) (cond (holds kind n) (kind_in kind n) (kind_of rest n)) t) ∙ e in
+      (λ t. let it : Some kind ≡ Some found =
+      sym (when (nat_eq m n) (Some kind) (cond (holds kind n) (kind_in kind n) (kind_of rest n)) t) ∙ e in
       let is : kind ≡ found = cc (it) in
       subst (OnceFound n) is (once.2, subst (λ x. holds kind x ≡ false) (eqb-true m n t) once.0))
       (λ u. let e' = sym (unless (nat_eq m n) (Some kind) (cond (holds kind n) (kind_in kind n) (kind_of rest n)) u) ∙ e in

@@ -1,5 +1,5 @@
 -- The plan of a definition is one of its graph.
-use Rattle.std.proofs.Common.{◌≡◌, ℕ, zero, suc, ◌+◌, ◌<◌, ◌≤◌, Bool, true, false, ◌||◌, cond, List, [], ◌∷◌, ◌++◌, length, slice_get, Option, Some, None, ◌⊎◌, inl, inr, ⊎_elim, option_map, refl, sym, ap, ◌∙◌, subst, arith, nat_eq, eqb-true, true≢false}
+use Rattle.std.proofs.Common.{◌≡◌, ℕ, zero, suc, ◌+◌, ◌<◌, ◌≤◌, true, false, ◌||◌, List, [], ◌∷◌, ◌++◌, length, slice_get, Option, Some, None, ◌⊎◌, inl, inr, ⊎_elim, option_map, refl, sym, ap, ◌∙◌, subst, arith, nat_eq, eqb-true, true≢false}
 use Rattle.std.proofs.lemmas.Option.{none-some}
 use Rattle.std.specs.List.{AllByRecursion, find}
 use Rattle.wf_layers.specs.Changes.{is_named, owns}
@@ -13,9 +13,8 @@ use Rattle.wf_def.specs.AllActions.{all_actions, cases_actions, has_number, kind
 use Rattle.wf_def.specs.Layered.{layered, layered_cases, layered_kind}
 use Rattle.wf_asks.specs.Known.{is_among}
 use Rattle.wf_plan.specs.Exact.{HasEntry, IsExact}
-use Rattle.wf_plan.specs.Once.{AreDistinct, NamesOnce, StandOnce, has_one}
-use Rattle.wf_plan.specs.Plan.{EntryTree, choice, entry_for, entry_of, followers_of, holder_of, leaf, passed_over, plan_of, shape_of, shown, tabled}
-use Rattle.wf_plan.specs.Plan as plan
+use Rattle.wf_plan.specs.Once.{AreDistinct, NamesOnce, has_one}
+use Rattle.wf_plan.specs.Plan.{EntryTree, entry_for, entry_of, followers_of, holder_of, passed_over, plan_of, shape_of, shown, tabled}
 use Rattle.wf_plan.specs.PlanOf.{IsEntryOf, IsPlanOf, passes}
 use Rattle.wf_plan.specs.PlanSeen.{at_place, joined, list_at, or_none}
 use Rattle.wf_plan.proofs.ExactLemmas.{plans_are_exact}
@@ -105,7 +104,8 @@ found_one (a ∷ as') n h =
     ⊎_elim
     (λ t. (entry_of a, ap (option_map entry_of) (when (has_number n a) (Some a) (find (has_number n) as') t)))
     (λ u. let r = found_one as' n
-    (⊎_elim (λ t. absurd (true≢false (sym (flipped n (action_number a) ∙ t) ∙ u))) (λ t. t) (either (nat_eq (action_number a) n) (has_one as' n) h)) in
+    (⊎_elim (λ t. absurd (true≢false (sym (flipped n (action_number a) ∙ t) ∙ u))) (λ t. t)
+    (either (nat_eq (action_number a) n) (has_one as' n) h)) in
     (r.0, ap (option_map entry_of) (unless (has_number n a) (Some a) (find (has_number n) as') u) ∙ r.1))
     (two (has_number n a))
 
@@ -168,7 +168,8 @@ entry_is d once as' n kind e is entry =
 
 -- ---- the plan
 
-module _ (graph : ActionTrees) (once : Once (layered graph)) (below : (n : ℕ) → has (layered graph) n ≡ true → n < length (all_actions graph))
+module _ (graph : ActionTrees) (once : Once (layered graph))
+    (below : (n : ℕ) → has (layered graph) n ≡ true → n < length (all_actions graph))
     (names : AllByRecursion NamesOnce (all_actions graph)) where
   abbrev d : Graph
   d = layered graph

@@ -42,7 +42,11 @@ module _ (test : CondTree) (items : DataTree) where
   branches own all = record { own = own; all = all } ∷ record { own = []; all = [] } ∷ []
 
   if_has_branches : entry_for all 1
-      ≡ Some (record { after = record { name = 0; listed = listed } ∷ []; shape = plan.choice (branches (2 ∷ 3 ∷ []) (2 ∷ 3 ∷ [])); block = 1 ∷ 2 ∷ 3 ∷ [] })
+      ≡ Some (record {
+        after = record { name = 0; listed = listed } ∷ [];
+        shape = plan.choice (branches (2 ∷ 3 ∷ []) (2 ∷ 3 ∷ []));
+        block = 1 ∷ 2 ∷ 3 ∷ [];
+      })
   if_has_branches = refl
 
   foreach_is_beside : entry_for all 4

@@ -1,13 +1,13 @@
 -- Rows that are put together, and what the laws say of actions that are passed over.
-use Rattle.std.proofs.Common.{◌≡◌, ℕ, suc, Bool, true, false, ◌&&◌, ◌||◌, cond, List, [], ◌∷◌, Option, Some, None, length, map, nat_eq, ⊎_elim, refl, sym, ap, ap₂, ◌∙◌, arith, true≢false}
+use Rattle.std.proofs.Common.{◌≡◌, ℕ, suc, Bool, true, false, ◌&&◌, ◌||◌, cond, List, [], ◌∷◌, Option, Some, None, length, map, nat_eq, ⊎_elim, refl, sym, ap, ◌∙◌, arith, true≢false}
 use Rattle.wf_lists.specs.KeyOrder.{put_key}
-use Rattle.wf_layers.specs.Address.{Address, Table, is_own, is_within, same_at, starts}
+use Rattle.wf_layers.specs.Address.{Address, Table, is_within, same_at, starts}
 use Rattle.wf_layers.specs.Definition.{Kind, Leaf, Scope, Choice, Foreach, Until, Branches, no_branch, branch, has, is_one, less_one, plain, shows}
 use Rattle.wf_layers.specs.Laws.{IsFresh}
 use Rattle.wf_layers.specs.Machine.{one, or_else, passed_over, place, skip_others}
-use Rattle.wf_layers.specs.Meaning.{only, skip, skip_all}
+use Rattle.wf_layers.specs.Meaning.{only, skip}
 use Rattle.wf_layers.specs.Source.{Source}
-use Rattle.wf_layers.proofs.Basics.{and_in, not_true, starts_self, two, when, unless}
+use Rattle.wf_layers.proofs.Basics.{not_true, starts_self, two, when, unless}
 use Rattle.wf_layers.proofs.Tables.{same_at_is}
 use Rattle.wf_asks.specs.Instances.{instance_cmp, rows_in}
 use Rattle.wf_asks.specs.Known.{is_among}
@@ -110,7 +110,8 @@ module _ {Row Begun Decision Verdict : Type 0} (m : Source Row Begun Decision Ve
         → cond (in_other bs c y.name && same_at i y.at) (Some m.skipped) None ≡ skip_others m bs c i y
     within no_branch c i y on = refl
     within (branch b rest) c i y on =
-        one_within y i (has b y.name) (is_one c) (plain b y.name) (in_other rest (less_one c) y.name) (skip_others m rest (less_one c) i y) on
+        one_within y i (has b y.name) (is_one c) (plain b y.name) (in_other rest (less_one c) y.name)
+        (skip_others m rest (less_one c) i y) on
         (within rest (less_one c) i y on)
 
     others_at : (bs : Branches) (c : ℕ) (i : List ℕ) (y : Address)

@@ -1,5 +1,5 @@
 -- An open container that is replaced by one that differs in what is unfinished alone.
-use Rattle.std.proofs.Common.{◌≡◌, ℕ, ◌-◌, Bool, true, false, ◌&&◌, cond, List, [], ◌∷◌, Option, Some, None, option_map, is_eq, ⊎_elim, refl, sym, ap, ap₂, ◌∙◌}
+use Rattle.std.proofs.Common.{◌≡◌, ℕ, ◌-◌, Bool, true, false, cond, List, [], ◌∷◌, Option, Some, None, option_map, is_eq, ⊎_elim, refl, sym, ap, ap₂, ◌∙◌}
 use Rattle.std.proofs.lemmas.Map.Text.{is_eq-slice_cmp}
 use Rattle.std.proofs.lemmas.Option.{none-some}
 use Rattle.wf_lists.specs.KeyOrder.{IsInKeyOrder, find_key, put_key, without_key}
@@ -8,7 +8,7 @@ use Rattle.wf_layers.specs.Machine.{Opening, or_else}
 use Rattle.wf_layers.specs.Meaning.{only}
 use Rattle.wf_layers.proofs.Basics.{two, when, unless}
 use Rattle.wf_layers.proofs.Tables.{own_is, same_at_is}
-use Rattle.wf_asks.specs.Instances.{address_of, instance_cmp, instance_key, instance_of, table_of}
+use Rattle.wf_asks.specs.Instances.{instance_cmp, instance_key, instance_of, table_of}
 use Rattle.wf_asks.specs.Known.{open_tree, opens_in}
 use Rattle.wf_asks.specs.declared.instance.Instance.{Instance}
 use Rattle.wf_asks.specs.declared.known.OpenAt.{OpenAt}
@@ -49,7 +49,8 @@ module _ {X : Type 0} (at : X → Instance) where
         ∙ ap (λ t. or_else (only (is_own k.action k.at x) (Some (see y))) (t x)) (table_take at see k xs order)
         ∙ go (is_own k.action k.at x)
       where
-        go : (b : Bool) → or_else (only b (Some (see y))) (cond b None (table_of at see xs x)) ≡ cond b (Some (see y)) (table_of at see xs x)
+        go : (b : Bool) → or_else (only b (Some (see y))) (cond b None (table_of at see xs x))
+            ≡ cond b (Some (see y)) (table_of at see xs x)
         go true = refl
         go false = refl
 

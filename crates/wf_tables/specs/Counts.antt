@@ -1,5 +1,5 @@
 -- Counts that are put and that fall.
-use Rattle.std.specs.Prelude.{ℕ, Bool, cond, List, [], ◌∷◌, Option, Some, None, length, map}
+use Rattle.std.specs.Prelude.{ℕ, cond, List, [], ◌∷◌, Option, Some, None, length, map}
 use Rattle.wf_layers.specs.Address.{Table, is_own}
 use Rattle.wf_layers.specs.Definition.{Need}
 use Rattle.wf_kept.specs.Counted.{nonzero}

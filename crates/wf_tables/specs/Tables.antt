@@ -1,5 +1,5 @@
 -- The lists of a state as the tables of the machine.
-use Rattle.std.specs.Prelude.{ℕ, List, Option, None, Some, option_map}
+use Rattle.std.specs.Prelude.{ℕ, List, Option, None, Some}
 use Rattle.wf_lists.specs.KeyOrder.{find_key}
 use Rattle.wf_layers.specs.Address.{Address, Table}
 use Rattle.wf_layers.specs.Machine as machine

@@ -117,8 +117,8 @@ fn is_gone(counts: &Roomy<CountAt>, place: &Instance) -> bool
     }
 }
 
-/// An action of a graph gets its row: the graph, which goes by its container and its own indexes and is given back, lacks one less; and where
-/// it lacks none any more and is an iteration of a Foreach, that has one unfinished iteration less. No memory is taken.
+/// An action of a graph gets its row: the graph, which goes by its container and its own indexes and is given back, lacks one less; and
+/// where it lacks none any more and is an iteration of a Foreach, that has one unfinished iteration less. No memory is taken.
 pub fn lack_less<D: Drop, V: Drop>(
     lacks: &mut Roomy<CountAt>,
     opens: &mut Opens<D, V>,

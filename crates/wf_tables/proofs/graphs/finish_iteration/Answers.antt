@@ -1,6 +1,4 @@
 use Rattle.std.proofs.Common.{sym}
-use Rattle.wf_asks.specs.Known.{opens_in}
-use Rattle.wf_tables.specs.Tables.{left_in}
 use Rattle.wf_tables.proofs.OpenLemmas.{fewer_left, fewer_open, none_left, none_open}
 use Rattle.wf_tables.proofs.graphs.finish_iteration.Goals as goal
 
