@@ -1,0 +1,4 @@
+pub mod Placed
+pub mod Entered
+pub mod Idle
+pub mod EditRows
