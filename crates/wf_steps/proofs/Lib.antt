@@ -1,5 +1,10 @@
 pub mod TableLemmas
 pub mod CountLemmas
 pub mod OverLemmas
+pub mod InformedLemmas
 pub mod QuietLemmas
+pub mod EndLemmas
+pub mod EventLemmas
+pub mod WrittenLemmas
+pub mod EventRows
 pub mod StateRows

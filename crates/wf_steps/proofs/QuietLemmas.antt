@@ -1,5 +1,5 @@
 -- What a Start and a Try make of what a state keeps.
-use Rattle.std.proofs.Common.{◌≡◌, ℕ, suc, ◌<◌, Bool, true, false, cond, List, Some, None, option_map, inl, nat_lt, refl, sym, ap, ◌∙◌, subst}
+use Rattle.std.proofs.Common.{◌≡◌, ℕ, suc, ◌<◌, Bool, true, false, cond, List, Option, Some, None, option_map, true≢false, inl, nat_lt, refl, sym, ap, ◌∙◌, subst}
 use Rattle.std.proofs.lemmas.Option.{none-some}
 use Rattle.wf_lists.specs.KeyOrder.{IsInKeyOrder, find_key, put_key, without_key}
 use Rattle.wf_layers.specs.Definition.{Need, Kind, Leaf, Graph}
@@ -8,22 +8,27 @@ use Rattle.wf_layers.specs.Enabled.{own_event, of_busy}
 use Rattle.wf_layers.specs.Machine as machine
 use Rattle.wf_layers.specs.Machine.{State, Event, place_of, place, one, without, or_else, has_ended, IsThere, Step}
 use Rattle.wf_layers.specs.Source.{Source}
+use Rattle.wf_layers.specs.Variables.{written}
 use Rattle.wf_layers.proofs.Basics.{when, unless}
 use Rattle.wf_layers.proofs.Tables.{own_self}
 use Rattle.wf_kept.specs.Quiet.{is_quiet}
+use Rattle.wf_kept.specs.Stored.{IsStored}
+use Rattle.wf_kept.proofs.Stored.{store_goes_on}
 use Rattle.wf_kept.proofs.Known.{Known, known, goes_on}
 use Rattle.wf_kept.proofs.Quiet.{counts_stay, left_stays, ready_but_own}
 use Rattle.wf_asks.specs.Instances.{address_of, instance_cmp, rows_in}
+use Rattle.wf_asks.specs.Known.{opens_in, store_in, writer}
 use Rattle.wf_asks.specs.declared.instance.Instance.{Instance}
-use Rattle.wf_asks.specs.declared.rows.RowAt.{RowAt}
+use Rattle.wf_asks.specs.declared.known.RowAt.{RowAt}
+use Rattle.wf_asks.specs.declared.known.WriterAt.{WriterAt}
 use Rattle.wf_steps.specs.Kept.{Goes, IsEnabled, IsKept}
-use Rattle.wf_steps.specs.Tables.{count_in, event_tree, events_in, leaf_tree, left_in, opens_in, running_in, state_of}
+use Rattle.wf_steps.specs.Tables.{count_in, event_tree, events_in, leaf_tree, left_in, running_in, state_of}
 use Rattle.wf_steps.specs.declared.entries.CountAt.{CountAt}
 use Rattle.wf_steps.specs.declared.entries.EventAt.{EventAt}
 use Rattle.wf_steps.specs.declared.entries.EventKind.{EventKind}
 use Rattle.wf_steps.specs.declared.entries.EventKind.TheVariants.{Try, End}
 use Rattle.wf_steps.specs.declared.entries.LeafAt.{LeafAt}
-use Rattle.wf_steps.specs.declared.entries.OpenAt.{OpenAt}
+use Rattle.wf_asks.specs.declared.known.OpenAt.{OpenAt}
 use Rattle.wf_steps.proofs.TableLemmas.{table_put, table_take}
 
 some_is : {A : Type 0} {u v : A} → Some u ≡ Some v → u ≡ v
@@ -47,15 +52,29 @@ placed_over {A} n i v t = λ k x. at x k
         go true = refl
         go false = refl
 
+-- a quiet event writes nothing
+quiet_writes : {Row Begun Decision Verdict Value : Type 0} (d : Graph) (m : Source Row Begun Decision Verdict)
+    (writes : Address → Row → Option Value) (e : Event) (s : State Row Begun Decision Verdict) (v : Option Value) → is_quiet e ≡ true
+    → written d m writes e s v ≡ v
+quiet_writes d m writes (machine.Start n i) s v q = refl
+quiet_writes d m writes (machine.Try n i) s v q = refl
+quiet_writes d m writes (machine.Test n i) s v q = refl
+quiet_writes d m writes (machine.End n i) s v q = absurd (true≢false (sym q))
+quiet_writes d m writes (machine.Skip n i) s v q = absurd (true≢false (sym q))
+quiet_writes d m writes (machine.Open n i) s v q = absurd (true≢false (sym q))
+quiet_writes d m writes (machine.Begin n i) s v q = absurd (true≢false (sym q))
+quiet_writes d m writes (machine.Close n i) s v q = absurd (true≢false (sym q))
+
 -- a quiet event after which the action has another event
 module _ {Row Begun Decision Verdict Decided Told : Type 0} (d : Graph) (m : Source Row Begun Decision Verdict) (depth : ℕ → ℕ)
-    (s : State Row Begun Decision Verdict) (opens : List (OpenAt Decided Told)) (waits lacks : List CountAt) (ready : List EventAt)
-    (kept : IsKept d m depth s opens waits lacks ready) (e : Event) (s' : State Row Begun Decision Verdict) (st : Step d m s e s')
+    (writes : ℕ → Address → Row → Bool) (s : State Row Begun Decision Verdict) (opens : List (OpenAt Decided Told)) (store : List WriterAt)
+    (waits lacks : List CountAt) (ready : List EventAt) (kept : IsKept d m depth writes s opens store waits lacks ready)
+    (e : Event) (s' : State Row Begun Decision Verdict) (st : Step d m s e s')
     (quiet : is_quiet e ≡ true) where
   quiet_kept : (next : EventAt) → place_of e ≡ address_of next.instance → (after : List Need) (kind : Kind)
       → IsThere d m s' (place_of e).name (place_of e).at after kind
       → own_event m s' after kind (place_of e).name (place_of e).at ≡ Some (event_tree next)
-      → IsKept d m depth s' opens waits lacks (put_key instance_cmp (λ (x : EventAt). x.instance) next ready)
+      → IsKept d m depth writes s' opens store waits lacks (put_key instance_cmp (λ (x : EventAt). x.instance) next ready)
   quiet_kept next at after kind th own = record {
     reached = goes_on d depth m s kept.reached e s' st;
     counts = counts_stay d depth m s kept.reached e s' st quiet (count_in waits) (count_in lacks) kept.counts;
@@ -66,6 +85,9 @@ module _ {Row Begun Decision Verdict Decided Told : Type 0} (d : Graph) (m : Sou
         (ap new at ∙ ap (λ t. t (address n i)) placed ∙ placed_own n i (event_tree next) (events_in ready) ∙ sym own)
         (λ x u. ap (λ t. t x) placed
         ∙ placed_else n i (event_tree next) (events_in ready) x (subst (λ (y : Address). is_own y.name y.at x ≡ false) at u));
+    stored = λ v. subst (IsStored d depth m (writer writes v) s')
+        (quiet_writes d m (writer writes v) e s' (store_in store v) quiet)
+        (store_goes_on d depth m (writer writes v) s (store_in store v) (kept.stored v) e s' st);
   }
     where
       n : ℕ
@@ -82,9 +104,10 @@ module _ {Row Begun Decision Verdict Decided Told : Type 0} (d : Graph) (m : Sou
 
 module _ {Row Begun Decision Verdict Kept Started Decided Told : Type 0} (see : Row → Kept) (started : Begun → Started)
     (decided : Decision → Decided) (told : Verdict → Told) (d : Graph) (m : Source Kept Started Decided Told) (depth : ℕ → ℕ)
-    (rows : List (RowAt Row)) (running : List (LeafAt Begun)) (opens : List (OpenAt Decision Verdict)) (waits lacks : List CountAt)
-    (ready : List EventAt)
-    (kept : IsKept d m depth (state_of see started decided told rows running opens) opens waits lacks ready) (at : Instance) where
+    (writes : ℕ → Address → Kept → Bool) (rows : List (RowAt Row)) (running : List (LeafAt Begun)) (opens : List (OpenAt Decision Verdict))
+    (store : List WriterAt) (waits lacks : List CountAt) (ready : List EventAt)
+    (kept : IsKept d m depth writes (state_of see started decided told rows running opens) opens store waits lacks ready)
+    (at : Instance) where
   n : ℕ
   n = at.action
 
@@ -141,10 +164,11 @@ module _ {Row Begun Decision Verdict Kept Started Decided Told : Type 0} (see : 
     )
 
     pub start_kept : (next : EventKind) → next ≡ cond (nat_lt 0 (m.tries (address_of at) (started begun))) Try End
-        → IsKept d m depth (with_running begins) opens waits lacks
+        → IsKept d m depth writes (with_running begins) opens store waits lacks
         (put_key instance_cmp (λ (x : EventAt). x.instance) (record { instance = at; kind = next }) ready)
     start_kept next is =
-        quiet_kept d m depth s opens waits lacks ready kept (machine.Start at.action at.at) (with_running begins) start_goes refl
+        quiet_kept d m depth writes s opens store waits lacks ready kept (machine.Start at.action at.at) (with_running begins)
+        start_goes refl
         (record { instance = at; kind = next }) refl may.1.0 Leaf
         (let th = may.1.1.is_there in record { graph = th.graph; is_open = th.is_open; is_in = th.is_in })
         (leaf_next begins (started begun) 0 may.1.0 Leaf may.1.1.no_row
@@ -196,13 +220,13 @@ module _ {Row Begun Decision Verdict Kept Started Decided Told : Type 0} (see : 
       )
 
       pub try_kept : (next : EventKind) → next ≡ cond (nat_lt made (m.tries (address_of at) (started found.begun))) Try End
-          → IsKept d m depth (with_running again) opens waits lacks
+          → IsKept d m depth writes (with_running again) opens store waits lacks
           (put_key instance_cmp (λ (x : EventAt). x.instance) (record { instance = at; kind = next }) ready)
       try_kept next is =
           let k : Known d depth m s = known d depth m s kept.reached in
           let busy = inl (leaf_tree started found, runs) in
           let th = k.busy.there' (address at.action at.at) busy in
-          quiet_kept d m depth s opens waits lacks ready kept (machine.Try at.action at.at) (with_running again) try_goes refl
+          quiet_kept d m depth writes s opens store waits lacks ready kept (machine.Try at.action at.at) (with_running again) try_goes refl
           (record { instance = at; kind = next }) refl th.0 th.1
           (record { graph = th.2.graph; is_open = th.2.is_open; is_in = th.2.is_in })
           (leaf_next again (started found.begun) made th.0 th.1 (k.busy.no_row (address at.action at.at) busy)

@@ -3,14 +3,14 @@ use Rattle.std.proofs.Common.{◌≡◌, ℕ, Bool, true, false, List, [], ◌�
 use Rattle.wf_layers.specs.Address.{address}
 use Rattle.wf_layers.specs.Machine as machine
 use Rattle.wf_asks.specs.declared.instance.Instance.{Instance}
-use Rattle.wf_asks.specs.declared.rows.RowAt.{RowAt}
+use Rattle.wf_asks.specs.declared.known.RowAt.{RowAt}
 use Rattle.wf_steps.specs.Counts.{AreDistinct, is_among, or_zero}
 use Rattle.wf_steps.specs.Tables.{count_in, event_tree, events_in, left_in, state_of}
 use Rattle.wf_steps.specs.declared.entries.CountAt.{CountAt}
 use Rattle.wf_steps.specs.declared.entries.EventAt.{EventAt}
 use Rattle.wf_steps.specs.declared.entries.EventKind.TheVariants.{Start, Close, Begin}
 use Rattle.wf_steps.specs.declared.entries.LeafAt.{LeafAt}
-use Rattle.wf_steps.specs.declared.entries.OpenAt.{OpenAt}
+use Rattle.wf_asks.specs.declared.known.OpenAt.{OpenAt}
 
 abbrev at : ℕ → List ℕ → Instance
 at n i = record { action = n; at = i }

@@ -41,7 +41,16 @@ module _ {X Y : Type 0} (at : X → Instance) (see : X → Y) where
       ≡ place (one (at y).action (at y).at (see y)) (table_of at see xs)
   table_put y xs = λ k x. put_at y xs x k
 
-  take_at : (i : Instance) (xs : List X) → IsInKeyOrder instance_cmp at xs → (x : Address)
+  -- at each address
+  pub put_entry : (y : X) (xs : List X) (x : Address) → table_of at see (put_key instance_cmp at y xs) x
+      ≡ cond (is_own (at y).action (at y).at x) (Some (see y)) (table_of at see xs x)
+  put_entry y xs x = put_at y xs x ∙ go (is_own (at y).action (at y).at x)
+    where
+      go : (b : Bool) → or_else (only b (Some (see y))) (table_of at see xs x) ≡ cond b (Some (see y)) (table_of at see xs x)
+      go true = refl
+      go false = refl
+
+  pub take_at : (i : Instance) (xs : List X) → IsInKeyOrder instance_cmp at xs → (x : Address)
       → table_of at see (without_key instance_cmp at i xs) x ≡ without i.action i.at (table_of at see xs) x
   take_at i xs order x =
       ap (option_map see) (find-without instance_total at i (instance_of x) xs order)

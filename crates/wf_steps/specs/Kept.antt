@@ -1,6 +1,7 @@
 -- What a state's type keeps.
-use Rattle.std.specs.Prelude.{◌≡◌, ℕ, ◌%◌, List, Some, length, slice_get}
+use Rattle.std.specs.Prelude.{◌≡◌, ℕ, ◌%◌, Bool, List, Some, length, slice_get}
 use Rattle.wf_lists.specs.KeyOrder.{IsInKeyOrder}
+use Rattle.wf_layers.specs.Address.{Address}
 use Rattle.wf_layers.specs.Definition.{Graph}
 use Rattle.wf_layers.specs.Machine.{State, Event, Step}
 use Rattle.wf_layers.specs.Source.{Source}
@@ -8,11 +9,14 @@ use Rattle.wf_kept.specs.Counted.{AreCounts}
 use Rattle.wf_kept.specs.Event.{AreLeft}
 use Rattle.wf_kept.specs.Reached.{IsReached}
 use Rattle.wf_kept.specs.Ready.{IsReady}
+use Rattle.wf_kept.specs.Stored.{IsStored}
 use Rattle.wf_asks.specs.Instances.{instance_cmp}
 use Rattle.wf_steps.specs.Tables.{count_in, events_in, left_in}
 use Rattle.wf_steps.specs.declared.entries.CountAt.{CountAt}
 use Rattle.wf_steps.specs.declared.entries.EventAt.{EventAt}
-use Rattle.wf_steps.specs.declared.entries.OpenAt.{OpenAt}
+use Rattle.wf_asks.specs.Known.{store_in, writer}
+use Rattle.wf_asks.specs.declared.known.OpenAt.{OpenAt}
+use Rattle.wf_asks.specs.declared.known.WriterAt.{WriterAt}
 
 module _ {Row Begun Decision Verdict : Type 0} (d : Graph) (m : Source Row Begun Decision Verdict) where
   -- the event leads from a state to another
@@ -38,10 +42,12 @@ module _ {Row Begun Decision Verdict : Type 0} (d : Graph) (m : Source Row Begun
     pub enabled : AreEnabled s listed
     pub picked : slice_get listed (place % length listed) ≡ Some event
 
-  -- A run leads to the state; the counts are its own, and the ready set has the events that may happen.
-  pub record IsKept {Decided Told : Type 0} (depth : ℕ → ℕ) (s : State Row Begun Decision Verdict) (opens : List (OpenAt Decided Told))
-      (waits lacks : List CountAt) (ready : List EventAt) : Type 0 where
+  -- A run leads to the state; the counts are its own, the ready set has the events that may happen, and the store has of each variable the
+  -- last that wrote it.
+  pub record IsKept {Decided Told : Type 0} (depth : ℕ → ℕ) (writes : ℕ → Address → Row → Bool) (s : State Row Begun Decision Verdict)
+      (opens : List (OpenAt Decided Told)) (store : List WriterAt) (waits lacks : List CountAt) (ready : List EventAt) : Type 0 where
     pub reached : IsReached d depth m s
     pub counts : AreCounts d m s (count_in waits) (count_in lacks)
     pub left : AreLeft d m s (left_in opens)
     pub enabled : IsReady d m s (events_in ready)
+    pub stored : (v : ℕ) → IsStored d depth m (writer writes v) s (store_in store v)

@@ -1,23 +1,21 @@
 -- The lists of a state as the tables of the machine.
-use Rattle.std.specs.Prelude.{ℕ, List, Option, None, Some, option_map}
+use Rattle.std.specs.Prelude.{ℕ, List, Option, None, Some}
 use Rattle.wf_lists.specs.KeyOrder.{find_key}
 use Rattle.wf_layers.specs.Address.{Address, Table}
 use Rattle.wf_layers.specs.Machine as machine
 use Rattle.wf_asks.specs.Instances.{instance_cmp, instance_of, rows_in, table_of}
-use Rattle.wf_asks.specs.declared.rows.RowAt.{RowAt}
+use Rattle.wf_asks.specs.Known.{opens_in}
+use Rattle.wf_asks.specs.declared.known.OpenAt.{OpenAt}
+use Rattle.wf_asks.specs.declared.known.RowAt.{RowAt}
+use Rattle.wf_asks.specs.declared.known.WriterAt.{WriterAt}
 use Rattle.wf_steps.specs.declared.entries.CountAt.{CountAt}
 use Rattle.wf_steps.specs.declared.entries.EventAt.{EventAt}
 use Rattle.wf_steps.specs.declared.entries.EventKind.{EventKind}
 use Rattle.wf_steps.specs.declared.entries.EventKind.TheVariants.{Start, Try, End, Skip, Open, Begin, Test, Close}
 use Rattle.wf_steps.specs.declared.entries.LeafAt.{LeafAt}
-use Rattle.wf_steps.specs.declared.entries.OpenAt.{OpenAt}
 
 abbrev pub leaf_tree : {Begun Seen : Type 0} → (Begun → Seen) → LeafAt Begun → machine.Running Seen
 leaf_tree see l = record { begun = see l.begun; tries = l.tries }
-
-abbrev pub open_tree : {Decision Verdict Decided Told : Type 0} → (Decision → Decided) → (Verdict → Told) → OpenAt Decision Verdict
-    → machine.Opening Decided Told
-open_tree decided told o = record { decision = decided o.decision; next = o.next; test = option_map told o.test }
 
 abbrev pub event_at : EventKind → ℕ → List ℕ → machine.Event
 event_at Start n i = machine.Start n i
@@ -34,10 +32,6 @@ event_tree e = event_at e.kind e.instance.action e.instance.at
 
 abbrev pub running_in : {Begun Seen : Type 0} → (Begun → Seen) → List (LeafAt Begun) → Table (machine.Running Seen)
 running_in {Begun} see = table_of (λ (l : LeafAt Begun). l.instance) (leaf_tree see)
-
-abbrev pub opens_in : {Decision Verdict Decided Told : Type 0} → (Decision → Decided) → (Verdict → Told)
-    → List (OpenAt Decision Verdict) → Table (machine.Opening Decided Told)
-opens_in {Decision} {Verdict} decided told = table_of (λ (o : OpenAt Decision Verdict). o.instance) (open_tree decided told)
 
 abbrev pub events_in : List EventAt → Table machine.Event
 events_in = table_of (λ (e : EventAt). e.instance) event_tree
@@ -63,3 +57,9 @@ state_of kept started decided told rows running opens = record {
   running = running_in started running;
   opens = opens_in decided told opens;
 }
+
+-- and of what is shown of it: rows, running leaves, open containers, and the store
+abbrev pub shown : {Row Begun Decision Verdict Kept Started Decided Told : Type 0} → (Row → Kept) → (Begun → Started)
+    → (Decision → Decided) → (Verdict → Told)
+    → List (RowAt Row) × (List (LeafAt Begun) × (List (OpenAt Decision Verdict) × List WriterAt)) → machine.State Kept Started Decided Told
+shown kept started decided told h = state_of kept started decided told h.0 h.1.0 h.1.1.0

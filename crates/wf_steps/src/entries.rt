@@ -10,17 +10,6 @@ pub struct LeafAt<B> {
     pub tries: u64,
 }
 
-/// An open container: what it decided, the index of its next iteration, an Until's last test, and how many begun iterations of a Foreach
-/// aren't finished.
-#[derive(Drop)]
-pub struct OpenAt<D, V> {
-    pub instance: Instance,
-    pub decision: D,
-    pub next: u64,
-    pub test: Option<V>,
-    pub unfinished: u64,
-}
-
 /// How much an action of an open graph waits for, or how many actions of a graph lack a row.
 #[derive(Drop)]
 pub struct CountAt {
@@ -48,16 +37,6 @@ pub struct EventAt {
 }
 
 impl<B> Keyed for LeafAt<B> {
-    type Key = Instance;
-
-    ghost key_of = { λ e. e.instance };
-
-    fn key(&self) -> &Instance {
-        &self.instance
-    }
-}
-
-impl<D, V> Keyed for OpenAt<D, V> {
     type Key = Instance;
 
     ghost key_of = { λ e. e.instance };

@@ -3,12 +3,12 @@ ghost use Rattle.std.specs.Prelude.{◌≡◌, OnOk, OnErr, cond, false, nat_lt,
 ghost use Rattle.wf_layers.specs.Machine as machine;
 ghost use Rattle.wf_asks.specs.Instances.{address_of};
 ghost use Rattle.wf_steps.specs.Kept.{Goes, IsEnabled, IsOver, Picked};
-ghost use Rattle.wf_steps.specs.Tables.{event_tree, state_of};
+ghost use Rattle.wf_steps.specs.Tables.{event_tree, shown};
 
-use crate::entries::{CountAt, EventAt, EventKind, LeafAt, OpenAt};
+use crate::entries::{CountAt, EventAt, EventKind, LeafAt};
 use std::alloc::{AllocError, Global};
 use std::marker::Model;
-use wf_asks::{Acts, Instance, Rows};
+use wf_asks::{Acts, Instance, Known, Opens, Rows, Store};
 use wf_room::Roomy;
 
 /// What has happened so far in a run, and what may happen next.
@@ -17,7 +17,8 @@ pub struct State<'a, A: Acts> {
     acts: &'a A,
     rows: Rows<A::Row>,
     running: Roomy<LeafAt<A::Begun>>,
-    opens: Roomy<OpenAt<A::Decision, A::Verdict>>,
+    opens: Opens<A::Decision, A::Verdict>,
+    store: Store,
     waits: Roomy<CountAt>,
     lacks: Roomy<CountAt>,
     ready: Roomy<EventAt>,
@@ -25,18 +26,20 @@ pub struct State<'a, A: Acts> {
 
 impl<'a, A: Acts> Model for State<'a, A> {
     ghost use Rattle.std.specs.Prelude.{List};
-    ghost use Rattle.wf_asks.specs.declared.rows.RowAt.{RowAt};
+    ghost use Rattle.wf_asks.specs.declared.known.OpenAt.{OpenAt};
+    ghost use Rattle.wf_asks.specs.declared.known.RowAt.{RowAt};
+    ghost use Rattle.wf_asks.specs.declared.known.WriterAt.{WriterAt};
     ghost use Rattle.wf_steps.specs.declared.entries.LeafAt.{LeafAt};
-    ghost use Rattle.wf_steps.specs.declared.entries.OpenAt.{OpenAt};
     ghost use Rattle.wf_steps.specs.Kept.{IsKept};
     ghost use Rattle.wf_steps.specs.Tables.{state_of};
 
-    ghost Value = { A × (List (RowAt A.Row) × (List (LeafAt A.Begun) × List (OpenAt A.Decision A.Verdict))) };
+    ghost Value = { A × (List (RowAt A.Row) × (List (LeafAt A.Begun) × (List (OpenAt A.Decision A.Verdict) × List WriterAt))) };
 
-    ghost view = { λ s. (s.acts.now, (s.rows.0, (s.running.0, s.opens.0))) };
+    ghost view = { λ s. (s.acts.now, (s.rows.0, (s.running.0, (s.opens.0, s.store.0)))) };
 
     ghost invariant = { λ s. IsKept (A.graph s.acts.now) (A.source s.acts.now) (A.depth s.acts.now)
-        (state_of A.row_tree A.begun_tree A.decision_tree A.verdict_tree s.rows.0 s.running.0 s.opens.0) s.opens.0 s.waits.0 s.lacks.0
+        (A.writes s.acts.now) (state_of A.row_tree A.begun_tree A.decision_tree A.verdict_tree s.rows.0 s.running.0 s.opens.0)
+        s.opens.0 s.store.0 s.waits.0 s.lacks.0
         s.ready.0 };
 }
 
@@ -56,9 +59,9 @@ impl<'a, A: Acts> State<'a, A> {
     /// Whether nothing may happen any more.
     pub fn is_over(&self) -> bool
         ensures over { result ≡ true → IsOver (A.graph self.now.0) (A.source self.now.0)
-            (state_of A.row_tree A.begun_tree A.decision_tree A.verdict_tree self.now.1.0 self.now.1.1.0 self.now.1.1.1) }
+            (shown A.row_tree A.begun_tree A.decision_tree A.verdict_tree self.now.1) }
         ensures going { result ≡ false → IsOver (A.graph self.now.0) (A.source self.now.0)
-            (state_of A.row_tree A.begun_tree A.decision_tree A.verdict_tree self.now.1.0 self.now.1.1.0 self.now.1.1.1) → ⊥ }
+            (shown A.row_tree A.begun_tree A.decision_tree A.verdict_tree self.now.1) → ⊥ }
     {
         self.ready.len() == 0
     }
@@ -66,11 +69,11 @@ impl<'a, A: Acts> State<'a, A> {
     /// The enabled event at a place, counted around where there are fewer.
     pub fn pick(&self, place: u64) -> &EventAt
         requires { IsOver (A.graph self.now.0) (A.source self.now.0)
-            (state_of A.row_tree A.begun_tree A.decision_tree A.verdict_tree self.now.1.0 self.now.1.1.0 self.now.1.1.1) → ⊥ }
+            (shown A.row_tree A.begun_tree A.decision_tree A.verdict_tree self.now.1) → ⊥ }
         ensures picked { Picked (A.graph self.now.0) (A.source self.now.0)
-            (state_of A.row_tree A.begun_tree A.decision_tree A.verdict_tree self.now.1.0 self.now.1.1.0 self.now.1.1.1) place result.now }
+            (shown A.row_tree A.begun_tree A.decision_tree A.verdict_tree self.now.1) place result.now }
         ensures enabled { IsEnabled (A.graph self.now.0) (A.source self.now.0)
-            (state_of A.row_tree A.begun_tree A.decision_tree A.verdict_tree self.now.1.0 self.now.1.1.0 self.now.1.1.1)
+            (shown A.row_tree A.begun_tree A.decision_tree A.verdict_tree self.now.1)
             (event_tree result.now) }
     {
         self.ready.at(place % self.ready.len())
@@ -79,16 +82,25 @@ impl<'a, A: Acts> State<'a, A> {
     /// A leaf starts. Where memory runs out nothing has happened.
     pub fn start(&mut self, alloc: Global, place: &Instance) -> Result<(), AllocError>
         requires { IsEnabled (A.graph self.old.0) (A.source self.old.0)
-            (state_of A.row_tree A.begun_tree A.decision_tree A.verdict_tree self.old.1.0 self.old.1.1.0 self.old.1.1.1)
+            (shown A.row_tree A.begun_tree A.decision_tree A.verdict_tree self.old.1)
             (machine.Start place.now.action place.now.at) }
         ensures ok { OnOk result (Goes (A.graph self.old.0) (A.source self.old.0)
-            (state_of A.row_tree A.begun_tree A.decision_tree A.verdict_tree self.old.1.0 self.old.1.1.0 self.old.1.1.1)
+            (shown A.row_tree A.begun_tree A.decision_tree A.verdict_tree self.old.1)
             (machine.Start place.now.action place.now.at)
-            (state_of A.row_tree A.begun_tree A.decision_tree A.verdict_tree self.new.1.0 self.new.1.1.0 self.new.1.1.1)) }
+            (shown A.row_tree A.begun_tree A.decision_tree A.verdict_tree self.new.1)) }
         ensures same { self.new.0 ≡ self.old.0 }
         ensures err { OnErr result (self.new ≡ self.old) }
     {
-        let begun = self.acts.start(alloc, place, &self.rows)?;
+        self.acts.is_instance();
+        let begun = self.acts.start(
+            alloc,
+            place,
+            Known {
+                rows: &self.rows,
+                opens: &self.opens,
+                store: &self.store,
+            },
+        )?;
         let kind = next_kind(self.acts, place, &begun, 0);
         let runs = place.copy(alloc)?;
         let next = place.copy(alloc)?;
@@ -109,12 +121,12 @@ impl<'a, A: Acts> State<'a, A> {
     /// A running leaf makes another attempt. Where memory runs out nothing has happened.
     pub fn try_again(&mut self, alloc: Global, place: &Instance) -> Result<(), AllocError>
         requires { IsEnabled (A.graph self.old.0) (A.source self.old.0)
-            (state_of A.row_tree A.begun_tree A.decision_tree A.verdict_tree self.old.1.0 self.old.1.1.0 self.old.1.1.1)
+            (shown A.row_tree A.begun_tree A.decision_tree A.verdict_tree self.old.1)
             (machine.Try place.now.action place.now.at) }
         ensures ok { OnOk result (Goes (A.graph self.old.0) (A.source self.old.0)
-            (state_of A.row_tree A.begun_tree A.decision_tree A.verdict_tree self.old.1.0 self.old.1.1.0 self.old.1.1.1)
+            (shown A.row_tree A.begun_tree A.decision_tree A.verdict_tree self.old.1)
             (machine.Try place.now.action place.now.at)
-            (state_of A.row_tree A.begun_tree A.decision_tree A.verdict_tree self.new.1.0 self.new.1.1.0 self.new.1.1.1)) }
+            (shown A.row_tree A.begun_tree A.decision_tree A.verdict_tree self.new.1)) }
         ensures same { self.new.0 ≡ self.old.0 }
         ensures err { OnErr result (self.new ≡ self.old) }
     {

@@ -9,8 +9,8 @@ nonzero_rem-place g c =
     let s = c.self.inside in
     let a = g.A.Acts in
     let going = rw (← c.self.view_is) at c.requires in
-    let some = some_left (a.graph s.acts.now) (a.source s.acts.now) (a.depth s.acts.now)
-    (state_of a.row_tree a.begun_tree a.decision_tree a.verdict_tree s.rows.0 s.running.0 s.opens.0) s.opens.0 s.waits.0 s.lacks.0 s.ready.0
+    let some = some_left (a.graph s.acts.now) (a.source s.acts.now) (a.depth s.acts.now) (a.writes s.acts.now)
+    (state_of a.row_tree a.begun_tree a.decision_tree a.verdict_tree s.rows.0 s.running.0 s.opens.0) s.opens.0 s.store.0 s.waits.0 s.lacks.0 s.ready.0
     c.self.invariant going in
     omega (arith, some, c.len.ensures.count)
 
@@ -19,8 +19,8 @@ at-requires g c =
     let s = c.self.inside in
     let a = g.A.Acts in
     let going = rw (← c.self.view_is) at c.requires in
-    let some = some_left (a.graph s.acts.now) (a.source s.acts.now) (a.depth s.acts.now)
-    (state_of a.row_tree a.begun_tree a.decision_tree a.verdict_tree s.rows.0 s.running.0 s.opens.0) s.opens.0 s.waits.0 s.lacks.0 s.ready.0
+    let some = some_left (a.graph s.acts.now) (a.source s.acts.now) (a.depth s.acts.now) (a.writes s.acts.now)
+    (state_of a.row_tree a.begun_tree a.decision_tree a.verdict_tree s.rows.0 s.running.0 s.opens.0) s.opens.0 s.store.0 s.waits.0 s.lacks.0 s.ready.0
     c.self.invariant going in
     let below = mod_below c.args.place c.len.result (omega (arith, some, c.len.ensures.count)) in
     omega (arith, below, c.len.ensures.count)
@@ -38,6 +38,6 @@ pub returns-clause-enabled : goal.returns-clause-enabled
 returns-clause-enabled g c =
     let s = c.self.inside in
     let a = g.A.Acts in
-    rw (← c.self.view_is) (enabled_at (a.graph s.acts.now) (a.source s.acts.now) (a.depth s.acts.now)
-    (state_of a.row_tree a.begun_tree a.decision_tree a.verdict_tree s.rows.0 s.running.0 s.opens.0) s.opens.0 s.waits.0 s.lacks.0 s.ready.0
+    rw (← c.self.view_is) (enabled_at (a.graph s.acts.now) (a.source s.acts.now) (a.depth s.acts.now) (a.writes s.acts.now)
+    (state_of a.row_tree a.begun_tree a.decision_tree a.verdict_tree s.rows.0 s.running.0 s.opens.0) s.opens.0 s.store.0 s.waits.0 s.lacks.0 s.ready.0
     c.self.invariant c.at.ensures.in_order (c.args.place % c.len.result) c.at.result.now c.at.ensures.item)

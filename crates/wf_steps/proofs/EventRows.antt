@@ -1,0 +1,56 @@
+-- Worked rows of what may happen next, of last writers, and of what is looked at anew.
+use Rattle.std.proofs.Common.{◌≡◌, ℕ, true, false, [], ◌∷◌, Option, Some, None, refl}
+use Rattle.wf_layers.specs.Address.{Address, address}
+use Rattle.wf_plan.specs.Plan.{leaf, until}
+use Rattle.wf_steps.specs.Events.{begin_kind, close_kind, foreach_kind, is_branch}
+use Rattle.wf_steps.specs.Looked.{instances_at}
+use Rattle.wf_steps.specs.Written.{put_each, writers_of}
+use Rattle.wf_steps.specs.declared.entries.EventKind.TheVariants.{Start, Open, Begin, Close}
+
+branch_zero : is_branch ((1 ∷ []) ∷ []) 0 ≡ false
+branch_zero = refl
+
+branch_one : is_branch ((1 ∷ []) ∷ []) 1 ≡ true
+branch_one = refl
+
+branch_past : is_branch ((1 ∷ []) ∷ []) 2 ≡ false
+branch_past = refl
+
+a_leaf_starts : begin_kind leaf ≡ Start
+a_leaf_starts = refl
+
+a_loop_opens : begin_kind (until 3 []) ≡ Open
+a_loop_opens = refl
+
+closes : close_kind None ≡ Some Close
+closes = refl
+
+doesnt_close : close_kind (Some 1) ≡ None
+doesnt_close = refl
+
+begins_another : foreach_kind 2 1 4 5 ≡ Some Begin
+begins_another = refl
+
+enough_side_by_side : foreach_kind 2 2 4 5 ≡ None
+enough_side_by_side = refl
+
+all_begun : foreach_kind 2 1 5 5 ≡ None
+all_begun = refl
+
+all_finished : foreach_kind 2 0 5 5 ≡ Some Close
+all_finished = refl
+
+of_no_items : foreach_kind 1 0 0 0 ≡ Some Close
+of_no_items = refl
+
+at_these : instances_at (0 ∷ []) (4 ∷ 5 ∷ []) ≡ record { action = 4; at = 0 ∷ [] } ∷ record { action = 5; at = 0 ∷ [] } ∷ []
+at_these = refl
+
+abbrev none_written : ℕ → Option Address
+none_written v = None
+
+last_writer : put_each (writers_of (record { action = 4; at = [] }) (7 ∷ [])) none_written 7 ≡ Some (address 4 [])
+last_writer = refl
+
+other_variable : put_each (writers_of (record { action = 4; at = [] }) (7 ∷ [])) none_written 6 ≡ None
+other_variable = refl

@@ -1,0 +1,23 @@
+-- What an engine finds as it looks at idle actions.
+use Rattle.std.specs.Prelude.{ℕ, List, Option, None, Some, map, option_map}
+use Rattle.wf_layers.specs.Address.{Address, Table}
+use Rattle.wf_layers.specs.Machine as machine
+use Rattle.wf_layers.specs.Source.{Source}
+use Rattle.wf_asks.specs.declared.instance.Instance.{Instance}
+use Rattle.wf_plan.specs.Plan.{EntryTree, PlanTree}
+use Rattle.wf_plan.specs.PlanSeen.{at_place}
+use Rattle.wf_steps.specs.Events.{idle_kind}
+use Rattle.wf_steps.specs.Tables.{event_at}
+
+-- these actions at the indexes
+abbrev pub instances_at : List ℕ → List ℕ → List Instance
+instances_at at numbers = map (λ n. record { action = n; at = at }) numbers
+
+module _ {Row Begun Decision Verdict : Type 0} (m : Source Row Begun Decision Verdict) (rows : Table Row) (waits : Table ℕ) where
+  abbrev pub idle_by : Option EntryTree → ℕ → List ℕ → Option machine.Event
+  idle_by None n i = None
+  idle_by (Some e) n i = option_map (λ k. event_at k n i) (idle_kind m rows waits e.after e.shape n i)
+
+  -- what may happen next to an action of a plan that is idle
+  abbrev pub idle_at : PlanTree → Address → Option machine.Event
+  idle_at p x = idle_by (at_place p.entries x.name) x.name x.at
