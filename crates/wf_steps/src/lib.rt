@@ -13,6 +13,7 @@
 mod counts;
 mod entries;
 mod event;
+mod laws;
 mod look;
 mod ready;
 mod state;
@@ -21,6 +22,7 @@ mod store;
 pub use counts::{lower, lower_one};
 pub use entries::{CountAt, EventAt, EventKind, LeafAt};
 pub use event::{idle_kind, open_kind};
+pub use laws::shapes_tell_events;
 pub use look::{instances, look_at};
 pub use ready::set_event;
 pub use state::State;
