@@ -1,0 +1,4 @@
+mod FoundLemmas
+mod RangeLemmas
+mod TurnLemmas
+mod TurnRows

@@ -1,0 +1,53 @@
+//! What the rows of a run tell of its length: how often an action was tried, and how many iterations a loop had.
+//!
+//! The laws of `wf_layers` bound the events of a run by the cost of what it keeps, where the row of a leaf tells at least its attempts, and
+//! that of a loop at least its iterations. Here that is shown of the rows of `wf_meant`, read as the cost of a record reads them
+//! (`wf_record`): a row keeps a list of its attempts, a Foreach has the list of its items as inputs, and an Until gives out how often it
+//! went round. It holds whatever rows are known, so it doesn't ask that the definition breaks no rule on names.
+//!
+//! It has no code: each public function has an empty body but for the laws that it calls, and its contract is a law.
+#![tactic(auto)]
+
+ghost use Rattle.std.specs.Prelude.{◌*◌, ◌≤◌, suc, ℕ, Bool};
+ghost use Rattle.wf_def.specs.DefTree.{DefTree};
+ghost use Rattle.wf_layers.specs.Address.{Address, Table};
+ghost use Rattle.wf_layers.specs.Bound.{TellsTurns};
+ghost use Rattle.wf_layers.specs.Resubmission.{pin};
+ghost use Rattle.wf_meaning.specs.Environment.{Environment};
+ghost use Rattle.wf_meant.specs.Points.{graph_of};
+ghost use Rattle.wf_meant.specs.Source.{source};
+ghost use Rattle.wf_opening.specs.Decisions.{DecisionTree};
+ghost use Rattle.wf_reading.specs.Read.{IsRead};
+ghost use Rattle.wf_record.specs.Cost.{row_cost};
+ghost use Rattle.wf_record.specs.Record.{Row, RowTree};
+ghost use Rattle.wf_turns.specs.Turns.{turns};
+
+/// The row of a leaf that ran tells its attempts, that of a Foreach its items, and that of an Until how often it went round.
+pub fn rows_tell_their_turns()
+    ensures { (d : DefTree) → IsRead d → (e : Environment) → (f : Table Row) → TellsTurns (graph_of d) (source d e) f turns }
+{
+    wf_known_laws::numbers_have_their_ranges();
+}
+
+/// So do the rows of a resubmission, whichever rows it keeps and whatever decisions it recalls.
+pub fn resubmitted_rows_tell_their_turns()
+    ensures { (d : DefTree) → IsRead d → (e : Environment) → (redo again : ℕ → Bool) → (old : Table Row)
+        → (recall : Address → DecisionTree) → (f : Table Row)
+        → TellsTurns (graph_of d) (pin (source d e) (source d e) redo again old recall) f turns }
+{
+    wf_known_laws::numbers_have_their_ranges();
+}
+
+/// A row costs at least 64 for itself and for each of its turns.
+pub fn a_row_costs_its_turns()
+    ensures { (r : RowTree) → 64 * suc (turns r.row) ≤ row_cost r }
+{}
+
+/// No action is tried more than 91 times.
+pub fn attempts_are_few()
+    ensures { (d : DefTree) → IsRead d → (e : Environment) → (x : Address) → (known : Table Row)
+        → (source d e).tries x ((source d e).start x known) ≤ 91 }
+{
+    wf_known_laws::numbers_have_their_ranges();
+    wf_connect::the_last_attempt_is_the_least();
+}
