@@ -3,13 +3,15 @@ use Rattle.std.proofs.Common.{◌≡◌, ℕ, Bool, true, false, ◌||◌, cond,
 use Rattle.std.proofs.Common.{sym, ap, ap₂, ◌∙◌, subst, nat_eq, true≢false, option_map}
 use Rattle.std.specs.List.{AllByRecursion, find, list_any}
 use Rattle.std.proofs.Math.Bool.{or-false}
+use Rattle.std.proofs.lemmas.Option.{none-some}
 use Rattle.std.proofs.lemmas.Bool.{eq-eqb, eqb-true}
 use Rattle.wf_layers.specs.Definition as layers
 use Rattle.wf_layers.specs.Definition.{Kind}
 use Rattle.wf_layers.proofs.Basics.{or_first, two, unless, when}
 use Rattle.wf_def.specs.ActionTree.{ActionTree, action, action_kind, KindTree, compose, connector, wait, response, terminate, select, query}
 use Rattle.wf_def.specs.ActionTree.{join, parse_json, initialize, set_to, increment, decrement, append_array, append_string, scope, branch}
-use Rattle.wf_def.specs.ActionTree.{switch, switch_else, foreach, until, ActionTrees, no_actions, action_then, CaseTrees, no_cases, case_then}
+use Rattle.wf_def.specs.ActionTree.{switch, switch_else, foreach, until, ActionTrees, no_actions, action_then, CaseTrees}
+use Rattle.wf_def.specs.ActionTree.{no_cases, case_then}
 use Rattle.wf_def.specs.AllActions.{all_actions, cases_actions, has_number, kind_actions}
 use Rattle.wf_def.specs.Layered.{layered, layered_cases, layered_kind}
 
@@ -24,6 +26,15 @@ any_joined p [] ys = refl
 any_joined p (x ∷ xs) ys =
     ap (λ (b : Bool). p x || b) (any_joined p xs ys) ∙ sym (or_joined (p x) (list_any p xs) (list_any p ys))
 
+found_among : {X : Type 0} (p : X → Bool) (xs : List X) → list_any p xs ≡ true → (x : X) × (find p xs ≡ Some x)
+found_among p [] some = absurd (true≢false (sym some))
+found_among p (x ∷ xs) some = elim (two (p x)) [
+  | inl t ↦ (x, when (p x) (Some x) (find p xs) t)
+  | inr f ↦
+      let later = found_among p xs (sym (ap (λ (b : Bool). b || list_any p xs) f) ∙ some) in
+      (later.0, unless (p x) (Some x) (find p xs) f ∙ later.1)
+]
+
 find_joined : {X : Type 0} (p : X → Bool) (xs ys : List X) → find p (xs ++ ys) ≡ cond (list_any p xs) (find p xs) (find p ys)
 find_joined p [] ys = refl
 find_joined {X = X} p (x ∷ xs) ys = elim (two (p x)) [
@@ -36,7 +47,7 @@ find_joined {X = X} p (x ∷ xs) ys = elim (two (p x)) [
       (unless (p x) (Some x) (find p xs) f)))
 ]
 
-find_none : {X : Type 0} (p : X → Bool) (xs : List X) → list_any p xs ≡ false → find p xs ≡ None
+pub find_none : {X : Type 0} (p : X → Bool) (xs : List X) → list_any p xs ≡ false → find p xs ≡ None
 find_none p [] none = refl
 find_none p (x ∷ xs) none = elim (two (p x)) [
   | inl t ↦ absurd (true≢false (sym (or_first (p x) (list_any p xs) t) ∙ none))
@@ -211,3 +222,20 @@ module _ (n : ℕ) where
         ap (cond (layers.has (layered graph) n) (layers.kind_of (layered graph) n)) (cases_are rest last)
         ∙ kinds_behind (layers.has (layered graph) n) (layers.kind_of (layered graph) n) (layers.kind_any last n) (all_actions graph)
         (cases_actions rest) (graph_has graph) (kind_is graph)
+
+-- the action of a number that the graph has, and of a number of a kind
+pub of_number : (n : ℕ) (graph : ActionTrees) → layers.has (layered graph) n ≡ true
+    → (a : ActionTree) × (find (has_number n) (all_actions graph) ≡ Some a)
+of_number n graph there = found_among (has_number n) (all_actions graph) (sym (graph_has n graph) ∙ there)
+
+pub of_kind : (n : ℕ) (graph : ActionTrees) (k : Kind) → layers.kind_of (layered graph) n ≡ Some k
+    → (a : ActionTree) × (find (has_number n) (all_actions graph) ≡ Some a) × (layered_kind (action_kind a) ≡ k)
+of_kind n graph k is = go (find (has_number n) (all_actions graph)) refl
+  where
+    go : (found : Option ActionTree) → find (has_number n) (all_actions graph) ≡ found
+        → (a : ActionTree) × (find (has_number n) (all_actions graph) ≡ Some a) × (layered_kind (action_kind a) ≡ k)
+    go None none = absurd (none-some k (sym (sym is ∙ (kind_is n graph ∙ ap (option_map (λ a. layered_kind (action_kind a))) none))))
+    go (Some a) some =
+        let one : Some (layered_kind (action_kind a)) ≡ Some k =
+        sym (kind_is n graph ∙ ap (option_map (λ b. layered_kind (action_kind b))) some) ∙ is in
+        let it : layered_kind (action_kind a) ≡ k = cc in (a, some, it)

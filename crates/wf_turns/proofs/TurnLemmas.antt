@@ -1,7 +1,6 @@
 -- The rows of a definition tell their turns, and no action is tried often.
 use Rattle.std.proofs.Common.{◌≡◌, ℕ, zero, suc, ◌+◌, ◌≤◌, Bool, true, false, cond, List, length, Option, Some, None, inl, inr, refl}
-use Rattle.std.proofs.Common.{sym, ap, ◌∙◌, subst, arith, option_map}
-use Rattle.std.proofs.lemmas.Option.{none-some}
+use Rattle.std.proofs.Common.{sym, ap, subst, arith}
 use Rattle.std.specs.Prelude.{Ok, Err}
 use Rattle.std.specs.List.{AllByRecursion}
 use Rattle.wf_val.specs.Arguments.{Answer}
@@ -18,8 +17,8 @@ use Rattle.wf_layers.specs.Meaning.{last}
 use Rattle.wf_layers.specs.Resubmission.{pin}
 use Rattle.wf_layers.proofs.Basics.{two, rounds_more, unless, when}
 use Rattle.wf_def.specs.ActionTree.{ActionTree, action_kind, action_name, KindTree, compose, connector, wait, response, terminate, select}
-use Rattle.wf_def.specs.ActionTree.{query, join, parse_json, initialize, set_to, increment, decrement, append_array, append_string, scope, branch}
-use Rattle.wf_def.specs.ActionTree.{switch, switch_else, foreach, until}
+use Rattle.wf_def.specs.ActionTree.{query, join, parse_json, initialize, set_to, increment, decrement, append_array, append_string, scope}
+use Rattle.wf_def.specs.ActionTree.{branch, switch, switch_else, foreach, until}
 use Rattle.wf_def.specs.AllActions.{all_actions, has_number, numbered}
 use Rattle.wf_def.specs.DefTree.{DefTree}
 use Rattle.wf_def.specs.Layered.{layered_kind}
@@ -40,7 +39,7 @@ use Rattle.wf_meant.specs.Look.{instance, told_at}
 use Rattle.wf_meant.specs.Points.{graph_of}
 use Rattle.wf_meant.specs.Source.{begun, close_of, finished, source, tries_of}
 use Rattle.wf_turns.specs.Turns.{turns}
-use Rattle.wf_turns.proofs.FoundLemmas.{found_all, kind_is}
+use Rattle.wf_turns.proofs.FoundLemmas.{found_all, of_kind}
 use Rattle.wf_turns.proofs.RangeLemmas.{HasRange}
 
 -- ---- what a row tells
@@ -185,25 +184,18 @@ module _ (d : DefTree) (e : Environment) (f : Table Row) where
 
 module _ (d : DefTree) (ranges : AllByRecursion HasRange (all_actions d.top)) where
   -- the action of a number, by its kind
-  pub of_kind : (n : ℕ) (k : Kind) → kind_of (graph_of d) n ≡ Some k
+  in_range : (n : ℕ) (k : Kind) → kind_of (graph_of d) n ≡ Some k
       → (a : ActionTree) × (numbered n d.top ≡ Some a) × (layered_kind (action_kind a) ≡ k) × HasRange a
-  of_kind n k is = go (numbered n d.top) refl
-    where
-      go : (found : Option ActionTree) → numbered n d.top ≡ found
-          → (a : ActionTree) × (numbered n d.top ≡ Some a) × (layered_kind (action_kind a) ≡ k) × HasRange a
-      go None none = absurd (none-some k (sym (sym is ∙ (kind_is n d.top ∙ ap (option_map (λ a. layered_kind (action_kind a))) none))))
-      go (Some a) some =
-          let one : Some (layered_kind (action_kind a)) ≡ Some k =
-          sym (kind_is n d.top ∙ ap (option_map (λ b. layered_kind (action_kind b))) some) ∙ is in
-          let it : layered_kind (action_kind a) ≡ k = cc in
-          (a, some, it, found_all HasRange (has_number n) (all_actions d.top) a ranges some)
+  in_range n k is =
+      let found = of_kind n d.top k is in
+      (found.0, found.1, found.2, found_all HasRange (has_number n) (all_actions d.top) found.0 ranges found.1)
 
   module _ (e : Environment) (f : Table Row) where
     -- whatever was decided
     items_at : (x : Address) (pace : Pace) (g : Graph) (decision : DecisionTree) → kind_of (graph_of d) x.name ≡ Some (Foreach pace g)
         → items_of decision ≤ turns (close_of d e (numbered x.name d.top) x decision 0 None f)
     items_at x pace g decision is =
-        let found = of_kind x.name (Foreach pace g) is in
+        let found = in_range x.name (Foreach pace g) is in
         subst (λ (o : Option ActionTree). items_of decision ≤ turns (close_of d e o x decision 0 None f)) (sym found.1)
         (items_of_one d e f found.0 x pace g decision found.2)
 
@@ -212,7 +204,7 @@ module _ (d : DefTree) (ranges : AllByRecursion HasRange (all_actions d.top)) wh
         → layered_meaning.rounds most 0 (λ j. ends (test j)) ≤ turns (close_of d e (numbered x.name d.top) x decision
         (layered_meaning.rounds most 0 (λ j. ends (test j))) (last (layered_meaning.rounds most 0 (λ j. ends (test j))) test) f)
     rounds_at x most g decision test is =
-        let found = of_kind x.name (Until most g) is in
+        let found = in_range x.name (Until most g) is in
         let n = layered_meaning.rounds most 0 (λ j. ends (test j)) in
         let least : 1 ≤ n = rounds_least most (λ j. ends (test j)) (until_most most g (action_kind found.0) found.2 found.3) in
         subst (λ (o : Option ActionTree). n ≤ turns (close_of d e o x decision n (last n test) f)) (sym found.1)

@@ -1,9 +1,12 @@
-//! What the rows of a run tell of its length: how often an action was tried, and how many iterations a loop had.
+//! What the rows of a run tell of how it went: how often an action was tried, how many iterations a loop had, which branch was taken.
 //!
 //! The laws of `wf_layers` bound the events of a run by the cost of what it keeps, where the row of a leaf tells at least its attempts, and
 //! that of a loop at least its iterations. Here that is shown of the rows of `wf_meant`, read as the cost of a record reads them
 //! (`wf_record`): a row keeps a list of its attempts, a Foreach has the list of its items as inputs, and an Until gives out how often it
 //! went round. It holds whatever rows are known, so it doesn't ask that the definition breaks no rule on names.
+//!
+//! The laws on the shape of records and on resubmission ask that only what is skipped is Skipped, and that the row of a container tells what
+//! it decided. Here that is shown of the actions of a definition, read as `wf_says` reads their rows.
 //!
 //! It has no code: each public function has an empty body but for the laws that it calls, and its contract is a law.
 #![tactic(auto)]
@@ -20,6 +23,7 @@ ghost use Rattle.wf_opening.specs.Decisions.{DecisionTree};
 ghost use Rattle.wf_reading.specs.Read.{IsRead};
 ghost use Rattle.wf_record.specs.Cost.{row_cost};
 ghost use Rattle.wf_record.specs.Record.{Row, RowTree};
+ghost use Rattle.wf_turns.specs.Reading.{ReadsBackWithin, RecallsWithin, reading};
 ghost use Rattle.wf_turns.specs.Turns.{turns};
 
 /// The row of a leaf that ran tells its attempts, that of a Foreach its items, and that of an Until how often it went round.
@@ -37,6 +41,20 @@ pub fn resubmitted_rows_tell_their_turns()
 {
     wf_known_laws::numbers_have_their_ranges();
 }
+
+/// Only the row of an action that is skipped is Skipped, and the row of a container that ran tells what it decided: which branch was taken,
+/// and how many iterations there were.
+pub fn rows_tell_what_was_decided()
+    ensures { (d : DefTree) → (e : Environment) → (f : Table Row) → ReadsBackWithin (graph_of d) (source d e) f (reading d) }
+{
+    wf_done::what_ran_is_not_skipped();
+}
+
+/// What the row of a Scope says, or that of an If or a Switch that took a branch, is all that it decided: opened again with it, it takes
+/// the same branch and keeps the same value.
+pub fn rows_recall_what_was_decided()
+    ensures { (d : DefTree) → (e : Environment) → (f : Table Row) → RecallsWithin d e f }
+{}
 
 /// A row costs at least 64 for itself and for each of its turns.
 pub fn a_row_costs_its_turns()
