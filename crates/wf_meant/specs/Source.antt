@@ -2,6 +2,7 @@
 use Rattle.std.specs.Prelude.{ℕ, Bool, true, false, ◌&&◌, List, [], length, Option, None, Some}
 use Rattle.std.specs.List.{list_any}
 use Rattle.wf_val.specs.ValueTree.{object, no_members}
+use Rattle.wf_val.specs.declared.fault.EvalFault.{EvalFault}
 use Rattle.wf_template.specs.DataTree.{DataMember}
 use Rattle.wf_layers.specs.Address.{Address, Table, address}
 use Rattle.wf_layers.specs.Meaning as layered_meaning
@@ -28,6 +29,10 @@ use Rattle.wf_meant.specs.Rows.{row_of, skipped, view_of}
 abbrev pub tracked_of : ActionTree → List DataMember
 tracked_of (action name number pointer after kind tracked) = tracked
 
+-- What a number comes to that no action has. No run asks for it: so that only what is skipped is Skipped, it is a fault.
+abbrev pub unknown : DoneTree
+unknown = done.faulted (EvalFault.NoValue [])
+
 module _ (d : DefTree) (e : Environment) where
   -- a row, once its tracked properties are there: these come last, and see the row without them
   abbrev pub with_tracked : ActionTree → Address → DoneTree → List Try → Table Row → Row
@@ -38,7 +43,7 @@ module _ (d : DefTree) (e : Environment) where
   -- ---- actions that hold no others
 
   abbrev pub begun : Option ActionTree → Address → Table Row → BegunTree
-  begun None x known = acted done.skipped
+  begun None x known = acted unknown
   begun (Some a) x known = leaf.begun (told_at d e x known) (action_kind a)
 
   abbrev pub tries_of : Option ActionTree → Address → BegunTree → List Try
@@ -46,7 +51,7 @@ module _ (d : DefTree) (e : Environment) where
   tries_of (Some a) x b = tries_in (facts_of e (action_name a)).answers (instance d x) b
 
   abbrev pub finished : Option ActionTree → Address → BegunTree → Table Row → Row
-  finished None x b known = skipped
+  finished None x b known = row_of unknown (object no_members) []
   finished (Some a) x b known =
       with_tracked a x (leaf.ended (facts_of e (action_name a)).answers (instance d x) b) (tries_of (Some a) x b) known
 
@@ -57,7 +62,7 @@ module _ (d : DefTree) (e : Environment) where
   test_of (Some a) u k known = tested (told_in_test d e u k known) (action_kind a)
 
   abbrev pub close_of : Option ActionTree → Address → DecisionTree → ℕ → Option VerdictTree → Table Row → Row
-  close_of None x decision n verdict known = skipped
+  close_of None x decision n verdict known = row_of unknown (object no_members) []
   close_of (Some a) x decision n verdict known = with_tracked a x (closed (action_kind a) x.at decision n verdict known) [] known
 
   -- a Terminate before the action Succeeded: it stands in no loop, so it has one address

@@ -8,10 +8,12 @@ use Rattle.wf_layers.specs.Definition as layers
 use Rattle.wf_layers.specs.Address.{Address, Table}
 use Rattle.wf_layers.specs.Called.{iterations}
 use Rattle.wf_layers.specs.Meaning.{last}
+use Rattle.wf_layers.specs.Shape.{ReadsBack}
 use Rattle.wf_answers.specs.AnswerTree.{AnswerTree}
 use Rattle.wf_def.specs.ActionTree.{ActionTree, action_kind, action_name, KindTree, compose, connector, wait, response, terminate, select}
 use Rattle.wf_def.specs.ActionTree.{query, join, parse_json, initialize, set_to, increment, decrement, append_array, append_string, scope}
 use Rattle.wf_def.specs.ActionTree.{branch, switch, switch_else, foreach, until}
+use Rattle.wf_def.specs.AllActions.{numbered}
 use Rattle.wf_def.specs.DefTree.{DefTree}
 use Rattle.wf_def.specs.Layered.{layered_kind}
 use Rattle.wf_record.specs.Record.{Row}
@@ -31,8 +33,8 @@ use Rattle.wf_meant.specs.Resubmitted.{said, said_by}
 use Rattle.wf_meant.specs.Rows.{row_of}
 use Rattle.wf_meant.specs.Source.{begun, close_of, finished, source}
 use Rattle.wf_says.specs.Told.{count_items, count_told, items_said, rounds_said, taken_by, told_rounds}
-use Rattle.wf_turns.specs.Reading.{ReadsBackWithin, RecallsWithin, reading, taken_in}
-use Rattle.wf_turns.proofs.FoundLemmas.{of_kind, of_number}
+use Rattle.wf_turns.specs.Reading.{RecallsWithin, reading, taken_in}
+use Rattle.wf_turns.proofs.FoundLemmas.{of_kind}
 use Rattle.wf_turns.proofs.ReadLemmas.{chosen_again, chosen_back, held_again, held_back, items_back, ran_closed, ran_tree, rounds_back}
 
 -- ---- by kind
@@ -195,21 +197,24 @@ recalls d e f = record {
 module _ (ran : (l : Told) (kind : KindTree) (n : ℕ) (answers : List AnswerTree) (x : named.Address)
     → (ended answers x (begun_from l kind n)).status ≡ Status.Skipped → ⊥)
     (d : DefTree) (e : Environment) (f : Table Row) where
+  left_ran : (o : Option ActionTree) (x : Address) → status_tree (finished d e o x (begun d e o x f) f).status ≡ layers.Skipped → ⊥
+  left_ran None x = λ is. absurd (cc)
+  left_ran (Some a) x =
+      ran_tree (ended (facts_of e (action_name a)).answers (instance d x) (begun_from (told_at d e x f) (action_kind a) 0)).status
+      (ran (told_at d e x f) (action_kind a) 0 (facts_of e (action_name a)).answers (instance d x))
+
+  closed_ran : (o : Option ActionTree) (x : Address) (decision : DecisionTree) (n : ℕ) (v : Option VerdictTree)
+      → status_tree (close_of d e o x decision n v f).status ≡ layers.Skipped → ⊥
+  closed_ran None x decision n v = λ is. absurd (cc)
+  closed_ran (Some a) x decision n v =
+      ran_tree (closed (action_kind a) x.at decision n v f).status (ran_closed (action_kind a) x.at decision n v f)
+
   -- THE LAW of what is read
-  pub reads_back : ReadsBackWithin (graph_of d) (source d e) f (reading d)
+  pub reads_back : ReadsBack (graph_of d) (source d e) f (reading d)
   reads_back = record {
     skipped = refl;
-    leaves = λ x there.
-        let found = of_number x.name d.top there in
-        subst (λ (o : Option ActionTree). status_tree (finished d e o x (begun d e o x f) f).status ≡ layers.Skipped → ⊥) (sym found.1)
-        (ran_tree
-        (ended (facts_of e (action_name found.0)).answers (instance d x) (begun_from (told_at d e x f) (action_kind found.0) 0)).status
-        (ran (told_at d e x f) (action_kind found.0) 0 (facts_of e (action_name found.0)).answers (instance d x)));
-    closed = λ x n v there.
-        let found = of_number x.name d.top there in
-        let decision = (source d e).decide x f in
-        subst (λ (o : Option ActionTree). status_tree (close_of d e o x decision n v f).status ≡ layers.Skipped → ⊥) (sym found.1)
-        (ran_tree (closed (action_kind found.0) x.at decision n v f).status (ran_closed (action_kind found.0) x.at decision n v f));
+    leaves = λ x. left_ran (numbered x.name d.top) x;
+    closed = λ x n v. closed_ran (numbered x.name d.top) x ((source d e).decide x f) n v;
     taken = λ x bs is.
         let found = of_kind x.name d.top (Choice bs) is in
         subst (λ (o : Option ActionTree). taken_in o (close_of d e o x (decided_by o (told_at d e x f)) 0 None f)

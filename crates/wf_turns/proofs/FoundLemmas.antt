@@ -26,15 +26,6 @@ any_joined p [] ys = refl
 any_joined p (x ∷ xs) ys =
     ap (λ (b : Bool). p x || b) (any_joined p xs ys) ∙ sym (or_joined (p x) (list_any p xs) (list_any p ys))
 
-found_among : {X : Type 0} (p : X → Bool) (xs : List X) → list_any p xs ≡ true → (x : X) × (find p xs ≡ Some x)
-found_among p [] some = absurd (true≢false (sym some))
-found_among p (x ∷ xs) some = elim (two (p x)) [
-  | inl t ↦ (x, when (p x) (Some x) (find p xs) t)
-  | inr f ↦
-      let later = found_among p xs (sym (ap (λ (b : Bool). b || list_any p xs) f) ∙ some) in
-      (later.0, unless (p x) (Some x) (find p xs) f ∙ later.1)
-]
-
 find_joined : {X : Type 0} (p : X → Bool) (xs ys : List X) → find p (xs ++ ys) ≡ cond (list_any p xs) (find p xs) (find p ys)
 find_joined p [] ys = refl
 find_joined {X = X} p (x ∷ xs) ys = elim (two (p x)) [
@@ -47,7 +38,7 @@ find_joined {X = X} p (x ∷ xs) ys = elim (two (p x)) [
       (unless (p x) (Some x) (find p xs) f)))
 ]
 
-pub find_none : {X : Type 0} (p : X → Bool) (xs : List X) → list_any p xs ≡ false → find p xs ≡ None
+find_none : {X : Type 0} (p : X → Bool) (xs : List X) → list_any p xs ≡ false → find p xs ≡ None
 find_none p [] none = refl
 find_none p (x ∷ xs) none = elim (two (p x)) [
   | inl t ↦ absurd (true≢false (sym (or_first (p x) (list_any p xs) t) ∙ none))
@@ -223,11 +214,7 @@ module _ (n : ℕ) where
         ∙ kinds_behind (layers.has (layered graph) n) (layers.kind_of (layered graph) n) (layers.kind_any last n) (all_actions graph)
         (cases_actions rest) (graph_has graph) (kind_is graph)
 
--- the action of a number that the graph has, and of a number of a kind
-pub of_number : (n : ℕ) (graph : ActionTrees) → layers.has (layered graph) n ≡ true
-    → (a : ActionTree) × (find (has_number n) (all_actions graph) ≡ Some a)
-of_number n graph there = found_among (has_number n) (all_actions graph) (sym (graph_has n graph) ∙ there)
-
+-- the action of a number of a kind
 pub of_kind : (n : ℕ) (graph : ActionTrees) (k : Kind) → layers.kind_of (layered graph) n ≡ Some k
     → (a : ActionTree) × (find (has_number n) (all_actions graph) ≡ Some a) × (layered_kind (action_kind a) ≡ k)
 of_kind n graph k is = go (find (has_number n) (all_actions graph)) refl

@@ -3,6 +3,5 @@ mod RangeLemmas
 mod TurnLemmas
 mod ReadLemmas
 mod BackLemmas
-mod OutsideLemmas
 mod TurnRows
 mod ReadRows

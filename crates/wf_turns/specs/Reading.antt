@@ -1,11 +1,8 @@
--- WHAT IS READ OFF THE ROWS of a definition, as the laws on the shape of records ask for it, and what these laws ask of it.
-use Rattle.std.specs.Prelude.{◌≡◌, ℕ, true, Option, Some, None}
+-- WHAT IS READ OFF THE ROWS of a definition, as the laws on the shape of records ask for it; and what is recalled by them.
+use Rattle.std.specs.Prelude.{◌≡◌, ℕ, Option, Some, None}
 use Rattle.wf_layers.specs.Address.{Address, Table}
-use Rattle.wf_layers.specs.Called.{iterations}
-use Rattle.wf_layers.specs.Definition.{Skipped, Pace, Scope, Choice, Foreach, Until, Branches, Graph, has, kind_of}
-use Rattle.wf_layers.specs.Meaning.{last}
+use Rattle.wf_layers.specs.Definition.{Scope, Choice, Branches, Graph, kind_of}
 use Rattle.wf_layers.specs.Shape.{Reading}
-use Rattle.wf_layers.specs.Source.{Source, leaf}
 use Rattle.wf_def.specs.ActionTree.{ActionTree, action_kind}
 use Rattle.wf_def.specs.AllActions.{numbered}
 use Rattle.wf_def.specs.DefTree.{DefTree}
@@ -24,21 +21,6 @@ taken_in (Some a) row = taken_by (action_kind a) row
 
 abbrev pub reading : DefTree → Reading Row
 reading d = record { taken = λ n row. taken_in (numbered n d.top) row; items = items_said; rounds = rounds_said }
-
--- Of all actions of the graph: only what is skipped is Skipped, and the row of a container that ran tells what is read from it.
-pub record ReadsBackWithin {Row Begun Decision Verdict : Type 0} (d : Graph) (m : Source Row Begun Decision Verdict) (f : Table Row)
-    (read : Reading Row) : Type 0 where
-  pub skipped : m.status m.skipped ≡ Skipped
-  pub leaves : (x : Address) → has d x.name ≡ true → m.status (leaf m x f) ≡ Skipped → ⊥
-  pub closed : (x : Address) (c : ℕ) (v : Option Verdict) → has d x.name ≡ true
-      → m.status (m.close x (m.decide x f) c v f) ≡ Skipped → ⊥
-  pub taken : (x : Address) (bs : Branches) → kind_of d x.name ≡ Some (Choice bs)
-      → read.taken x.name (m.close x (m.decide x f) 0 None f) ≡ m.taken (m.decide x f)
-  pub items : (x : Address) (pace : Pace) (g : Graph) → kind_of d x.name ≡ Some (Foreach pace g)
-      → read.items (m.close x (m.decide x f) 0 None f) ≡ m.items (m.decide x f)
-  pub rounds : (x : Address) (most : ℕ) (g : Graph) → kind_of d x.name ≡ Some (Until most g)
-      → read.rounds (m.close x (m.decide x f) (iterations m (Until most g) x f)
-      (last (iterations m (Until most g) x f) (λ j. m.test x j f)) f) ≡ iterations m (Until most g) x f
 
 -- What is recalled by the row of a container that is closed again is what it decided: a Scope decides nothing, and of an If or a Switch
 -- that took no branch nothing inside it ran.

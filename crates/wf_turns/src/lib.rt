@@ -16,6 +16,7 @@ ghost use Rattle.wf_def.specs.DefTree.{DefTree};
 ghost use Rattle.wf_layers.specs.Address.{Address, Table};
 ghost use Rattle.wf_layers.specs.Bound.{TellsTurns};
 ghost use Rattle.wf_layers.specs.Resubmission.{pin};
+ghost use Rattle.wf_layers.specs.Shape.{ReadsBack};
 ghost use Rattle.wf_meaning.specs.Environment.{Environment};
 ghost use Rattle.wf_meant.specs.Points.{graph_of};
 ghost use Rattle.wf_meant.specs.Source.{source};
@@ -23,7 +24,7 @@ ghost use Rattle.wf_opening.specs.Decisions.{DecisionTree};
 ghost use Rattle.wf_reading.specs.Read.{IsRead};
 ghost use Rattle.wf_record.specs.Cost.{row_cost};
 ghost use Rattle.wf_record.specs.Record.{Row, RowTree};
-ghost use Rattle.wf_turns.specs.Reading.{ReadsBackWithin, RecallsWithin, reading};
+ghost use Rattle.wf_turns.specs.Reading.{RecallsWithin, reading};
 ghost use Rattle.wf_turns.specs.Turns.{turns};
 
 /// The row of a leaf that ran tells its attempts, that of a Foreach its items, and that of an Until how often it went round.
@@ -45,7 +46,7 @@ pub fn resubmitted_rows_tell_their_turns()
 /// Only the row of an action that is skipped is Skipped, and the row of a container that ran tells what it decided: which branch was taken,
 /// and how many iterations there were.
 pub fn rows_tell_what_was_decided()
-    ensures { (d : DefTree) → (e : Environment) → (f : Table Row) → ReadsBackWithin (graph_of d) (source d e) f (reading d) }
+    ensures { (d : DefTree) → (e : Environment) → (f : Table Row) → ReadsBack (graph_of d) (source d e) f (reading d) }
 {
     wf_done::what_ran_is_not_skipped();
 }
