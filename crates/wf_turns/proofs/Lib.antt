@@ -1,6 +1,7 @@
 mod FoundLemmas
 mod RangeLemmas
 mod TurnLemmas
+mod AnswerLemmas
 mod ReadLemmas
 mod BackLemmas
 mod TurnRows

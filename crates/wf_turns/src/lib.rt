@@ -5,19 +5,21 @@
 //! (`wf_record`): a row keeps a list of its attempts, a Foreach has the list of its items as inputs, and an Until gives out how often it
 //! went round. It holds whatever rows are known, so it doesn't ask that the definition breaks no rule on names.
 //!
-//! The laws on the shape of records and on resubmission ask that only what is skipped is Skipped, and that the row of a container tells what
-//! it decided. Here that is shown of the actions of a definition, read as `wf_says` reads their rows.
+//! The laws on the shape of records and on resubmission ask that only what is skipped is Skipped, and that the row of a container tells
+//! what it decided. Here that is shown of all definitions, their rows read as `wf_says` reads them.
 //!
 //! It has no code: each public function has an empty body but for the laws that it calls, and its contract is a law.
 #![tactic(auto)]
 
-ghost use Rattle.std.specs.Prelude.{◌*◌, ◌≤◌, suc, ℕ, Bool};
+ghost use Rattle.std.specs.Prelude.{◌*◌, ◌+◌, ◌≤◌, suc, ℕ, Bool, length};
 ghost use Rattle.wf_def.specs.DefTree.{DefTree};
+ghost use Rattle.wf_done.specs.Leaf.{BegunTree};
 ghost use Rattle.wf_layers.specs.Address.{Address, Table};
 ghost use Rattle.wf_layers.specs.Bound.{TellsTurns};
 ghost use Rattle.wf_layers.specs.Resubmission.{pin};
 ghost use Rattle.wf_layers.specs.Shape.{ReadsBack};
-ghost use Rattle.wf_meaning.specs.Environment.{Environment};
+ghost use Rattle.wf_meaning.specs.Environment.{Environment, facts_of};
+ghost use Rattle.wf_meant.specs.Look.{name_of};
 ghost use Rattle.wf_meant.specs.Points.{graph_of};
 ghost use Rattle.wf_meant.specs.Source.{source};
 ghost use Rattle.wf_opening.specs.Decisions.{DecisionTree};
@@ -68,5 +70,13 @@ pub fn attempts_are_few()
         → (source d e).tries x ((source d e).start x known) ≤ 91 }
 {
     wf_known_laws::numbers_have_their_ranges();
+    wf_connect::the_last_attempt_is_the_least();
+}
+
+/// Whatever it has begun with, an action is tried at most once more than it has answers.
+pub fn attempts_are_answered()
+    ensures { (d : DefTree) → (e : Environment) → (x : Address) → (b : BegunTree)
+        → (source d e).tries x b ≤ 1 + length (facts_of e (name_of d x.name)).answers }
+{
     wf_connect::the_last_attempt_is_the_least();
 }
