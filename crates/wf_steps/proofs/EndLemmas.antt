@@ -17,9 +17,9 @@ use Rattle.wf_asks.specs.declared.instance.Instance.{Instance}
 use Rattle.wf_asks.specs.declared.known.OpenAt.{OpenAt}
 use Rattle.wf_asks.specs.declared.known.RowAt.{RowAt}
 use Rattle.wf_steps.specs.Kept.{Goes, IsEnabled}
-use Rattle.wf_steps.specs.Tables.{leaf_tree, running_in, state_of}
-use Rattle.wf_steps.specs.declared.entries.LeafAt.{LeafAt}
-use Rattle.wf_steps.proofs.TableLemmas.{table_put, table_take}
+use Rattle.wf_tables.specs.Tables.{leaf_tree, running_in, state_of}
+use Rattle.wf_tables.specs.declared.entries.LeafAt.{LeafAt}
+use Rattle.wf_tables.proofs.TableLemmas.{table_put, table_take}
 
 some_is : {A : Type 0} {u v : A} → Some u ≡ Some v → u ≡ v
 some_is e = cc (e)

@@ -9,11 +9,11 @@ use Rattle.wf_layers.specs.Machine.{Opening, State, Event, has_ended}
 use Rattle.wf_kept.specs.Event.{counted_begun, counted_branch, counted_idle, counted_open, counted_test}
 use Rattle.wf_def.specs.Layered.{listed_of, where_listed}
 use Rattle.wf_def.specs.declared.after.Statuses.{Statuses}
-use Rattle.wf_plan.specs.Plan.{branch_numbers, shape_of}
+use Rattle.wf_plan.specs.Plan.{BranchTree, branches_of, shape_of}
 use Rattle.wf_steps.specs.Events.{begin_kind, begun_kind, close_kind, foreach_kind, idle_kind, is_branch, open_kind, tested_kind, until_kind}
-use Rattle.wf_steps.specs.Tables.{event_at}
-use Rattle.wf_steps.specs.declared.entries.EventKind.{EventKind}
-use Rattle.wf_steps.specs.declared.entries.EventKind.TheVariants.{Skip, Begin, Test, Close}
+use Rattle.wf_tables.specs.Tables.{event_at}
+use Rattle.wf_tables.specs.declared.entries.EventKind.{EventKind}
+use Rattle.wf_tables.specs.declared.entries.EventKind.TheVariants.{Skip, Begin, Test, Close}
 
 -- ---- listed statuses
 
@@ -78,14 +78,14 @@ module _ (s : Statuses) where
 
 -- ---- branches by their numbers
 
-pub branch_below : (bs : List (List ℕ)) (c : ℕ) → is_branch bs c ≡ (nat_le 1 c && nat_le c (length bs))
+pub branch_below : (bs : List BranchTree) (c : ℕ) → is_branch bs c ≡ (nat_le 1 c && nat_le c (length bs))
 branch_below [] zero = refl
 branch_below [] (suc c) = grind (arith)
 branch_below (b ∷ bs) zero = branch_below bs zero ∙ grind (arith)
 branch_below (b ∷ bs) (suc zero) = grind (arith)
 branch_below (b ∷ bs) (suc (suc c)) = branch_below bs (suc c) ∙ grind (arith)
 
-pub branch_not : (bs : List (List ℕ)) (c : ℕ) → c < 1 → nat_le 1 c ≡ is_branch bs c
+pub branch_not : (bs : List BranchTree) (c : ℕ) → c < 1 → nat_le 1 c ≡ is_branch bs c
 branch_not bs c below = none c below ∙ sym (branch_below bs c ∙ ap (λ b. b && nat_le c (length bs)) (none c below))
   where
     none : (c : ℕ) → c < 1 → nat_le 1 c ≡ false
@@ -97,7 +97,7 @@ there_or true b p q x y e = refl
 there_or false b p q x y e = e
 
 -- and from 1 on by how many there are
-pub branch_up_to : (bs : List (List ℕ)) (c : ℕ) → 1 ≤ c → nat_le c (length bs) ≡ is_branch bs c
+pub branch_up_to : (bs : List BranchTree) (c : ℕ) → 1 ≤ c → nat_le c (length bs) ≡ is_branch bs c
 branch_up_to bs c from = sym (branch_below bs c ∙ ap (λ b. b && nat_le c (length bs)) (one_below c from))
   where
     one_below : (c : ℕ) → 1 ≤ c → nat_le 1 c ≡ true
@@ -105,9 +105,9 @@ branch_up_to bs c from = sym (branch_below bs c ∙ ap (λ b. b && nat_le c (len
 
 -- the numbers of branches tell whether there is one
 branch_there : (bs : Branches) (c : ℕ) → {A : Type 0} (x y : A)
-    → cond (is_branch (branch_numbers bs) c) x y ≡ cond (has_ended (branch_at bs c)) x y
+    → cond (is_branch (branches_of bs) c) x y ≡ cond (has_ended (branch_at bs c)) x y
 branch_there no_branch c x y = refl
-branch_there (branch b rest) c x y = there_or (is_one c) b (is_branch (branch_numbers rest) (less_one c)) (branch_at rest (less_one c)) x y
+branch_there (branch b rest) c x y = there_or (is_one c) b (is_branch (branches_of rest) (less_one c)) (branch_at rest (less_one c)) x y
     (branch_there rest (less_one c) x y)
 
 -- ---- events by kinds of action
@@ -144,10 +144,10 @@ module _ {Row Begun Decision Verdict : Type 0} (d : Graph) (m : Source Row Begun
   until_same most next (Some v) = tested most next v
 
   branch_same : (bs : Branches) (c : ℕ)
-      → option_map event (cond (is_branch (branch_numbers bs) c) (close_kind (lacks (address n i))) (Some Close))
+      → option_map event (cond (is_branch (branches_of bs) c) (close_kind (lacks (address n i))) (Some Close))
       ≡ counted_branch d m s waits lacks left (branch_at bs c) n i
   branch_same bs c =
-      of_cond (is_branch (branch_numbers bs) c) (close_kind (lacks (address n i))) (Some Close)
+      of_cond (is_branch (branches_of bs) c) (close_kind (lacks (address n i))) (Some Close)
       ∙ branch_there bs c (option_map event (close_kind (lacks (address n i)))) (Some (machine.Close n i)) ∙ go (branch_at bs c)
     where
       go : (o : Option Graph) → cond (has_ended o) (option_map event (close_kind (lacks (address n i)))) (Some (machine.Close n i))

@@ -1,19 +1,23 @@
 -- Worked rows of what may happen next, of last writers, and of what is looked at anew.
 use Rattle.std.proofs.Common.{◌≡◌, ℕ, true, false, [], ◌∷◌, Option, Some, None, refl}
 use Rattle.wf_layers.specs.Address.{Address, address}
-use Rattle.wf_plan.specs.Plan.{leaf, until}
+use Rattle.wf_plan.specs.Plan.{BranchTree, leaf, until}
 use Rattle.wf_steps.specs.Events.{begin_kind, close_kind, foreach_kind, is_branch}
 use Rattle.wf_steps.specs.Looked.{instances_at}
 use Rattle.wf_steps.specs.Written.{put_each, writers_of}
-use Rattle.wf_steps.specs.declared.entries.EventKind.TheVariants.{Start, Open, Begin, Close}
+use Rattle.wf_tables.specs.declared.entries.EventKind.TheVariants.{Start, Open, Begin, Close}
 
-branch_zero : is_branch ((1 ∷ []) ∷ []) 0 ≡ false
+-- a branch with one action
+abbrev one_branch : BranchTree
+one_branch = record { own = 1 ∷ []; all = 1 ∷ [] }
+
+branch_zero : is_branch (one_branch ∷ []) 0 ≡ false
 branch_zero = refl
 
-branch_one : is_branch ((1 ∷ []) ∷ []) 1 ≡ true
+branch_one : is_branch (one_branch ∷ []) 1 ≡ true
 branch_one = refl
 
-branch_past : is_branch ((1 ∷ []) ∷ []) 2 ≡ false
+branch_past : is_branch (one_branch ∷ []) 2 ≡ false
 branch_past = refl
 
 a_leaf_starts : begin_kind leaf ≡ Start

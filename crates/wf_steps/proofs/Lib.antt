@@ -1,5 +1,4 @@
 pub mod TableLemmas
-pub mod CountLemmas
 pub mod OverLemmas
 pub mod InformedLemmas
 pub mod QuietLemmas
@@ -7,4 +6,3 @@ pub mod EndLemmas
 pub mod EventLemmas
 pub mod WrittenLemmas
 pub mod EventRows
-pub mod StateRows

@@ -12,9 +12,9 @@ use Rattle.wf_layers.specs.Source.{Source}
 use Rattle.wf_kept.proofs.Known.{exact_there}
 use Rattle.wf_asks.specs.Instances.{instance_cmp, instance_total}
 use Rattle.wf_steps.specs.Kept.{IsEnabled, IsOver, IsKept}
-use Rattle.wf_steps.specs.Tables.{event_tree}
-use Rattle.wf_steps.specs.declared.entries.CountAt.{CountAt}
-use Rattle.wf_steps.specs.declared.entries.EventAt.{EventAt}
+use Rattle.wf_tables.specs.Tables.{event_tree}
+use Rattle.wf_tables.specs.declared.entries.CountAt.{CountAt}
+use Rattle.wf_tables.specs.declared.entries.EventAt.{EventAt}
 use Rattle.wf_asks.specs.declared.known.OpenAt.{OpenAt}
 use Rattle.wf_asks.specs.declared.known.WriterAt.{WriterAt}
 

@@ -22,14 +22,14 @@ use Rattle.wf_asks.specs.declared.instance.Instance.{Instance}
 use Rattle.wf_asks.specs.declared.known.RowAt.{RowAt}
 use Rattle.wf_asks.specs.declared.known.WriterAt.{WriterAt}
 use Rattle.wf_steps.specs.Kept.{Goes, IsEnabled, IsKept}
-use Rattle.wf_steps.specs.Tables.{count_in, event_tree, events_in, leaf_tree, left_in, running_in, state_of}
-use Rattle.wf_steps.specs.declared.entries.CountAt.{CountAt}
-use Rattle.wf_steps.specs.declared.entries.EventAt.{EventAt}
-use Rattle.wf_steps.specs.declared.entries.EventKind.{EventKind}
-use Rattle.wf_steps.specs.declared.entries.EventKind.TheVariants.{Try, End}
-use Rattle.wf_steps.specs.declared.entries.LeafAt.{LeafAt}
+use Rattle.wf_tables.specs.Tables.{count_in, event_tree, events_in, leaf_tree, left_in, running_in, state_of}
+use Rattle.wf_tables.specs.declared.entries.CountAt.{CountAt}
+use Rattle.wf_tables.specs.declared.entries.EventAt.{EventAt}
+use Rattle.wf_tables.specs.declared.entries.EventKind.{EventKind}
+use Rattle.wf_tables.specs.declared.entries.EventKind.TheVariants.{Try, End}
+use Rattle.wf_tables.specs.declared.entries.LeafAt.{LeafAt}
 use Rattle.wf_asks.specs.declared.known.OpenAt.{OpenAt}
-use Rattle.wf_steps.proofs.TableLemmas.{table_put, table_take}
+use Rattle.wf_tables.proofs.TableLemmas.{table_put, table_take}
 
 some_is : {A : Type 0} {u v : A} → Some u ≡ Some v → u ≡ v
 some_is e = cc (e)

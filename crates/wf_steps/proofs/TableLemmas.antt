@@ -1,68 +1,17 @@
--- What an edit of a list makes of its table.
-use Rattle.std.proofs.Common.{◌≡◌, ℕ, Bool, true, false, ◌&&◌, cond, List, [], ◌∷◌, Some, None, option_map, is_eq, nat_eq, bytes_eq, refl, sym, ap, ◌∙◌, arith, true≢false}
-use Rattle.std.proofs.lemmas.Map.Text.{is_eq-slice_cmp}
-use Rattle.wf_lists.specs.KeyOrder.{IsInKeyOrder, find_key, put_key, without_key}
-use Rattle.wf_lists.proofs.KeyOrderLemmas.{find-put, find-without}
-use Rattle.wf_layers.specs.Address.{Address, is_own, same_at}
-use Rattle.wf_layers.specs.Machine.{place, one, without, or_else}
+-- What a put makes of a table, at each address.
+use Rattle.std.proofs.Common.{◌≡◌, Bool, true, false, cond, List, Some, None, refl, ap, ◌∙◌}
+use Rattle.wf_lists.specs.KeyOrder.{put_key}
+use Rattle.wf_layers.specs.Address.{Address, is_own}
+use Rattle.wf_layers.specs.Machine.{or_else}
 use Rattle.wf_layers.specs.Meaning.{only}
-use Rattle.wf_asks.specs.Instances.{instance_cmp, instance_of, instance_total, table_of}
+use Rattle.wf_asks.specs.Instances.{instance_cmp, table_of}
 use Rattle.wf_asks.specs.declared.instance.Instance.{Instance}
+use Rattle.wf_tables.proofs.TableLemmas.{table_put}
 
-flipped : (a b : ℕ) → nat_eq a b ≡ nat_eq b a
-flipped a b = grind (arith)
-
-pub bytes_same : (i j : List ℕ) → bytes_eq i j ≡ same_at j i
-bytes_same [] [] = refl
-bytes_same [] (b ∷ j) = refl
-bytes_same (a ∷ i) [] = refl
-bytes_same (a ∷ i) (b ∷ j) = ap (λ z. z && bytes_eq i j) (flipped a b) ∙ ap (λ z. nat_eq b a && z) (bytes_same i j)
-
--- the place of an address is that of the instance
-pub own_place : (k : Instance) (x : Address) → is_eq (instance_cmp (instance_of x) k) ≡ is_own k.action k.at x
-own_place k x = is_eq-slice_cmp (x.name ∷ x.at) (k.action ∷ k.at) ∙ bytes_same (x.name ∷ x.at) (k.action ∷ k.at)
-
-module _ {X Y : Type 0} (at : X → Instance) (see : X → Y) where
-  put_at : (y : X) (xs : List X) (x : Address) → table_of at see (put_key instance_cmp at y xs) x
-      ≡ place (one (at y).action (at y).at (see y)) (table_of at see xs) x
-  put_at y xs x =
-      ap (option_map see) (find-put instance_total at (instance_of x) y xs)
-      ∙ go (is_eq (instance_cmp (instance_of x) (at y))) (is_own (at y).action (at y).at x) (own_place (at y) x)
-    where
-      go : (a b : Bool) → a ≡ b → option_map see (cond a (Some y) (find_key instance_cmp at (instance_of x) xs))
-          ≡ or_else (only b (Some (see y))) (table_of at see xs x)
-      go true true e = refl
-      go false false e = refl
-      go true false e = absurd (true≢false e)
-      go false true e = absurd (true≢false (sym e))
-
-  -- a put is a placed entry
-  pub table_put : (y : X) (xs : List X) → table_of at see (put_key instance_cmp at y xs)
-      ≡ place (one (at y).action (at y).at (see y)) (table_of at see xs)
-  table_put y xs = λ k x. put_at y xs x k
-
-  -- at each address
-  pub put_entry : (y : X) (xs : List X) (x : Address) → table_of at see (put_key instance_cmp at y xs) x
-      ≡ cond (is_own (at y).action (at y).at x) (Some (see y)) (table_of at see xs x)
-  put_entry y xs x = put_at y xs x ∙ go (is_own (at y).action (at y).at x)
-    where
-      go : (b : Bool) → or_else (only b (Some (see y))) (table_of at see xs x) ≡ cond b (Some (see y)) (table_of at see xs x)
-      go true = refl
-      go false = refl
-
-  pub take_at : (i : Instance) (xs : List X) → IsInKeyOrder instance_cmp at xs → (x : Address)
-      → table_of at see (without_key instance_cmp at i xs) x ≡ without i.action i.at (table_of at see xs) x
-  take_at i xs order x =
-      ap (option_map see) (find-without instance_total at i (instance_of x) xs order)
-      ∙ go (is_eq (instance_cmp (instance_of x) i)) (is_own i.action i.at x) (own_place i x)
-    where
-      go : (a b : Bool) → a ≡ b → option_map see (cond a None (find_key instance_cmp at (instance_of x) xs))
-          ≡ cond b None (table_of at see xs x)
-      go true true e = refl
-      go false false e = refl
-      go true false e = absurd (true≢false e)
-      go false true e = absurd (true≢false (sym e))
-
-  pub table_take : (i : Instance) (xs : List X) → IsInKeyOrder instance_cmp at xs
-      → table_of at see (without_key instance_cmp at i xs) ≡ without i.action i.at (table_of at see xs)
-  table_take i xs order = λ k x. take_at i xs order x k
+pub put_entry : {X Y : Type 0} (at : X → Instance) (see : X → Y) (y : X) (xs : List X) (x : Address)
+    → table_of at see (put_key instance_cmp at y xs) x ≡ cond (is_own (at y).action (at y).at x) (Some (see y)) (table_of at see xs x)
+put_entry at see y xs x = ap (λ t. t x) (table_put at see y xs) ∙ go (is_own (at y).action (at y).at x)
+  where
+    go : (b : Bool) → or_else (only b (Some (see y))) (table_of at see xs x) ≡ cond b (Some (see y)) (table_of at see xs x)
+    go true = refl
+    go false = refl

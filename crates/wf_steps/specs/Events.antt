@@ -5,12 +5,12 @@ use Rattle.wf_layers.specs.Address.{Table, address}
 use Rattle.wf_layers.specs.Enabled.{most_of}
 use Rattle.wf_layers.specs.Machine.{Opening, has_ended}
 use Rattle.wf_layers.specs.Source.{Source, gate}
-use Rattle.wf_plan.specs.Plan.{ShapeTree, leaf, scope, choice, foreach, until}
-use Rattle.wf_steps.specs.declared.entries.EventKind.{EventKind}
-use Rattle.wf_steps.specs.declared.entries.EventKind.TheVariants.{Start, Skip, Open, Begin, Test, Close}
+use Rattle.wf_plan.specs.Plan.{BranchTree, ShapeTree, leaf, scope, choice, foreach, until}
+use Rattle.wf_tables.specs.declared.entries.EventKind.{EventKind}
+use Rattle.wf_tables.specs.declared.entries.EventKind.TheVariants.{Start, Skip, Open, Begin, Test, Close}
 
 -- there is a branch of this number, counted from 1
-abbrev pub is_branch : List (List ℕ) → ℕ → Bool
+abbrev pub is_branch : List BranchTree → ℕ → Bool
 is_branch [] c = false
 is_branch (b ∷ bs) c = cond (is_one c) true (is_branch bs (less_one c))
 

@@ -11,9 +11,9 @@ use Rattle.wf_kept.specs.Reached.{IsReached}
 use Rattle.wf_kept.specs.Ready.{IsReady}
 use Rattle.wf_kept.specs.Stored.{IsStored}
 use Rattle.wf_asks.specs.Instances.{instance_cmp}
-use Rattle.wf_steps.specs.Tables.{count_in, events_in, left_in}
-use Rattle.wf_steps.specs.declared.entries.CountAt.{CountAt}
-use Rattle.wf_steps.specs.declared.entries.EventAt.{EventAt}
+use Rattle.wf_tables.specs.Tables.{count_in, events_in, left_in}
+use Rattle.wf_tables.specs.declared.entries.CountAt.{CountAt}
+use Rattle.wf_tables.specs.declared.entries.EventAt.{EventAt}
 use Rattle.wf_asks.specs.Known.{store_in, writer}
 use Rattle.wf_asks.specs.declared.known.OpenAt.{OpenAt}
 use Rattle.wf_asks.specs.declared.known.WriterAt.{WriterAt}

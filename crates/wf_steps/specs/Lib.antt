@@ -1,5 +1,4 @@
-pub mod Tables
-pub mod Counts
+pub mod Shown
 pub mod Events
 pub mod Written
 pub mod Looked

@@ -7,7 +7,7 @@ use Rattle.wf_asks.specs.declared.instance.Instance.{Instance}
 use Rattle.wf_plan.specs.Plan.{EntryTree, PlanTree}
 use Rattle.wf_plan.specs.PlanSeen.{at_place}
 use Rattle.wf_steps.specs.Events.{idle_kind}
-use Rattle.wf_steps.specs.Tables.{event_at}
+use Rattle.wf_tables.specs.Tables.{event_at}
 
 -- these actions at the indexes
 abbrev pub instances_at : List ℕ → List ℕ → List Instance

@@ -7,17 +7,17 @@ ghost use Rattle.wf_def.specs.Layered.{listed_of, pace};
 ghost use Rattle.wf_asks.specs.Instances.{address_of, rows_in};
 ghost use Rattle.wf_asks.specs.Known.{open_tree};
 ghost use Rattle.wf_asks.specs.Statuses.{status_tree};
-ghost use Rattle.wf_plan.specs.PlanSeen.{entry_tree, lists_of, shape_tree, wait_need};
+ghost use Rattle.wf_plan.specs.PlanSeen.{branches_seen, entry_tree, shape_tree, wait_need};
 ghost use Rattle.wf_steps.specs.Events.{begin_kind, begun_kind, close_kind, foreach_kind, idle_kind, is_branch, open_kind, tested_kind};
-ghost use Rattle.wf_steps.specs.Tables.{count_in};
-ghost use Rattle.wf_steps.specs.declared.entries.EventKind.TheVariants.{Close};
+ghost use Rattle.wf_tables.specs.Tables.{count_in};
+ghost use Rattle.wf_tables.specs.declared.entries.EventKind.TheVariants.{Close};
 
-use crate::entries::{CountAt, EventKind};
 use wf_asks::{Acts, Instance, Known, OpenAt, Rows};
 use wf_def::Statuses;
-use wf_plan::{Entry, Shape, Wait};
+use wf_plan::{Branch, Entry, Shape, Wait};
 use wf_record::Status;
 use wf_room::Roomy;
+use wf_tables::{CountAt, EventKind};
 
 #[tactic(auto, using(crate::proofs::EventLemmas::lists_succeeded, crate::proofs::EventLemmas::lists_failed, crate::proofs::EventLemmas::lists_skipped, crate::proofs::EventLemmas::lists_timed_out, crate::proofs::EventLemmas::lists_cancelled))]
 fn lists(statuses: Statuses, status: Status) -> bool
@@ -65,8 +65,8 @@ fn begin_kind(shape: &Shape) -> EventKind
     }
 }
 
-fn is_branch(branches: &[Vec<u32>], taken: u64) -> bool
-    ensures { result ≡ is_branch (lists_of branches.now) taken }
+fn is_branch(branches: &[Branch], taken: u64) -> bool
+    ensures { result ≡ is_branch (branches_seen branches.now) taken }
 {
     taken >= 1 && taken <= branches.len() as u64
 }
@@ -109,12 +109,12 @@ fn foreach_kind(repetitions: u32, left: u64, next: u64, items: u64) -> Option<Ev
 }
 
 fn choice_kind(
-    branches: &[Vec<u32>],
+    branches: &[Branch],
     taken: u64,
     lacks: &Roomy<CountAt>,
     graph: &Instance,
 ) -> Option<EventKind>
-    ensures { result ≡ cond (is_branch (lists_of branches.now) taken)
+    ensures { result ≡ cond (is_branch (branches_seen branches.now) taken)
         (close_kind (count_in lacks.now.0 (address_of graph.now))) (Some Close) }
 {
     if is_branch(branches, taken) {

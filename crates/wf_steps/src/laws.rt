@@ -7,7 +7,7 @@ ghost use Rattle.wf_layers.specs.Source.{Source};
 ghost use Rattle.wf_kept.specs.Event.{counted_idle, counted_open};
 ghost use Rattle.wf_plan.specs.Plan.{shape_of};
 ghost use Rattle.wf_steps.specs.Events.{idle_kind, open_kind};
-ghost use Rattle.wf_steps.specs.Tables.{event_at};
+ghost use Rattle.wf_tables.specs.Tables.{event_at};
 
 /// By the shape of its kind the event of an open container, and of an action that is decided, is the one that the counts give.
 pub fn shapes_tell_events<Row, Begun, Decision, Verdict>()

@@ -5,13 +5,11 @@
 //! what is waited for, and the ready set, so that a step looks at no more than it changes. Its type keeps that a run leads to it and that
 //! counts and ready set are those of its tables. What actions do is asked of `wf_asks::Acts`.
 //!
-//! Of the eight steps it has Start and Try. Of the others it has the parts that edit one list each: the counts of those that wait (`lower`)
-//! and of the graph round an action (`lower_one`), what may happen next to an idle action and to an open container (`idle_kind`,
-//! `open_kind`), the ready set at one instance (`set_event`, `look_at`), and the last writers of variables (`writers`, `put_writers`).
+//! Of the eight steps it has Start and Try. Of the others it has, beside the edits of counts and rows in `wf_tables`, what may happen next
+//! to an idle action and to an open container (`idle_kind`, `open_kind`), the ready set at one instance (`set_event`, `look_at`), and the
+//! last writers of variables (`writers`, `put_writers`).
 #![tactic(auto)]
 
-mod counts;
-mod entries;
 mod event;
 mod laws;
 mod look;
@@ -19,8 +17,6 @@ mod ready;
 mod state;
 mod store;
 
-pub use counts::{lower, lower_one};
-pub use entries::{CountAt, EventAt, EventKind, LeafAt};
 pub use event::{idle_kind, open_kind};
 pub use laws::shapes_tell_events;
 pub use look::{instances, look_at};

@@ -4,9 +4,8 @@ ghost use Rattle.wf_layers.specs.Address.{Address, is_own};
 ghost use Rattle.wf_asks.specs.Instances.{address_of, rows_in};
 ghost use Rattle.wf_plan.specs.PlanSeen.{plan_tree};
 ghost use Rattle.wf_steps.specs.Looked.{idle_at, instances_at};
-ghost use Rattle.wf_steps.specs.Tables.{count_in, event_at, events_in};
+ghost use Rattle.wf_tables.specs.Tables.{count_in, event_at, events_in};
 
-use crate::entries::{CountAt, EventAt, EventKind};
 use crate::event::idle_kind;
 use crate::ready::set_event;
 use std::alloc::{AllocError, Global};
@@ -14,6 +13,7 @@ use wf_asks::{Acts, Instance, Known};
 use wf_lists::TryCopy;
 use wf_plan::Plan;
 use wf_room::Roomy;
+use wf_tables::{CountAt, EventAt, EventKind};
 use wf_val::Indexes;
 
 /// These actions at the indexes.

@@ -1,11 +1,11 @@
 //! The ready set, edited at one instance.
 ghost use Rattle.std.specs.Prelude.{◌≡◌, ◌<◌, ◌≤◌, ◌+◌, None, Some, cond, option_map};
 ghost use Rattle.wf_layers.specs.Address.{Address, is_own};
-ghost use Rattle.wf_steps.specs.Tables.{event_at, event_tree, events_in};
+ghost use Rattle.wf_tables.specs.Tables.{event_at, event_tree, events_in};
 
-use crate::entries::{EventAt, EventKind};
 use wf_asks::Instance;
 use wf_room::Roomy;
+use wf_tables::{EventAt, EventKind};
 
 fn put_event(ready: &mut Roomy<EventAt>, event: EventAt)
     requires { 0 < ready.old.1 }

@@ -3,13 +3,14 @@ ghost use Rattle.std.specs.Prelude.{◌≡◌, OnOk, OnErr, cond, false, nat_lt,
 ghost use Rattle.wf_layers.specs.Machine as machine;
 ghost use Rattle.wf_asks.specs.Instances.{address_of};
 ghost use Rattle.wf_steps.specs.Kept.{Goes, IsEnabled, IsOver, Picked};
-ghost use Rattle.wf_steps.specs.Tables.{event_tree, shown};
+ghost use Rattle.wf_tables.specs.Tables.{event_tree};
+ghost use Rattle.wf_steps.specs.Shown.{shown};
 
-use crate::entries::{CountAt, EventAt, EventKind, LeafAt};
 use std::alloc::{AllocError, Global};
 use std::marker::Model;
 use wf_asks::{Acts, Instance, Known, Opens, Rows, Store};
 use wf_room::Roomy;
+use wf_tables::{CountAt, EventAt, EventKind, LeafAt};
 
 /// What has happened so far in a run, and what may happen next.
 #[derive(Drop)]
@@ -29,9 +30,9 @@ impl<'a, A: Acts> Model for State<'a, A> {
     ghost use Rattle.wf_asks.specs.declared.known.OpenAt.{OpenAt};
     ghost use Rattle.wf_asks.specs.declared.known.RowAt.{RowAt};
     ghost use Rattle.wf_asks.specs.declared.known.WriterAt.{WriterAt};
-    ghost use Rattle.wf_steps.specs.declared.entries.LeafAt.{LeafAt};
+    ghost use Rattle.wf_tables.specs.declared.entries.LeafAt.{LeafAt};
     ghost use Rattle.wf_steps.specs.Kept.{IsKept};
-    ghost use Rattle.wf_steps.specs.Tables.{state_of};
+    ghost use Rattle.wf_tables.specs.Tables.{state_of};
 
     ghost Value = { A × (List (RowAt A.Row) × (List (LeafAt A.Begun) × (List (OpenAt A.Decision A.Verdict) × List WriterAt))) };
 

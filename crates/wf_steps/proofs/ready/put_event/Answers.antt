@@ -1,6 +1,6 @@
 use Rattle.std.proofs.Common.{ap, ◌∙◌}
-use Rattle.wf_steps.specs.Tables.{event_tree, events_in}
-use Rattle.wf_steps.specs.declared.entries.EventAt.{EventAt}
+use Rattle.wf_tables.specs.Tables.{event_tree, events_in}
+use Rattle.wf_tables.specs.declared.entries.EventAt.{EventAt}
 use Rattle.wf_steps.proofs.TableLemmas.{put_entry}
 use Rattle.wf_steps.proofs.ready.put_event.Goals as goal
 

@@ -1,9 +1,0 @@
-use Rattle.std.proofs.Common.{ap, ◌∙◌}
-use Rattle.wf_steps.specs.Tables.{count_in}
-use Rattle.wf_steps.proofs.CountLemmas.{last_lowered}
-use Rattle.wf_steps.proofs.counts.remove.Goals as goal
-
-pub returns-clause-counts : goal.returns-clause-counts
-returns-clause-counts c x =
-    ap (λ xs. count_in xs x) c.take-removed.ensures.rest
-    ∙ last_lowered c.args.place.now c.args.counts.now.0 c.take-removed.ensures.in_order c.requires x
