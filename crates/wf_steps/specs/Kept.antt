@@ -1,10 +1,11 @@
 -- What a state's type keeps.
-use Rattle.std.specs.Prelude.{◌≡◌, ℕ, ◌%◌, Bool, List, Some, length, slice_get}
+use Rattle.std.specs.Prelude.{◌≡◌, ℕ, ◌%◌, ◌≤◌, Bool, List, Some, length, slice_get}
 use Rattle.wf_lists.specs.KeyOrder.{IsInKeyOrder}
 use Rattle.wf_layers.specs.Address.{Address}
-use Rattle.wf_layers.specs.Definition.{Graph}
+use Rattle.wf_layers.specs.Definition.{Graph, needs_of}
 use Rattle.wf_layers.specs.Machine.{State, Event, Step}
 use Rattle.wf_layers.specs.Source.{Source}
+use Rattle.wf_layers.specs.Waiting.{times}
 use Rattle.wf_kept.specs.Counted.{AreCounts}
 use Rattle.wf_kept.specs.Event.{AreLeft}
 use Rattle.wf_kept.specs.Reached.{IsReached}
@@ -15,8 +16,15 @@ use Rattle.wf_tables.specs.Tables.{count_in, events_in, left_in}
 use Rattle.wf_tables.specs.declared.entries.CountAt.{CountAt}
 use Rattle.wf_tables.specs.declared.entries.EventAt.{EventAt}
 use Rattle.wf_asks.specs.Known.{store_in, writer}
+use Rattle.wf_plan.specs.Plan.{PlanTree}
+use Rattle.wf_plan.specs.PlanOf.{IsPlanOf}
 use Rattle.wf_asks.specs.declared.known.OpenAt.{OpenAt}
 use Rattle.wf_asks.specs.declared.known.WriterAt.{WriterAt}
+
+-- The plan is one of the graph, in which each action names another once at most.
+pub record IsPlanned (d : Graph) (p : PlanTree) : Type 0 where
+  pub plan : IsPlanOf d p
+  pub names_once : (q n : ℕ) → times (needs_of d q) n ≤ 1
 
 module _ {Row Begun Decision Verdict : Type 0} (d : Graph) (m : Source Row Begun Decision Verdict) where
   -- the event leads from a state to another

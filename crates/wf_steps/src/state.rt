@@ -9,6 +9,7 @@ ghost use Rattle.wf_steps.specs.Shown.{shown};
 use std::alloc::{AllocError, Global};
 use std::marker::Model;
 use wf_asks::{Acts, Instance, Known, Opens, Rows, Store};
+use wf_plan::Plan;
 use wf_room::Roomy;
 use wf_tables::{CountAt, EventAt, EventKind, LeafAt};
 
@@ -16,6 +17,7 @@ use wf_tables::{CountAt, EventAt, EventKind, LeafAt};
 #[derive(Drop)]
 pub struct State<'a, A: Acts> {
     acts: &'a A,
+    plan: &'a Plan,
     rows: Rows<A::Row>,
     running: Roomy<LeafAt<A::Begun>>,
     opens: Opens<A::Decision, A::Verdict>,
@@ -27,18 +29,20 @@ pub struct State<'a, A: Acts> {
 
 impl<'a, A: Acts> Model for State<'a, A> {
     ghost use Rattle.std.specs.Prelude.{List};
+    ghost use Rattle.wf_plan.specs.PlanSeen.{plan_tree};
     ghost use Rattle.wf_asks.specs.declared.known.OpenAt.{OpenAt};
     ghost use Rattle.wf_asks.specs.declared.known.RowAt.{RowAt};
     ghost use Rattle.wf_asks.specs.declared.known.WriterAt.{WriterAt};
     ghost use Rattle.wf_tables.specs.declared.entries.LeafAt.{LeafAt};
-    ghost use Rattle.wf_steps.specs.Kept.{IsKept};
+    ghost use Rattle.wf_steps.specs.Kept.{IsKept, IsPlanned};
     ghost use Rattle.wf_tables.specs.Tables.{state_of};
 
     ghost Value = { A × (List (RowAt A.Row) × (List (LeafAt A.Begun) × (List (OpenAt A.Decision A.Verdict) × List WriterAt))) };
 
     ghost view = { λ s. (s.acts.now, (s.rows.0, (s.running.0, (s.opens.0, s.store.0)))) };
 
-    ghost invariant = { λ s. IsKept (A.graph s.acts.now) (A.source s.acts.now) (A.depth s.acts.now)
+    ghost invariant = { λ s. IsPlanned (A.graph s.acts.now) (plan_tree s.plan.now)
+        × IsKept (A.graph s.acts.now) (A.source s.acts.now) (A.depth s.acts.now)
         (A.writes s.acts.now) (state_of A.row_tree A.begun_tree A.decision_tree A.verdict_tree s.rows.0 s.running.0 s.opens.0)
         s.opens.0 s.store.0 s.waits.0 s.lacks.0
         s.ready.0 };

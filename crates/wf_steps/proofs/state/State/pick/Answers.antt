@@ -11,7 +11,7 @@ nonzero_rem-place g c =
     let going = rw (← c.self.view_is) at c.requires in
     let some = some_left (a.graph s.acts.now) (a.source s.acts.now) (a.depth s.acts.now) (a.writes s.acts.now)
     (state_of a.row_tree a.begun_tree a.decision_tree a.verdict_tree s.rows.0 s.running.0 s.opens.0) s.opens.0 s.store.0 s.waits.0 s.lacks.0 s.ready.0
-    c.self.invariant going in
+    c.self.invariant.1 going in
     omega (arith, some, c.len.ensures.count)
 
 pub at-requires : goal.at-requires
@@ -21,7 +21,7 @@ at-requires g c =
     let going = rw (← c.self.view_is) at c.requires in
     let some = some_left (a.graph s.acts.now) (a.source s.acts.now) (a.depth s.acts.now) (a.writes s.acts.now)
     (state_of a.row_tree a.begun_tree a.decision_tree a.verdict_tree s.rows.0 s.running.0 s.opens.0) s.opens.0 s.store.0 s.waits.0 s.lacks.0 s.ready.0
-    c.self.invariant going in
+    c.self.invariant.1 going in
     let below = mod_below c.args.place c.len.result (omega (arith, some, c.len.ensures.count)) in
     omega (arith, below, c.len.ensures.count)
 
@@ -30,7 +30,7 @@ returns-clause-picked g c =
     let s = c.self.inside in
     rw (← c.self.view_is) (record {
       listed = s.ready.0;
-      enabled = record { in_order = c.at.ensures.in_order; each = c.self.invariant.enabled };
+      enabled = record { in_order = c.at.ensures.in_order; each = c.self.invariant.1.enabled };
       picked = rw (← c.len.ensures.count) c.at.ensures.item;
     })
 
@@ -40,4 +40,4 @@ returns-clause-enabled g c =
     let a = g.A.Acts in
     rw (← c.self.view_is) (enabled_at (a.graph s.acts.now) (a.source s.acts.now) (a.depth s.acts.now) (a.writes s.acts.now)
     (state_of a.row_tree a.begun_tree a.decision_tree a.verdict_tree s.rows.0 s.running.0 s.opens.0) s.opens.0 s.store.0 s.waits.0 s.lacks.0 s.ready.0
-    c.self.invariant c.at.ensures.in_order (c.args.place % c.len.result) c.at.result.now c.at.ensures.item)
+    c.self.invariant.1 c.at.ensures.in_order (c.args.place % c.len.result) c.at.result.now c.at.ensures.item)
