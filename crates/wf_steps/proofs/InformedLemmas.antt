@@ -1,16 +1,16 @@
 -- What is known of a kept state as an action is asked something.
-use Rattle.std.proofs.Common.{◌≡◌, ℕ, Bool, List, Option, Some, None, ⊎_elim, sym, ◌∙◌, subst}
-use Rattle.wf_layers.specs.Definition.{Need, Kind, Leaf, Graph, kind_of}
+use Rattle.std.proofs.Common.{◌≡◌, ℕ, ◌<◌, Bool, List, Option, Some, None, ⊎_elim, sym, ◌∙◌, subst, arith}
+use Rattle.wf_layers.specs.Definition.{Need, Kind, Leaf, Until, Graph, kind_of}
 use Rattle.wf_layers.specs.Address.{Address, address}
-use Rattle.wf_layers.specs.Machine.{Running, Opening, State, IsContainer, IsDecided, IsThere}
+use Rattle.wf_layers.specs.Machine.{Running, Opening, State, IsContainer, IsDecided, IsThere, MayTest}
 use Rattle.wf_layers.specs.Meaning.{meaning}
 use Rattle.wf_layers.specs.Source.{Source}
 use Rattle.wf_layers.specs.Variables.{OneOrder}
 use Rattle.wf_layers.proofs.Basics.{two, unless}
 use Rattle.wf_kept.specs.Reached.{IsReached}
 use Rattle.wf_kept.specs.Stored.{IsStored, MayRead}
-use Rattle.wf_kept.proofs.Informed.{decided_sees, kinds_are_known, open_decides, open_sees, open_stands, running_sees, running_stands}
-use Rattle.wf_kept.proofs.Stored.{store_decided}
+use Rattle.wf_kept.proofs.Informed.{decided_sees, kinds_are_known, open_decides, open_sees, open_stands, running_sees, running_stands, test_sees}
+use Rattle.wf_kept.proofs.Stored.{store_decided, store_tested}
 use Rattle.wf_asks.specs.Known as asks
 use Rattle.wf_asks.specs.Known.{HoldsLast, HoldsLastAtTest, IsInformed, IsInformedAtTest, writer}
 
@@ -59,6 +59,23 @@ module _ {Row Begun Decision Verdict : Type 0} (d : Graph) (depth : ℕ → ℕ)
         },
       )
 
+  -- an Until, as it is tested after its last iteration
+  module _ (n : ℕ) (i : List ℕ) (after : List Need) (most : ℕ) (g : Graph) (w : Opening Decision Verdict) (j : ℕ)
+      (th : IsThere d m s n i after (Until most g)) (e : s.opens (address n i) ≡ Some w)
+      (may : MayTest m (Until most g) i w s.rows j) where
+    pub tested_is_informed : IsInformedAtTest d depth m s.rows s.opens n i most g j
+    tested_is_informed = record {
+      graph = th.graph;
+      after = after;
+      is_open = th.is_open;
+      is_in = th.is_in;
+      opening = w;
+      itself_is_open = e;
+      begun = let is = may.0 in omega (arith, is);
+      there = test_sees d depth m s reached n i after most g w j th e may;
+      decided = open_decides d depth m s reached;
+    }
+
   module _ (writes : ℕ → Address → Row → Bool) (order : (v : ℕ) → OneOrder d m (writer writes v) (meaning m depth d))
       (store : ℕ → Option Address) (stored : (v : ℕ) → IsStored d depth m (writer writes v) s (store v)) where
     may_read : (v n : ℕ) (kind : Kind) (i : List ℕ) → asks.MayRead d depth m writes v n kind i → MayRead d (writer writes v) n kind i
@@ -70,3 +87,10 @@ module _ {Row Begun Decision Verdict : Type 0} (d : Graph) (depth : ℕ → ℕ)
         → HoldsLast d depth m writes s.rows store n kind i
     decided_holds_last n i after kind de v may =
         store_decided d depth m (writer writes v) (order v) s (store v) (stored v) n i after kind de (may_read v n kind i may)
+
+    pub tested_holds_last : (n : ℕ) (i : List ℕ) (after : List Need) (most : ℕ) (g : Graph) (w : Opening Decision Verdict) (j : ℕ)
+        → IsThere d m s n i after (Until most g) → s.opens (address n i) ≡ Some w → MayTest m (Until most g) i w s.rows j
+        → HoldsLastAtTest d depth m writes s.rows store n most g i j
+    tested_holds_last n i after most g w j th e may v reads =
+        store_tested d depth m (writer writes v) (order v) s (store v) (stored v) n i after most g w j th e may
+        (may_read v n (Until most g) i reads)

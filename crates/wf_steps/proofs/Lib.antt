@@ -2,6 +2,8 @@ pub mod TableLemmas
 pub mod OverLemmas
 pub mod InformedLemmas
 pub mod QuietLemmas
+pub mod TestLemmas
+pub mod LookLemmas
 pub mod EndLemmas
 pub mod EventLemmas
 pub mod WrittenLemmas

@@ -5,7 +5,7 @@ use Rattle.wf_layers.specs.Address.{Table, address}
 use Rattle.wf_layers.specs.Enabled.{most_of}
 use Rattle.wf_layers.specs.Machine.{Opening, has_ended}
 use Rattle.wf_layers.specs.Source.{Source, gate}
-use Rattle.wf_plan.specs.Plan.{BranchTree, ShapeTree, leaf, scope, choice, foreach, until}
+use Rattle.wf_plan.specs.Plan.{BranchTree, EntryTree, ShapeTree, leaf, scope, choice, foreach, until}
 use Rattle.wf_tables.specs.declared.entries.EventKind.{EventKind}
 use Rattle.wf_tables.specs.declared.entries.EventKind.TheVariants.{Start, Skip, Open, Begin, Test, Close}
 
@@ -58,3 +58,15 @@ module _ {Row Begun Decision Verdict : Type 0} (m : Source Row Begun Decision Ve
   abbrev pub idle_kind : Table Row → Table ℕ → List Need → ShapeTree → ℕ → List ℕ → Option EventKind
   idle_kind rows waits after shape n i =
       cond (has_ended (waits (address n i))) None (Some (cond (gate m after n i rows) (begin_kind shape) Skip))
+
+-- how many iterations an Until has at most, by what a plan has of it
+abbrev pub count_of : ShapeTree → ℕ
+count_of (until most g) = most
+count_of leaf = 0
+count_of (scope g) = 0
+count_of (choice bs) = 0
+count_of (foreach pace g) = 0
+
+abbrev pub count_or_zero : Option EntryTree → ℕ
+count_or_zero None = 0
+count_or_zero (Some e) = count_of e.shape

@@ -1,8 +1,9 @@
 -- What an engine finds as it looks at idle actions.
-use Rattle.std.specs.Prelude.{ℕ, List, Option, None, Some, map, option_map}
-use Rattle.wf_layers.specs.Address.{Address, Table}
+use Rattle.std.specs.Prelude.{ℕ, cond, List, [], ◌∷◌, Option, None, Some, map, option_map}
+use Rattle.wf_layers.specs.Address.{Address, Table, is_own}
 use Rattle.wf_layers.specs.Machine as machine
 use Rattle.wf_layers.specs.Source.{Source}
+use Rattle.wf_asks.specs.Instances.{address_of}
 use Rattle.wf_asks.specs.declared.instance.Instance.{Instance}
 use Rattle.wf_plan.specs.Plan.{EntryTree, PlanTree}
 use Rattle.wf_plan.specs.PlanSeen.{at_place}
@@ -21,3 +22,8 @@ module _ {Row Begun Decision Verdict : Type 0} (m : Source Row Begun Decision Ve
   -- what may happen next to an action of a plan that is idle
   abbrev pub idle_at : PlanTree → Address → Option machine.Event
   idle_at p x = idle_by (at_place p.entries x.name) x.name x.at
+
+-- one looked at after the other
+abbrev pub look_each : (Address → Option machine.Event) → List Instance → Table machine.Event → Table machine.Event
+look_each look [] t x = t x
+look_each look (p ∷ ps) t x = look_each look ps (λ y. cond (is_own p.action p.at y) (look (address_of p)) (t y)) x

@@ -80,7 +80,12 @@ fn close_kind(lacks: &Roomy<CountAt>, graph: &Instance) -> Option<EventKind>
     }
 }
 
-fn tested_kind<A: Acts>(acts: &A, verdict: &A::Verdict, most: u64, next: u64) -> Option<EventKind>
+pub(crate) fn tested_kind<A: Acts>(
+    acts: &A,
+    verdict: &A::Verdict,
+    most: u64,
+    next: u64,
+) -> Option<EventKind>
     ensures { result ≡ tested_kind (A.source acts.now) most next (A.verdict_tree verdict.now) }
 {
     if acts.ends(verdict) || next == most {

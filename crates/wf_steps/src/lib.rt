@@ -5,9 +5,9 @@
 //! what is waited for, and the ready set, so that a step looks at no more than it changes. Its type keeps that a run leads to it and that
 //! counts and ready set are those of its tables. What actions do is asked of `wf_asks::Acts`.
 //!
-//! Of the eight steps it has Start and Try. Of the others it has, beside the edits of counts and rows in `wf_tables`, what may happen next
-//! to an idle action and to an open container (`idle_kind`, `open_kind`), the ready set at one instance (`set_event`, `look_at`), and the
-//! last writers of variables (`writers`, `put_writers`).
+//! Of the eight steps it has Start, Try and Test. Of the others it has, beside the edits of counts and rows in `wf_tables`, what may happen
+//! next to an idle action and to an open container (`idle_kind`, `open_kind`), the ready set at one instance and at several (`set_event`,
+//! `look_at`, `look_at_each`), and the last writers of variables (`writers`, `put_writers`).
 #![tactic(auto)]
 
 mod event;
@@ -16,10 +16,11 @@ mod look;
 mod ready;
 mod state;
 mod store;
+mod until;
 
 pub use event::{idle_kind, open_kind};
 pub use laws::shapes_tell_events;
-pub use look::{instances, look_at};
+pub use look::{instances, look_at, look_at_each};
 pub use ready::set_event;
 pub use state::State;
 pub use store::{put_writers, writers};

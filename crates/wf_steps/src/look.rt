@@ -1,15 +1,15 @@
 //! Idle actions, looked at anew.
-ghost use Rattle.std.specs.Prelude.{◌≡◌, ◌<◌, ◌≤◌, ◌+◌, IfOk, cond, option_map};
+ghost use Rattle.std.specs.Prelude.{◌≡◌, ◌<◌, ◌≤◌, ◌+◌, IfOk, cond, length, option_map};
 ghost use Rattle.wf_layers.specs.Address.{Address, is_own};
 ghost use Rattle.wf_asks.specs.Instances.{address_of, rows_in};
 ghost use Rattle.wf_plan.specs.PlanSeen.{plan_tree};
-ghost use Rattle.wf_steps.specs.Looked.{idle_at, instances_at};
+ghost use Rattle.wf_steps.specs.Looked.{idle_at, instances_at, look_each};
 ghost use Rattle.wf_tables.specs.Tables.{count_in, event_at, events_in};
 
 use crate::event::idle_kind;
 use crate::ready::set_event;
 use std::alloc::{AllocError, Global};
-use wf_asks::{Acts, Instance, Known};
+use wf_asks::{Acts, Instance, Known, Opens, Rows, Store};
 use wf_lists::TryCopy;
 use wf_plan::Plan;
 use wf_room::Roomy;
@@ -67,4 +67,32 @@ pub fn look_at<A: Acts>(
     let mut place = place;
     let kind = kind_at(acts, plan, known, waits, &mut place);
     set_event(ready, place, kind);
+}
+
+/// Idle actions are looked at anew, one after the other. No memory is taken.
+pub fn look_at_each<A: Acts>(
+    acts: &A,
+    plan: &Plan,
+    rows: &Rows<A::Row>,
+    opens: &Opens<A::Decision, A::Verdict>,
+    store: &Store,
+    waits: &Roomy<CountAt>,
+    ready: &mut Roomy<EventAt>,
+    places: Vec<Instance>,
+)
+    requires { length places.items ≤ ready.old.1 }
+    ensures { (x : Address) → events_in ready.new.0 x
+        ≡ look_each (idle_at (A.source acts.now) (rows_in A.row_tree rows.now.0) (count_in waits.now.0) (plan_tree plan.now))
+        places.items (events_in ready.old.0) x }
+{
+    for place in places {
+        look_at(
+            acts,
+            plan,
+            Known { rows, opens, store },
+            waits,
+            ready,
+            place,
+        );
+    }
 }

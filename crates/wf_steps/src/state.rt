@@ -6,6 +6,9 @@ ghost use Rattle.wf_steps.specs.Kept.{Goes, IsEnabled, IsOver, Picked};
 ghost use Rattle.wf_tables.specs.Tables.{event_tree};
 ghost use Rattle.wf_steps.specs.Shown.{shown};
 
+use crate::event::tested_kind;
+use crate::ready::set_event;
+use crate::until::{count_of, next_index, with_test};
 use std::alloc::{AllocError, Global};
 use std::marker::Model;
 use wf_asks::{Acts, Instance, Known, Opens, Rows, Store};
@@ -153,6 +156,44 @@ impl<'a, A: Acts> State<'a, A> {
                     instance: next,
                     kind,
                 });
+            }
+            None => (),
+        }
+        Ok(())
+    }
+
+    /// An Until is tested after its last iteration. Where memory runs out nothing has happened.
+    pub fn test(&mut self, alloc: Global, place: &Instance) -> Result<(), AllocError>
+        requires { IsEnabled (A.graph self.old.0) (A.source self.old.0)
+            (shown A.row_tree A.begun_tree A.decision_tree A.verdict_tree self.old.1)
+            (machine.Test place.now.action place.now.at) }
+        ensures ok { OnOk result (Goes (A.graph self.old.0) (A.source self.old.0)
+            (shown A.row_tree A.begun_tree A.decision_tree A.verdict_tree self.old.1)
+            (machine.Test place.now.action place.now.at)
+            (shown A.row_tree A.begun_tree A.decision_tree A.verdict_tree self.new.1)) }
+        ensures same { self.new.0 ≡ self.old.0 }
+        ensures err { OnErr result (self.new ≡ self.old) }
+    {
+        self.acts.is_instance();
+        let next = next_index(&self.opens, place);
+        let verdict = self.acts.test(
+            alloc,
+            place,
+            next.saturating_sub(1),
+            Known {
+                rows: &self.rows,
+                opens: &self.opens,
+                store: &self.store,
+            },
+        )?;
+        let kind = tested_kind(self.acts, &verdict, count_of(self.plan, place.action), next);
+        let itself = place.copy(alloc)?;
+        self.opens.make_room(1)?;
+        self.ready.make_room(1)?;
+        match self.opens.take(place) {
+            Some(open) => {
+                self.opens.put(with_test(open, verdict));
+                set_event(&mut self.ready, itself, kind);
             }
             None => (),
         }
