@@ -1,0 +1,60 @@
+-- What an action does in what it sees is what the definition means.
+use Rattle.std.specs.Prelude.{◌≡◌, ℕ, List, Some}
+use Rattle.wf_val.specs.ValueTree.{ValueTree}
+use Rattle.wf_layers.specs.Address.{Address}
+use Rattle.wf_layers.specs.Definition.{Graph, Kind, Leaf, Until}
+use Rattle.wf_look.specs.Told.{Told}
+use Rattle.wf_def.specs.ActionTree.{ActionTree, action_kind}
+use Rattle.wf_def.specs.AllActions.{numbered}
+use Rattle.wf_def.specs.DefTree.{DefTree}
+use Rattle.wf_order.specs.Turns.{IsInstance}
+use Rattle.wf_asks.specs.Known.{HoldsLast, HoldsLastAtTest, IsInformed, IsInformedAtTest}
+use Rattle.wf_opening.specs.Decisions.{decided}
+use Rattle.wf_done.specs.Leaf.{begun}
+use Rattle.wf_done.specs.Tracked.{tracked_value, with_own}
+use Rattle.wf_meaning.specs.Environment.{Environment, facts_of}
+use Rattle.wf_meant.specs.Containers.{tested}
+use Rattle.wf_meant.specs.Look.{name_of, told_ending}
+use Rattle.wf_meant.specs.Points.{graph_of}
+use Rattle.wf_meant.specs.Record.{depth_of}
+use Rattle.wf_meant.specs.Source.{source, tracked_of}
+use Rattle.wf_sight.specs.Laws.{run_of}
+use Rattle.wf_sight.specs.Sight.{KnownTree, seen_at, seen_in_test}
+use Rattle.wf_sight_laws.specs.Writes.{writes}
+
+module _ (d : DefTree) (e : Environment) where
+  -- what is seen at an instance, and in a test
+  abbrev pub seen : Address → KnownTree → Told
+  seen x known = seen_at d (run_of e (facts_of e (name_of d x.name))) x known
+
+  abbrev pub seen_tested : Address → ℕ → KnownTree → Told
+  seen_tested u j known = seen_in_test d (run_of e (facts_of e (name_of d u.name))) u j known
+
+  abbrev pub Starts : Type 0
+  Starts =
+      (x : Address) (known : KnownTree) (a : ActionTree) → IsInstance (graph_of d) x → numbered x.name d.top ≡ Some a
+      → IsInformed (graph_of d) (depth_of d) (source d e) known.rows known.opens x.name x.at Leaf
+      → HoldsLast (graph_of d) (depth_of d) (source d e) (writes d) known.rows known.store x.name Leaf x.at
+      → begun (seen x known) (action_kind a) ≡ (source d e).start x known.rows
+
+  abbrev pub Decides : Type 0
+  Decides =
+      (x : Address) (kind : Kind) (known : KnownTree) (a : ActionTree) → IsInstance (graph_of d) x → numbered x.name d.top ≡ Some a
+      → IsInformed (graph_of d) (depth_of d) (source d e) known.rows known.opens x.name x.at kind
+      → HoldsLast (graph_of d) (depth_of d) (source d e) (writes d) known.rows known.store x.name kind x.at
+      → decided (seen x known) (action_kind a) ≡ (source d e).decide x known.rows
+
+  abbrev pub Tests : Type 0
+  Tests =
+      (u : Address) (most : ℕ) (g : Graph) (j : ℕ) (known : KnownTree) (a : ActionTree) → IsInstance (graph_of d) u
+      → numbered u.name d.top ≡ Some a
+      → IsInformedAtTest (graph_of d) (depth_of d) (source d e) known.rows known.opens u.name u.at most g j
+      → HoldsLastAtTest (graph_of d) (depth_of d) (source d e) (writes d) known.rows known.store u.name most g u.at j
+      → tested (seen_tested u j known) (action_kind a) ≡ (source d e).test u j known.rows
+
+  -- Tracked properties read no variable: so they need no store.
+  abbrev pub Tracks : Type 0
+  Tracks =
+      (x : Address) (kind : Kind) (known : KnownTree) (a : ActionTree) (view : ValueTree) → numbered x.name d.top ≡ Some a
+      → IsInformed (graph_of d) (depth_of d) (source d e) known.rows known.opens x.name x.at kind
+      → tracked_value (with_own view (seen x known)) (tracked_of a) ≡ tracked_value (told_ending d e x view known.rows) (tracked_of a)
