@@ -4,3 +4,6 @@ pub mod GivesLemmas
 pub mod RowLemmas
 pub mod OrderLemmas
 pub mod LastLemmas
+pub mod OpenLemmas
+pub mod LookLemmas
+pub mod DoneLemmas

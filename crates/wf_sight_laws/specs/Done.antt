@@ -7,7 +7,6 @@ use Rattle.wf_look.specs.Told.{Told}
 use Rattle.wf_def.specs.ActionTree.{ActionTree, action_kind}
 use Rattle.wf_def.specs.AllActions.{numbered}
 use Rattle.wf_def.specs.DefTree.{DefTree}
-use Rattle.wf_order.specs.Turns.{IsInstance}
 use Rattle.wf_asks.specs.Known.{HoldsLast, HoldsLastAtTest, IsInformed, IsInformedAtTest}
 use Rattle.wf_opening.specs.Decisions.{decided}
 use Rattle.wf_done.specs.Leaf.{begun}
@@ -32,22 +31,21 @@ module _ (d : DefTree) (e : Environment) where
 
   abbrev pub Starts : Type 0
   Starts =
-      (x : Address) (known : KnownTree) (a : ActionTree) → IsInstance (graph_of d) x → numbered x.name d.top ≡ Some a
+      (x : Address) (known : KnownTree) (a : ActionTree) → numbered x.name d.top ≡ Some a
       → IsInformed (graph_of d) (depth_of d) (source d e) known.rows known.opens x.name x.at Leaf
       → HoldsLast (graph_of d) (depth_of d) (source d e) (writes d) known.rows known.store x.name Leaf x.at
       → begun (seen x known) (action_kind a) ≡ (source d e).start x known.rows
 
   abbrev pub Decides : Type 0
   Decides =
-      (x : Address) (kind : Kind) (known : KnownTree) (a : ActionTree) → IsInstance (graph_of d) x → numbered x.name d.top ≡ Some a
+      (x : Address) (kind : Kind) (known : KnownTree) (a : ActionTree) → numbered x.name d.top ≡ Some a
       → IsInformed (graph_of d) (depth_of d) (source d e) known.rows known.opens x.name x.at kind
       → HoldsLast (graph_of d) (depth_of d) (source d e) (writes d) known.rows known.store x.name kind x.at
       → decided (seen x known) (action_kind a) ≡ (source d e).decide x known.rows
 
   abbrev pub Tests : Type 0
   Tests =
-      (u : Address) (most : ℕ) (g : Graph) (j : ℕ) (known : KnownTree) (a : ActionTree) → IsInstance (graph_of d) u
-      → numbered u.name d.top ≡ Some a
+      (u : Address) (most : ℕ) (g : Graph) (j : ℕ) (known : KnownTree) (a : ActionTree) → numbered u.name d.top ≡ Some a
       → IsInformedAtTest (graph_of d) (depth_of d) (source d e) known.rows known.opens u.name u.at most g j
       → HoldsLastAtTest (graph_of d) (depth_of d) (source d e) (writes d) known.rows known.store u.name most g u.at j
       → tested (seen_tested u j known) (action_kind a) ≡ (source d e).test u j known.rows

@@ -1,8 +1,9 @@
 -- What holds of the variables of a definition by their numbers.
-use Rattle.std.specs.Prelude.{◌≡◌, ℕ, List, Some}
+use Rattle.std.specs.Prelude.{◌≡◌, ◌⊎◌, ℕ, List, Some}
 use Rattle.wf_layers.specs.Address.{Address, Table, address}
 use Rattle.wf_layers.specs.Definition.{Graph, Kind, Until}
 use Rattle.wf_def.specs.DefTree.{DefTree}
+use Rattle.wf_accepted_laws.specs.Variables.{ReadsIt, WritesIt}
 use Rattle.wf_asks.specs.Known.{HoldsLast, HoldsLastAtTest, IsInformed, IsInformedAtTest, MayRead, writer}
 use Rattle.wf_record.specs.Record.{Row}
 use Rattle.wf_meaning.specs.Environment.{Environment}
@@ -35,7 +36,7 @@ module _ (d : DefTree) (e : Environment) where
       (x : Address) (kind : Kind) (known : KnownTree)
       → IsInformed (graph_of d) (depth_of d) (source d e) known.rows known.opens x.name x.at kind
       → HoldsLast (graph_of d) (depth_of d) (source d e) (writes d) known.rows known.store x.name kind x.at
-      → (k : List ℕ) → Accesses d k x.name x.at kind
+      → (k : List ℕ) → ReadsIt d k x.name ⊎ WritesIt d k x.name
       → variable_in d known.rows known.store k ≡ variable_at d (point_of d x) known.rows k
 
   abbrev pub IsToldInTest : Type 0
@@ -43,5 +44,5 @@ module _ (d : DefTree) (e : Environment) where
       (u : Address) (most : ℕ) (g : Graph) (j : ℕ) (known : KnownTree)
       → IsInformedAtTest (graph_of d) (depth_of d) (source d e) known.rows known.opens u.name u.at most g j
       → HoldsLastAtTest (graph_of d) (depth_of d) (source d e) (writes d) known.rows known.store u.name most g u.at j
-      → (k : List ℕ) → Accesses d k u.name u.at (Until most g)
+      → (k : List ℕ) → ReadsIt d k u.name ⊎ WritesIt d k u.name
       → variable_in d known.rows known.store k ≡ variable_at d (point_of_test d u j) known.rows k

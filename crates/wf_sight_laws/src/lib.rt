@@ -11,6 +11,7 @@ ghost use Rattle.wf_meaning.specs.Environment.{Environment};
 ghost use Rattle.wf_meant.specs.Points.{graph_of};
 ghost use Rattle.wf_meant.specs.Record.{depth_of};
 ghost use Rattle.wf_meant.specs.Source.{source, table_of};
+ghost use Rattle.wf_sight_laws.specs.Done.{Decides, Starts, Tests};
 ghost use Rattle.wf_sight_laws.specs.Variables.{AccessesMayRead, IsTold, IsToldInTest, WriteWhatTheyGive};
 ghost use Rattle.wf_sight_laws.specs.Writes.{writes};
 
@@ -44,6 +45,21 @@ pub fn sights_tell_variables()
 {
     wf_meant_laws::meant_rows_are_whole();
     wf_meant_laws::the_last_writer_is_read();
+    wf_known_laws::numbers_stand_once();
     rows_write_what_they_give();
     numbered_writers_are_in_one_order();
+}
+
+/// x
+pub fn what_is_done_in_a_sight_is_meant()
+    ensures starts { (d : DefTree) → IsRead d → broken_of d ≡ None → (e : Environment) → Starts d e }
+    ensures decides { (d : DefTree) → IsRead d → broken_of d ≡ None → (e : Environment) → Decides d e }
+    ensures tests { (d : DefTree) → IsRead d → broken_of d ≡ None → (e : Environment) → Tests d e }
+{
+    sights_tell_variables();
+    wf_sight::what_is_seen_is_told();
+    wf_done::what_an_action_does_is_local();
+    wf_opening::what_a_container_decides_is_local();
+    wf_known_laws::numbers_stand_once();
+    wf_uses::names_are_those_named();
 }

@@ -1,0 +1,35 @@
+use Rattle.std.proofs.Common.{ap, ◌∙◌}
+use Rattle.wf_layers.specs.Definition.{Leaf}
+use Rattle.wf_look.specs.Told.{Told}
+use Rattle.wf_def.specs.ActionTree.{action_kind}
+use Rattle.wf_opening.specs.Decisions.{decided}
+use Rattle.wf_done.specs.Leaf.{begun}
+use Rattle.wf_meant.specs.Containers.{tested}
+use Rattle.wf_meant.specs.Record.{depth_of}
+use Rattle.wf_sight.specs.Variables.{variable_in}
+use Rattle.wf_sight_laws.proofs.DoneLemmas.{decides_same, starts_same, tests_same}
+use Rattle.wf_sight_laws.proofs.what_is_done_in_a_sight_is_meant.Goals as goal
+
+pub returns-clause-starts : goal.returns-clause-starts
+returns-clause-starts c = λ d r none e x known a found informed last.
+    ap (λ (l : Told). begun l (action_kind a))
+    (c.what_is_seen_is_told.ensures.at d e x Leaf (depth_of d) known (c.numbers_stand_once.ensures d r) informed)
+    ∙ starts_same c.names_are_those_named.ensures.same d e x known.rows a found (λ k. variable_in d known.rows known.store k)
+    (λ k how. c.sights_tell_variables.ensures.at d r none e x Leaf known informed last k how)
+    c.what_an_action_does_is_local.ensures.begun
+
+pub returns-clause-decides : goal.returns-clause-decides
+returns-clause-decides c = λ d r none e x kind known a found informed last.
+    ap (λ (l : Told). decided l (action_kind a))
+    (c.what_is_seen_is_told.ensures.at d e x kind (depth_of d) known (c.numbers_stand_once.ensures d r) informed)
+    ∙ decides_same c.names_are_those_named.ensures.same d e x known.rows a found (λ k. variable_in d known.rows known.store k)
+    (λ k how. c.sights_tell_variables.ensures.at d r none e x kind known informed last k how)
+    c.what_a_container_decides_is_local.ensures.decided
+
+pub returns-clause-tests : goal.returns-clause-tests
+returns-clause-tests c = λ d r none e u most g j known a found informed last.
+    ap (λ (l : Told). tested l (action_kind a))
+    (c.what_is_seen_is_told.ensures.in_test d e u most g j (depth_of d) known (c.numbers_stand_once.ensures d r) informed)
+    ∙ tests_same c.names_are_those_named.ensures.same d e u known.rows a found (λ k. variable_in d known.rows known.store k) j
+    (λ k how. c.sights_tell_variables.ensures.in_test d r none e u most g j known informed last k how)
+    c.what_a_container_decides_is_local.ensures.tested
