@@ -7,3 +7,4 @@ pub mod LastLemmas
 pub mod OpenLemmas
 pub mod LookLemmas
 pub mod DoneLemmas
+pub mod TrackedLemmas

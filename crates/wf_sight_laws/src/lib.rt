@@ -11,7 +11,7 @@ ghost use Rattle.wf_meaning.specs.Environment.{Environment};
 ghost use Rattle.wf_meant.specs.Points.{graph_of};
 ghost use Rattle.wf_meant.specs.Record.{depth_of};
 ghost use Rattle.wf_meant.specs.Source.{source, table_of};
-ghost use Rattle.wf_sight_laws.specs.Done.{Decides, Starts, Tests};
+ghost use Rattle.wf_sight_laws.specs.Done.{Decides, Starts, Tests, Tracks};
 ghost use Rattle.wf_sight_laws.specs.Variables.{AccessesMayRead, IsTold, IsToldInTest, WriteWhatTheyGive};
 ghost use Rattle.wf_sight_laws.specs.Writes.{writes};
 
@@ -55,8 +55,11 @@ pub fn what_is_done_in_a_sight_is_meant()
     ensures starts { (d : DefTree) → IsRead d → broken_of d ≡ None → (e : Environment) → Starts d e }
     ensures decides { (d : DefTree) → IsRead d → broken_of d ≡ None → (e : Environment) → Decides d e }
     ensures tests { (d : DefTree) → IsRead d → broken_of d ≡ None → (e : Environment) → Tests d e }
+    ensures tracks { (d : DefTree) → IsRead d → broken_of d ≡ None → (e : Environment) → Tracks d e }
 {
     sights_tell_variables();
+    wf_rules::the_first_broken_rule();
+    wf_accepted_laws::standings_are_the_actions();
     wf_sight::what_is_seen_is_told();
     wf_done::what_an_action_does_is_local();
     wf_opening::what_a_container_decides_is_local();

@@ -4,10 +4,14 @@ use Rattle.wf_look.specs.Told.{Told}
 use Rattle.wf_def.specs.ActionTree.{action_kind}
 use Rattle.wf_opening.specs.Decisions.{decided}
 use Rattle.wf_done.specs.Leaf.{begun}
+use Rattle.wf_done.specs.Tracked.{tracked_value, with_own}
 use Rattle.wf_meant.specs.Containers.{tested}
+use Rattle.wf_meant.specs.Look.{told_ending}
 use Rattle.wf_meant.specs.Record.{depth_of}
+use Rattle.wf_meant.specs.Source.{tracked_of}
 use Rattle.wf_sight.specs.Variables.{variable_in}
 use Rattle.wf_sight_laws.proofs.DoneLemmas.{decides_same, starts_same, tests_same}
+use Rattle.wf_sight_laws.proofs.TrackedLemmas.{none_broken, tracks_same}
 use Rattle.wf_sight_laws.proofs.what_is_done_in_a_sight_is_meant.Goals as goal
 
 pub returns-clause-starts : goal.returns-clause-starts
@@ -33,3 +37,12 @@ returns-clause-tests c = λ d r none e u most g j known a found informed last.
     ∙ tests_same c.names_are_those_named.ensures.same d e u known.rows a found (λ k. variable_in d known.rows known.store k) j
     (λ k how. c.sights_tell_variables.ensures.in_test d r none e u most g j known informed last k how)
     c.what_a_container_decides_is_local.ensures.tested
+
+pub returns-clause-tracks : goal.returns-clause-tracks
+returns-clause-tracks c = λ d r none e x kind known a view found informed.
+    ap (λ (l : Told). tracked_value (with_own view l) (tracked_of a))
+    (c.what_is_seen_is_told.ensures.at d e x kind (depth_of d) known (c.numbers_stand_once.ensures d r) informed)
+    ∙ tracks_same c.names_are_those_named.ensures.same d (c.standings_are_the_actions.ensures d.top)
+    (c.the_first_broken_rule.ensures.none d (none_broken d none)).1.1.1.1.1.1.1.1.1.1.1.0 x.name a found
+    c.what_an_action_does_is_local.ensures.tracked (told_ending d e x view known.rows)
+    (λ k. variable_in d known.rows known.store k)
