@@ -140,9 +140,11 @@ module _ (known : Known) where
   body_gives [] (t ∷ ts) k are among = absurd are
   body_gives (i ∷ is) [] k are among = absurd are
   body_gives (i ∷ []) (t ∷ []) k are among = elim (either (bytes_eq k i.name) false among) [
-    | inl h ↦
-        (are.0.0, ap (λ (q : ValueTree). gives k (one_member (codes "body") q))
-            (are.0.1 ∙ ap (λ (q : List ℕ). given_item q are.0.0) (sym (same_name k i.name h))) ∙ known.found k are.0.0)
+    | inl h ↦ (
+      are.0.0,
+      ap (λ (q : ValueTree). gives k (one_member (codes "body") q))
+          (are.0.1 ∙ ap (λ (q : List ℕ). given_item q are.0.0) (sym (same_name k i.name h))) ∙ known.found k are.0.0,
+    )
     | inr f ↦ absurd (true≢false (sym f))
   ]
   body_gives (i ∷ j ∷ is) (t ∷ []) k are among = absurd are.1
@@ -157,9 +159,11 @@ module _ (known : Known) where
   new_gives : (k n : List ℕ) (outputs new : ValueTree) → list_any (bytes_eq k) (n ∷ []) ≡ true
       → outputs ≡ one_member (codes "body") (given_item n new) → Gives k outputs
   new_gives k n outputs new among same = elim (either (bytes_eq k n) false among) [
-    | inl h ↦
-        (new, ap (gives k) (same ∙ ap (λ (q : List ℕ). one_member (codes "body") (given_item q new)) (sym (same_name k n h)))
-            ∙ known.found k new)
+    | inl h ↦ (
+      new,
+      ap (gives k) (same ∙ ap (λ (q : List ℕ). one_member (codes "body") (given_item q new)) (sym (same_name k n h)))
+          ∙ known.found k new,
+    )
     | inr f ↦ absurd (true≢false (sym f))
   ]
 

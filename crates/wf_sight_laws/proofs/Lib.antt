@@ -8,3 +8,4 @@ pub mod OpenLemmas
 pub mod LookLemmas
 pub mod DoneLemmas
 pub mod TrackedLemmas
+mod WriteRows

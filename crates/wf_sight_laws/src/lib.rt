@@ -1,8 +1,17 @@
-//! What a sight tells of a variable is what the definition means.
+//! What is done by last writers is what the definition means.
+//!
+//! A run keeps of each variable who wrote it last, by the variable's number, and a sight (`wf_sight`) tells the value that this row gave.
+//! The definition (`wf_meant`) finds the value among all writers that a point sees. Here stands that these are the same in each accepted
+//! definition: `specs/Writes` says which numbers a row writes, so that an engine can tell by a row's status alone what to overwrite;
+//! `specs/Variables` that writers are in one order by these numbers, that who reads or writes a variable may read it, and that the last
+//! writer in the store gave the value which is meant. So whatever an action does in what it sees is what the definition means
+//! (`specs/Done`): what it starts with, what a container decides, what an Until's test gives, and its tracked properties, which read no
+//! variable.
+//!
+//! It has no code: each public function has an empty body but for the laws that it calls, and its contract is a law.
 #![tactic(auto)]
 
 ghost use Rattle.std.specs.Prelude.{◌≡◌, ℕ, None};
-ghost use Rattle.wf_asks.specs.Known.{writer};
 ghost use Rattle.wf_layers.specs.Variables.{OneOrder};
 ghost use Rattle.wf_def.specs.DefTree.{DefTree};
 ghost use Rattle.wf_reading.specs.Read.{IsRead};
@@ -11,11 +20,13 @@ ghost use Rattle.wf_meaning.specs.Environment.{Environment};
 ghost use Rattle.wf_meant.specs.Points.{graph_of};
 ghost use Rattle.wf_meant.specs.Record.{depth_of};
 ghost use Rattle.wf_meant.specs.Source.{source, table_of};
+ghost use Rattle.wf_asks.specs.Known.{writer};
 ghost use Rattle.wf_sight_laws.specs.Done.{Decides, Starts, Tests, Tracks};
 ghost use Rattle.wf_sight_laws.specs.Variables.{AccessesMayRead, IsTold, IsToldInTest, WriteWhatTheyGive};
 ghost use Rattle.wf_sight_laws.specs.Writes.{writes};
 
-/// x
+/// The rows that an accepted definition means give a variable a value exactly where they write its number: an action that Succeeded gave
+/// each variable that it writes.
 pub fn rows_write_what_they_give()
     ensures { (d : DefTree) → IsRead d → broken_of d ≡ None → (e : Environment) → WriteWhatTheyGive d e }
 {
@@ -26,7 +37,8 @@ pub fn rows_write_what_they_give()
     wf_variables::what_is_given_is_found();
 }
 
-/// x
+/// Writers of one number are in one order, and whatever reads or writes a variable may read its number: each that writes it, at whatever
+/// address, is in it, in one order with it, or excludes it.
 pub fn numbered_writers_are_in_one_order()
     ensures writers { (d : DefTree) → IsRead d → broken_of d ≡ None → (e : Environment) → (v : ℕ)
         → OneOrder (graph_of d) (source d e) (writer (writes d) v) (table_of d e (depth_of d)) }
@@ -38,7 +50,7 @@ pub fn numbered_writers_are_in_one_order()
     wf_uses::names_are_those_named();
 }
 
-/// x
+/// Where what is known is what the machine promises, a sight tells of each variable that an action reads or writes the value that is meant.
 pub fn sights_tell_variables()
     ensures at { (d : DefTree) → IsRead d → broken_of d ≡ None → (e : Environment) → IsTold d e }
     ensures in_test { (d : DefTree) → IsRead d → broken_of d ≡ None → (e : Environment) → IsToldInTest d e }
@@ -50,7 +62,7 @@ pub fn sights_tell_variables()
     numbered_writers_are_in_one_order();
 }
 
-/// x
+/// So what an action does in what it sees is what the definition means.
 pub fn what_is_done_in_a_sight_is_meant()
     ensures starts { (d : DefTree) → IsRead d → broken_of d ≡ None → (e : Environment) → Starts d e }
     ensures decides { (d : DefTree) → IsRead d → broken_of d ≡ None → (e : Environment) → Decides d e }
