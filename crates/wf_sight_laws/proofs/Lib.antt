@@ -8,4 +8,5 @@ pub mod OpenLemmas
 pub mod LookLemmas
 pub mod DoneLemmas
 pub mod TrackedLemmas
+pub mod OutputLemmas
 mod WriteRows

@@ -3,22 +3,23 @@ use Rattle.std.specs.Prelude.{◌≡◌, ℕ, List, Some}
 use Rattle.wf_val.specs.ValueTree.{ValueTree}
 use Rattle.wf_layers.specs.Address.{Address}
 use Rattle.wf_layers.specs.Definition.{Graph, Kind, Leaf, Until}
+use Rattle.wf_layers.specs.Variables.{IsLastWritten}
 use Rattle.wf_look.specs.Told.{Told}
 use Rattle.wf_def.specs.ActionTree.{ActionTree, action_kind}
 use Rattle.wf_def.specs.AllActions.{numbered}
 use Rattle.wf_def.specs.DefTree.{DefTree}
-use Rattle.wf_asks.specs.Known.{HoldsLast, HoldsLastAtTest, IsInformed, IsInformedAtTest}
+use Rattle.wf_asks.specs.Known.{HoldsLast, HoldsLastAtTest, IsInformed, IsInformedAtTest, writer}
 use Rattle.wf_opening.specs.Decisions.{decided}
 use Rattle.wf_done.specs.Leaf.{begun}
 use Rattle.wf_done.specs.Tracked.{tracked_value, with_own}
-use Rattle.wf_meaning.specs.Environment.{Environment, facts_of}
+use Rattle.wf_meaning.specs.Environment.{Environment, facts_of, last_facts}
 use Rattle.wf_meant.specs.Containers.{tested}
-use Rattle.wf_meant.specs.Look.{name_of, told_ending}
+use Rattle.wf_meant.specs.Look.{name_of, told_ending, told_to_outputs}
 use Rattle.wf_meant.specs.Points.{graph_of}
 use Rattle.wf_meant.specs.Record.{depth_of}
-use Rattle.wf_meant.specs.Source.{source, tracked_of}
+use Rattle.wf_meant.specs.Source.{source, table_of, tracked_of}
 use Rattle.wf_sight.specs.Laws.{run_of}
-use Rattle.wf_sight.specs.Sight.{KnownTree, seen_at, seen_in_test}
+use Rattle.wf_sight.specs.Sight.{KnownTree, seen_at, seen_by_outputs, seen_in_test}
 use Rattle.wf_sight_laws.specs.Writes.{writes}
 
 module _ (d : DefTree) (e : Environment) where
@@ -56,3 +57,10 @@ module _ (d : DefTree) (e : Environment) where
       (x : Address) (kind : Kind) (known : KnownTree) (a : ActionTree) (view : ValueTree) → numbered x.name d.top ≡ Some a
       → IsInformed (graph_of d) (depth_of d) (source d e) known.rows known.opens x.name x.at kind
       → tracked_value (with_own view (seen x known)) (tracked_of a) ≡ tracked_value (told_ending d e x view known.rows) (tracked_of a)
+
+  -- The section `outputs`, at the end of a run: all rows are there, and the store has the last writer of all, of each variable.
+  abbrev pub OutputsSee : Type 0
+  OutputsSee =
+      (known : KnownTree) → ((y : Address) → known.rows y ≡ table_of d e (depth_of d) y)
+      → ((v : ℕ) → IsLastWritten (graph_of d) (source d e) (writer (writes d) v) known.rows (known.store v))
+      → seen_by_outputs d (run_of e (last_facts e)) known ≡ told_to_outputs d e known.rows

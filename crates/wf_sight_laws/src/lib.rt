@@ -21,7 +21,7 @@ ghost use Rattle.wf_meant.specs.Points.{graph_of};
 ghost use Rattle.wf_meant.specs.Record.{depth_of};
 ghost use Rattle.wf_meant.specs.Source.{source, table_of};
 ghost use Rattle.wf_asks.specs.Known.{writer};
-ghost use Rattle.wf_sight_laws.specs.Done.{Decides, Starts, Tests, Tracks};
+ghost use Rattle.wf_sight_laws.specs.Done.{Decides, OutputsSee, Starts, Tests, Tracks};
 ghost use Rattle.wf_sight_laws.specs.Variables.{AccessesMayRead, IsTold, IsToldInTest, WriteWhatTheyGive};
 ghost use Rattle.wf_sight_laws.specs.Writes.{writes};
 
@@ -77,4 +77,25 @@ pub fn what_is_done_in_a_sight_is_meant()
     wf_opening::what_a_container_decides_is_local();
     wf_known_laws::numbers_stand_once();
     wf_uses::names_are_those_named();
+}
+
+/// And once all rows are there, the section `outputs` sees by the last writers of all what it is told.
+pub fn outputs_see_the_last_writers()
+    ensures { (d : DefTree) → IsRead d → broken_of d ≡ None → (e : Environment) → OutputsSee d e }
+{
+    wf_meant_laws::meant_rows_are_whole();
+    rows_write_what_they_give();
+    wf_sight::what_is_seen_is_told();
+    wf_seen_laws::what_is_seen_is_earlier();
+    wf_seen_laws::loops_round_what_is_seen_are_seen();
+    wf_seen_laws::nobody_sees_who_sees_him();
+    wf_loops::what_is_earlier_is_seen();
+    wf_instance::depths_are_how_many_are_before();
+    wf_order::order_is_exact();
+    wf_order::before_is_an_order();
+    wf_order::what_stands_inside_goes_along();
+    wf_known_laws::numbers_stand_once();
+    wf_known_laws::numbers_are_below();
+    wf_known_laws::entries_stay_in_their_graph();
+    wf_refs::read_actions_have_their_numbers();
 }
