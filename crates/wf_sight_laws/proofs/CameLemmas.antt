@@ -1,15 +1,15 @@
 -- The row of a leaf is that with which it ended, or a Skipped one.
 use Rattle.std.proofs.Common.{◌≡◌, ℕ, zero, suc, Bool, true, false, ◌||◌, ◌&&◌, cond, List, [], ◌∷◌, ◌++◌, Option, Some, None, ◌⊎◌}
-use Rattle.std.proofs.Common.{inl, inr, refl, sym, ap, ◌∙◌, subst, nat_eq, true≢false}
+use Rattle.std.proofs.Common.{inl, inr, refl, sym, ap, ◌∙◌, subst, nat_eq}
 use Rattle.std.proofs.lemmas.Option.{none-some}
 use Rattle.wf_layers.specs.Address.{Address, Table, address, is_among, is_in, is_own, is_within, same_at, starts}
-use Rattle.wf_layers.specs.Definition.{Branches, Choice, Foreach, Graph, Kind, Leaf, Scope, Until, add, branch, done, has, has_any, holds}
+use Rattle.wf_layers.specs.Definition.{Branches, Choice, Foreach, Graph, Kind, Leaf, Scope, Until, add, branch, done, has, holds}
 use Rattle.wf_layers.specs.Definition.{is_one, kind_any, kind_in, kind_of, less_one, no_branch, plain, shows, Need}
 use Rattle.wf_layers.specs.Laws.{IsFresh}
-use Rattle.wf_layers.specs.Meaning.{last, only, rounds, sides, skip, skip_all}
+use Rattle.wf_layers.specs.Meaning.{only, rounds, sides, skip, skip_all}
 use Rattle.wf_layers.specs.Rule.{Obeys, look, look_any, look_in}
 use Rattle.wf_layers.specs.Source.{Source, gate, leaf}
-use Rattle.wf_layers.proofs.Basics.{and_in, and_of, two, unless, when}
+use Rattle.wf_layers.proofs.Basics.{and_of, two, unless, when}
 use Rattle.wf_layers.proofs.Tables.{own_is}
 
 some_same : {A : Type 0} {u v : A} → Some u ≡ Some v → u ≡ v

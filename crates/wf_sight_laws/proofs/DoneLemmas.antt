@@ -14,10 +14,10 @@ use Rattle.wf_def.specs.DefTree.{DefTree}
 use Rattle.wf_uses.specs.UsesTree.{ordered}
 use Rattle.wf_refs.specs.Sites.{test_uses}
 use Rattle.wf_accepted_laws.specs.Variables.{ReadsIt, WritesIt}
-use Rattle.wf_opening.specs.Decisions.{DecisionTree, decided}
+use Rattle.wf_opening.specs.Decisions.{decided}
 use Rattle.wf_opening.specs.Uses.{opening_uses}
 use Rattle.wf_opening.specs.Verdicts.{VerdictTree, tested_from}
-use Rattle.wf_done.specs.Leaf.{BegunTree, begun, begun_from}
+use Rattle.wf_done.specs.Leaf.{begun, begun_from}
 use Rattle.wf_done.specs.Uses.{kind_uses}
 use Rattle.wf_record.specs.Record.{Row}
 use Rattle.wf_meaning.specs.Environment.{Environment}

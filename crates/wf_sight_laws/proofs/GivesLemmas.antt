@@ -1,5 +1,5 @@
 -- An action that writes variables and Succeeded gives each of them a value.
-use Rattle.std.proofs.Common.{◌≡◌, ℕ, Bool, true, false, ◌||◌, List, [], ◌∷◌, ◌++◌, Option, Some, None, Result, Ok, Err, inl, inr, refl, sym, ap}
+use Rattle.std.proofs.Common.{◌≡◌, ℕ, Bool, true, false, List, [], ◌∷◌, ◌++◌, Option, Some, None, Result, Ok, Err, inl, inr, refl, sym, ap}
 use Rattle.std.proofs.Common.{◌∙◌, subst, true≢false}
 use Rattle.std.specs.Prelude.{ℤ, ◌+ℤ◌, ◌-ℤ◌, bytes_eq, codes, if◌then◌else◌, map}
 use Rattle.std.specs.List.{list_any}
@@ -13,7 +13,7 @@ use Rattle.wf_val.proofs.ValueTreeLemmas.{items-trees}
 use Rattle.wf_json.specs.Json as json_text
 use Rattle.wf_answers.specs.AnswerTree.{AnswerTree}
 use Rattle.wf_layers.specs.Address.{Address, Table}
-use Rattle.wf_layers.proofs.Basics.{either, two}
+use Rattle.wf_layers.proofs.Basics.{either}
 use Rattle.wf_look.specs.Looked.{or_no_value}
 use Rattle.wf_look.specs.Told.{Told}
 use Rattle.wf_def.specs.ActionTree.{ActionTree, InitialTree, KindTree, action_kind, action_name, append_array, append_string, decrement}

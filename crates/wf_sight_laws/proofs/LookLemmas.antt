@@ -1,5 +1,5 @@
 -- Two looks that tell the same of all but variables, and of those that are asked for, too, agree.
-use Rattle.std.proofs.Common.{◌≡◌, ℕ, Bool, true, false, ◌||◌, List, [], ◌∷◌, ◌++◌, Option, Some, None, ◌⊎◌, inl, inr, refl, sym, ap}
+use Rattle.std.proofs.Common.{◌≡◌, ℕ, true, false, ◌||◌, List, [], ◌∷◌, ◌++◌, Option, Some, None, ◌⊎◌, inl, inr, refl, ap}
 use Rattle.std.proofs.Common.{◌∙◌, subst}
 use Rattle.std.specs.Prelude.{bytes_eq, option_map}
 use Rattle.std.specs.BTreeSet.{insert_key}
@@ -18,7 +18,7 @@ use Rattle.wf_def.specs.ActionTree.{connector, decrement, foreach, increment, in
 use Rattle.wf_def.specs.ActionTree.{set_to, switch, switch_else, terminate, until, wait}
 use Rattle.wf_def.specs.AllActions.{numbered}
 use Rattle.wf_def.specs.DefTree.{DefTree}
-use Rattle.wf_uses.specs.UsesTree.{UsesTree, ordered, uses_tree}
+use Rattle.wf_uses.specs.UsesTree.{ordered, uses_tree}
 use Rattle.wf_refs.specs.Sites as sites
 use Rattle.wf_refs.specs.Sites.{inputs_uses, items_uses, test_uses, uses_at_inputs, uses_at_items, uses_at_test, uses_of, writes_of}
 use Rattle.wf_refs.specs.declared.site.Site.{Site}
@@ -252,7 +252,8 @@ module _ (same : (k : List ℕ) (ks : List (List ℕ)) → list_any (bytes_eq k)
       at_items (Some us) some = all_hold P us (λ k is. all k (inl (reads_items us k some is)))
 
       pub at_start : AllHold P (kind_uses (action_kind a))
-      at_start = starts_hold P (action_kind a) (λ k is. all k (inr (writes_own k is))) at_inputs (at_items (items_uses (action_kind a)) refl)
+      at_start =
+          starts_hold P (action_kind a) (λ k is. all k (inr (writes_own k is))) at_inputs (at_items (items_uses (action_kind a)) refl)
 
       pub at_opening : AllHold P (opening_uses (action_kind a))
       at_opening = opening_holds P (action_kind a) at_inputs

@@ -1,6 +1,6 @@
 -- An action of an open graph stands at an instance, and is of its kind.
-use Rattle.std.proofs.Common.{◌≡◌, ◌⊎◌, ℕ, List, Some, length, sym, ◌∙◌}
-use Rattle.wf_layers.specs.Address.{Table, address}
+use Rattle.std.proofs.Common.{◌⊎◌, ℕ, List, sym, ◌∙◌}
+use Rattle.wf_layers.specs.Address.{Table}
 use Rattle.wf_layers.specs.Definition.{Graph, Kind, Need}
 use Rattle.wf_layers.specs.Machine.{In, IsOpen, Opening}
 use Rattle.wf_layers.specs.Seen.{Once}

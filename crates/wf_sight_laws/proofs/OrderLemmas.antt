@@ -4,12 +4,12 @@ use Rattle.std.proofs.Common.{subst, eqb-true, true≢false}
 use Rattle.std.specs.Prelude.{bytes_eq, option_map}
 use Rattle.std.specs.List.{list_any}
 use Rattle.wf_layers.specs.Address.{Address, Table, address, is_in, is_within}
-use Rattle.wf_layers.specs.Definition.{Kind, Leaf, Skipped, has, kind_of}
+use Rattle.wf_layers.specs.Definition.{Kind, Skipped, has, kind_of}
 use Rattle.wf_layers.specs.Seen.{Once}
 use Rattle.wf_layers.specs.Variables.{HasOrder, IsIdle, IsOrdered, OneOrder}
 use Rattle.wf_layers.proofs.Basics.{and_in, own_in, two, unless}
 use Rattle.wf_asks.specs.Known.{MayRead, is_among, writer}
-use Rattle.wf_def.specs.ActionTree.{ActionTree, action, action_kind}
+use Rattle.wf_def.specs.ActionTree.{ActionTree, action}
 use Rattle.wf_def.specs.AllActions.{numbered}
 use Rattle.wf_def.specs.DefTree.{DefTree}
 use Rattle.wf_order.specs.Turns.{IsInstance}

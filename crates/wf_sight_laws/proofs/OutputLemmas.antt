@@ -1,14 +1,12 @@
 -- The section `outputs` sees all rows, so that of each variable the last writer of all gave the value.
-use Rattle.std.proofs.Common.{◌≡◌, ◌⊎◌, ℕ, List, [], ◌∷◌, ◌++◌, Option, Some, None, length, inl, inr, refl, sym, ap, ◌∙◌}
-use Rattle.std.specs.Prelude.{codes}
+use Rattle.std.proofs.Common.{◌≡◌, ◌⊎◌, ℕ, List, Option, Some, None, length, inl, inr, refl, ap, ◌∙◌}
 use Rattle.wf_val.specs.ValueTree.{ValueTree}
-use Rattle.wf_layers.specs.Address.{Address, SeenIn, Table, address}
+use Rattle.wf_layers.specs.Address.{Address, SeenIn, Table}
 use Rattle.wf_layers.specs.Variables.{IsLastSeen, IsLastWritten, write_at}
 use Rattle.wf_asks.specs.Known.{writer}
 use Rattle.wf_def.specs.DefTree.{DefTree}
 use Rattle.wf_loops.specs.Loops.{loops_of}
 use Rattle.wf_record.specs.Record.{Row}
-use Rattle.wf_look.specs.Told.{Told}
 use Rattle.wf_meaning.specs.Environment.{Environment}
 use Rattle.wf_seen_laws.proofs.RoundLemmas.{none_split}
 use Rattle.wf_meant.specs.Look.{told_to_outputs}
@@ -22,7 +20,7 @@ use Rattle.wf_meant_laws.proofs.WriterLemmas.{last_is_read}
 use Rattle.wf_meant_laws.specs.Writers.{writes_to}
 use Rattle.wf_sight.specs.Laws.{with_variables}
 use Rattle.wf_sight.specs.Sight.{KnownTree}
-use Rattle.wf_sight.specs.Variables.{variable_in, variable_number}
+use Rattle.wf_sight.specs.Variables.{variable_number}
 use Rattle.wf_sight_laws.specs.Writes.{writes}
 use Rattle.wf_sight_laws.proofs.LastLemmas.{told_by_number}
 

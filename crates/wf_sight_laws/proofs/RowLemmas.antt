@@ -9,10 +9,10 @@ use Rattle.wf_layers.specs.Definition.{Kind, Leaf, kind_of}
 use Rattle.wf_layers.specs.Laws.{IsFresh}
 use Rattle.wf_layers.specs.Rule.{Obeys}
 use Rattle.wf_layers.specs.Seen.{Once}
-use Rattle.wf_layers.specs.Source.{leaf}
-use Rattle.wf_layers.proofs.Basics.{two, unless, when}
+use Rattle.wf_layers.proofs.Basics.{unless, when}
 use Rattle.wf_asks.specs.Known.{is_among, writer}
-use Rattle.wf_def.specs.ActionTree.{ActionTree, KindTree, action_kind, append_array, append_string, decrement, increment, initialize, set_to}
+use Rattle.wf_def.specs.ActionTree.{ActionTree, KindTree, action_kind, append_array, append_string, decrement, increment, initialize}
+use Rattle.wf_def.specs.ActionTree.{set_to}
 use Rattle.wf_def.specs.AllActions.{numbered}
 use Rattle.wf_def.specs.DefTree.{DefTree}
 use Rattle.wf_def.specs.Layered.{layered_kind}
@@ -30,7 +30,7 @@ use Rattle.wf_meant_laws.specs.Tables.{StandAtInstances}
 use Rattle.wf_meant_laws.specs.Writers.{is_writer, writes_if, writes_to}
 use Rattle.wf_meant_laws.proofs.WholeLemmas.{full_of}
 use Rattle.wf_sight.specs.Variables.{variable_number, written}
-use Rattle.wf_sight_laws.specs.Writes.{if_succeeded, is_full, numbers_written, writes}
+use Rattle.wf_sight_laws.specs.Writes.{if_succeeded, is_full, writes}
 use Rattle.wf_sight_laws.proofs.CameLemmas.{leaf_row}
 use Rattle.wf_sight_laws.proofs.GivesLemmas.{Known, RowGives, ended_gives}
 use Rattle.wf_sight_laws.proofs.NumberLemmas.{writer_same}

@@ -1,11 +1,10 @@
 -- The tracked properties of an action in an accepted definition ask for no variable.
 use Rattle.std.proofs.Common.{◌≡◌, ℕ, Bool, true, false, ◌||◌, cond, List, [], ◌∷◌, ◌++◌, map, Option, Some, None, inl, inr, refl, sym, ap}
-use Rattle.std.proofs.Common.{◌∙◌, subst, eqb-true, true≢false}
+use Rattle.std.proofs.Common.{◌∙◌, eqb-true, true≢false}
 use Rattle.std.specs.Prelude.{bytes_eq, option_map}
 use Rattle.std.specs.List.{AllByRecursion, find, list_any}
 use Rattle.wf_val.specs.ValueTree.{ValueTree}
 use Rattle.wf_template.specs.DataTree.{DataMember, data_members}
-use Rattle.wf_layers.specs.Address.{Address, Table}
 use Rattle.wf_layers.proofs.Basics.{two, unless, when}
 use Rattle.wf_look.specs.Told.{Told}
 use Rattle.wf_eval_expr.specs.Uses.{AgreeAt}
@@ -22,13 +21,10 @@ use Rattle.wf_breaks.specs.Rules.{action_breaks, breaks_at, breaks_if, breaks_it
 use Rattle.wf_breaks.specs.declared.rule.Rule.{Rule}
 use Rattle.wf_rules.specs.Broken.{broken_of, offences, rules_in_order, told}
 use Rattle.wf_first.specs.First.{first_broken}
-use Rattle.wf_done.specs.Tracked.{tracked_from, tracked_value, with_own}
-use Rattle.wf_record.specs.Record.{Row}
-use Rattle.wf_meaning.specs.Environment.{Environment}
-use Rattle.wf_meant.specs.Look.{told_at, told_ending}
+use Rattle.wf_done.specs.Tracked.{tracked_from, tracked_value}
 use Rattle.wf_meant.specs.Source.{tracked_of}
 use Rattle.wf_meant_laws.proofs.WriterLemmas.{find_is, some_is}
-use Rattle.wf_sight_laws.proofs.LookLemmas.{AllHold, agree, all_hold, tree_reads, variables_named}
+use Rattle.wf_sight_laws.proofs.LookLemmas.{agree, all_hold, tree_reads, variables_named}
 
 -- ---- truth values and lists
 
@@ -87,8 +83,9 @@ stands_of P n (s ∷ ss) a all is = elim (two (has_number n s.action)) [
     is = some_is (sym (when (has_number n s.action) (Some s.action) (find (has_number n) (map (λ q. q.action) ss)) t) ∙ is);
     holds = all.0;
   }
-  | inr f ↦ stands_of P n ss a all.1 (sym (unless (has_number n s.action) (Some s.action) (find (has_number n) (map (λ q. q.action) ss)) f)
-      ∙ is)
+  | inr f ↦
+      stands_of P n ss a all.1
+      (sym (unless (has_number n s.action) (Some s.action) (find (has_number n) (map (λ q. q.action) ss)) f) ∙ is)
 ]
 
 -- ---- the rule
@@ -100,8 +97,8 @@ module _ (d : DefTree) (s : StandingTree) where
   at_tracked : action_breaks (whole_of d) Rule.Tracked s ≡ false → At (Site.Tracked (number_at s)) ≡ false
   at_tracked none =
       let inputs = second_off (breaks_itself Rule.Tracked s)
-      (At (Site.Inputs (number_at s)) || (At (Site.Items (number_at s)) || (At (Site.Test (number_at s)) || At (Site.Tracked (number_at s)))))
-      none in
+      (At (Site.Inputs (number_at s)) || (At (Site.Items (number_at s)) || (At (Site.Test (number_at s))
+      || At (Site.Tracked (number_at s))))) none in
       let items = second_off (At (Site.Inputs (number_at s)))
       (At (Site.Items (number_at s)) || (At (Site.Test (number_at s)) || At (Site.Tracked (number_at s)))) inputs in
       let test = second_off (At (Site.Items (number_at s))) (At (Site.Test (number_at s)) || At (Site.Tracked (number_at s))) items in
@@ -143,7 +140,8 @@ module _ (same : (k : List ℕ) (ks : List (List ℕ)) → list_any (bytes_eq k)
   -- THE LAW
   pub tracks_same : ((l m : Told) (ms : List DataMember) → AgreeAt l m (members_uses (data_members ms)) → (j : ℕ)
       → tracked_from l ms j ≡ tracked_from m ms j)
-      → (l : Told) (f : List ℕ → Option ValueTree) → tracked_value (record l { variable = f }) (tracked_of a) ≡ tracked_value l (tracked_of a)
+      → (l : Told) (f : List ℕ → Option ValueTree)
+      → tracked_value (record l { variable = f }) (tracked_of a) ≡ tracked_value l (tracked_of a)
   tracks_same local l f =
       local (record l { variable = f }) l (tracked_of a)
       (agree l f (members_uses (data_members (tracked_of a)))

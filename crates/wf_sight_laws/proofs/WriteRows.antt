@@ -1,7 +1,7 @@
 -- The numbers that rows write, in a worked definition.
-use Rattle.std.proofs.Common.{◌≡◌, Bool, true, false, List, [], ◌∷◌, refl}
+use Rattle.std.proofs.Common.{◌≡◌, true, false, [], ◌∷◌, refl}
 use Rattle.std.specs.Prelude.{None, Some, codes}
-use Rattle.wf_val.specs.ValueTree.{ValueTree, no_members, null, object}
+use Rattle.wf_val.specs.ValueTree.{no_members, null, object}
 use Rattle.wf_layers.specs.Address.{address}
 use Rattle.wf_asks.specs.Known.{writer}
 use Rattle.wf_def.specs.ActionTree.{action_trees, append_array, compose, foreach, initialize}

@@ -1,8 +1,8 @@
 -- What an action does in what it sees is what the definition means.
-use Rattle.std.specs.Prelude.{◌≡◌, ℕ, List, Some}
+use Rattle.std.specs.Prelude.{◌≡◌, ℕ, Some}
 use Rattle.wf_val.specs.ValueTree.{ValueTree}
 use Rattle.wf_layers.specs.Address.{Address}
-use Rattle.wf_layers.specs.Definition.{Graph, Kind, Leaf, Until}
+use Rattle.wf_layers.specs.Definition.{Graph, Kind, Leaf}
 use Rattle.wf_layers.specs.Variables.{IsLastWritten}
 use Rattle.wf_look.specs.Told.{Told}
 use Rattle.wf_def.specs.ActionTree.{ActionTree, action_kind}

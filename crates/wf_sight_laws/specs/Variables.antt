@@ -1,7 +1,7 @@
 -- What holds of the variables of a definition by their numbers.
 use Rattle.std.specs.Prelude.{◌≡◌, ◌⊎◌, ℕ, List, Some}
-use Rattle.wf_layers.specs.Address.{Address, Table, address}
-use Rattle.wf_layers.specs.Definition.{Graph, Kind, Until}
+use Rattle.wf_layers.specs.Address.{Address}
+use Rattle.wf_layers.specs.Definition.{Graph, Kind}
 use Rattle.wf_def.specs.DefTree.{DefTree}
 use Rattle.wf_accepted_laws.specs.Variables.{ReadsIt, WritesIt}
 use Rattle.wf_asks.specs.Known.{HoldsLast, HoldsLastAtTest, IsInformed, IsInformedAtTest, MayRead, writer}

@@ -1,5 +1,5 @@
--- WHAT A ROW WRITES, by the numbers of variables: where an instance has an index for each loop round its action and Succeeded, all variables
--- that the action writes.
+-- WHAT A ROW WRITES, by the numbers of variables: where its address has an index for each loop round its action, and the action Succeeded,
+-- all variables that the action writes.
 use Rattle.std.specs.Prelude.{ℕ, Bool, cond, nat_eq, List, [], length}
 use Rattle.wf_layers.specs.Address.{Address}
 use Rattle.wf_def.specs.DefTree.{DefTree}

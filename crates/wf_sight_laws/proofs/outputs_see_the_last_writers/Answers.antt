@@ -1,4 +1,4 @@
-use Rattle.std.proofs.Common.{◌≡◌, ℕ, true, sym, ◌∙◌}
+use Rattle.std.proofs.Common.{◌≡◌, ℕ, true, ◌∙◌}
 use Rattle.std.specs.Prelude.{length}
 use Rattle.wf_layers.specs.Definition.{has}
 use Rattle.wf_layers.proofs.Basics.{and_in}

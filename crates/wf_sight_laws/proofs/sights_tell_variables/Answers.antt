@@ -12,10 +12,10 @@ pub returns-clause-at : goal.returns-clause-at
 returns-clause-at c = λ d r none e x kind known informed last k how.
     let meant = table_of d e (depth_of d) in
     let whole = c.meant_rows_are_whole.ensures d r none e in
-    let a = accesses_there d e (c.numbers_stand_once.ensures d r) known.opens informed.graph x.name x.at informed.after kind informed.is_open
-    informed.is_in k how in
-    told_by_number d e meant (c.rows_write_what_they_give.ensures d r none e) (SeenIn (graph_of d) x) known.rows informed.there (point_of d x)
-    (c.the_last_writer_is_read.ensures.at_instances d r none e meant whole x) known.store k
+    let a = accesses_there d e (c.numbers_stand_once.ensures d r) known.opens informed.graph x.name x.at informed.after kind
+    informed.is_open informed.is_in k how in
+    told_by_number d e meant (c.rows_write_what_they_give.ensures d r none e) (SeenIn (graph_of d) x) known.rows informed.there
+    (point_of d x) (c.the_last_writer_is_read.ensures.at_instances d r none e meant whole x) known.store k
     (λ v number. last v (c.numbered_writers_are_in_one_order.ensures.readers d r none e k v number x.name x.at kind a))
 
 pub returns-clause-in_test : goal.returns-clause-in_test
