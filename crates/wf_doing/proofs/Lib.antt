@@ -1,3 +1,4 @@
 mod AnswerLemmas
 mod AttemptLemmas
+mod HaltingLemmas
 mod JudgedLemmas

@@ -1,0 +1,56 @@
+//! Rows of actions.
+ghost use Rattle.std.specs.Prelude.{◌≡◌, IfOk};
+ghost use Rattle.wf_done.specs.DoneSeen.{done_tree};
+ghost use Rattle.wf_meant.specs.Rows.{row_of, skipped};
+ghost use Rattle.wf_record.specs.Seen.{row_tree};
+ghost use Rattle.wf_val.specs.Seen.{tree};
+ghost use Rattle.wf_doing.specs.Places.{named};
+
+use std::alloc::{AllocError, Global};
+use wf_done::Done;
+use wf_lists::TryCopy;
+use wf_record::{Row, Tries};
+use wf_val::{Address, Fields, Indexes, Name, Val};
+
+/// The row of an action that came to this, with its tracked properties and its attempts.
+pub fn row(
+    alloc: Global,
+    name: &Name,
+    at: &Indexes,
+    done: Done,
+    tracked: Val,
+    attempts: Tries,
+) -> Result<Row, AllocError>
+    ensures { IfOk result (λ r. row_tree r
+        ≡ record { address = named name.now at.now; row = row_of (done_tree done) (tree tracked) attempts }) }
+{
+    let address = Address {
+        name: name.copy(alloc)?,
+        at: at.copy(alloc)?,
+    };
+    Ok(Row {
+        address,
+        status: done.status,
+        code: done.code,
+        inputs: done.inputs,
+        outputs: done.outputs,
+        error: done.error,
+        tracked,
+        attempts,
+    })
+}
+
+/// The row of an action that doesn't run.
+pub fn skipped(alloc: Global, name: &Name, at: &Indexes) -> Result<Row, AllocError>
+    ensures { IfOk result (λ r. row_tree r ≡ record { address = named name.now at.now; row = skipped }) }
+{
+    let done = wf_done::skipped(alloc)?;
+    row(
+        alloc,
+        name,
+        at,
+        done,
+        Val::Obj(Fields::new(alloc)),
+        Tries::new(alloc),
+    )
+}
