@@ -2,3 +2,6 @@ mod AnswerLemmas
 mod AttemptLemmas
 mod HaltingLemmas
 mod JudgedLemmas
+mod PartLemmas
+mod SourceLemmas
+mod DoingRows

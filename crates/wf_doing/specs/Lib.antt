@@ -1,3 +1,5 @@
 pub mod Places
 pub mod Halting
 pub mod Weights
+pub mod Seen
+pub mod Acting

@@ -1,17 +1,24 @@
 //! What is known of the containers of a definition. Each call tells a caller so, and does nothing.
-ghost use Rattle.std.specs.Prelude.{◌≡◌, ℕ, Some, length};
+ghost use Rattle.std.specs.Prelude.{◌≡◌, ℕ, Option, Some, length};
+ghost use Rattle.wf_answers.specs.Inputs.{InputsTree};
 ghost use Rattle.wf_closing.specs.Inside.{AreJudged};
 ghost use Rattle.wf_def.specs.ActionTree.{ActionTree, action_kind};
 ghost use Rattle.wf_def.specs.AllActions.{all_actions, numbered};
 ghost use Rattle.wf_def.specs.DefTree.{DefTree};
 ghost use Rattle.wf_def.specs.Names.{graph_names};
-ghost use Rattle.wf_layers.specs.Address.{Table};
-ghost use Rattle.wf_meaning.specs.Environment.{Environment};
+ghost use Rattle.wf_done.specs.Leaf.{BegunTree};
+ghost use Rattle.wf_layers.specs.Address.{Address, Table};
+ghost use Rattle.wf_meaning.specs.Environment.{Environment, fresh};
+ghost use Rattle.wf_meant.specs.Look.{told_at, told_in_test};
 ghost use Rattle.wf_meant.specs.Points.{graph_of};
-ghost use Rattle.wf_meant.specs.Source.{is_halted};
+ghost use Rattle.wf_meant.specs.Source.{is_halted, source};
+ghost use Rattle.wf_opening.specs.Decisions.{DecisionTree};
+ghost use Rattle.wf_opening.specs.Verdicts.{VerdictTree};
 ghost use Rattle.wf_order.specs.Table.{order_of};
 ghost use Rattle.wf_record.specs.Record.{Row};
 ghost use Rattle.wf_reading.specs.Read.{IsRead};
+ghost use Rattle.wf_trigger.specs.Starts.{StartTree};
+ghost use Rattle.wf_doing.specs.Acting.{attempts_by, begun_by, closed_by, finished_by, tested_by};
 ghost use Rattle.wf_doing.specs.Halting.{any_halts, terminates_in};
 
 /// Of each action of a definition the steps of its own graphs give how these ended.
@@ -29,4 +36,20 @@ pub fn terminates_halt()
     ensures { (d : DefTree) (e : Environment) (y : ℕ) (known : Table Row)
         → any_halts (order_of (length (graph_names d.top)) (graph_of d)) y known (terminates_in (all_actions d.top))
         ≡ is_halted d e y known }
+{}
+
+/// What an action does by what it is told is what the source of its definition says, where it is told what the definition means.
+pub fn what_is_done_is_the_source()
+    ensures start { (d : DefTree) (e : Environment) (x : Address) (known : Table Row)
+        → begun_by (numbered x.name d.top) (told_at d e x known) ≡ (source d e).start x known }
+    ensures tries { (d : DefTree) (s : StartTree) (i : InputsTree) (x : Address) (b : BegunTree)
+        → attempts_by (numbered x.name d.top) i.answers x.at b ≡ (source d (fresh s i)).tries x b }
+    ensures finish { (d : DefTree) (s : StartTree) (i : InputsTree) (x : Address) (b : BegunTree) (known : Table Row)
+        → finished_by (numbered x.name d.top) (told_at d (fresh s i) x known) i.answers x.at b ≡ (source d (fresh s i)).finish x b known }
+    ensures test { (d : DefTree) (e : Environment) (u : Address) (k : ℕ) (known : Table Row)
+        → tested_by (numbered u.name d.top) (told_in_test d e u k known) ≡ (source d e).test u k known }
+    ensures close { (d : DefTree) (e : Environment) (x : Address) (decision : DecisionTree) (n : ℕ) (verdict : Option VerdictTree)
+        (known : Table Row)
+        → closed_by (numbered x.name d.top) (told_at d e x known) x.at decision n verdict known
+        ≡ (source d e).close x decision n verdict known }
 {}
