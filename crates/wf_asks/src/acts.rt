@@ -154,7 +154,8 @@ pub trait Acts {
     fn ends(&self, verdict: &Self::Verdict) -> bool
         ensures { result ≡ (source self.now).ends (verdict_tree verdict.now) };
 
-    /// The row with which a container closes: by what it found, how many iterations an Until had, and its last test.
+    /// The row with which a container closes: by what it found, how many iterations an Until had, and its last test. The number of iterations
+    /// stands in the row, so it has to be one that a value may have.
     fn close(
         &self,
         alloc: Global,
@@ -167,6 +168,7 @@ pub trait Acts {
         requires informed { (kind : Kind) → kind_of (graph self.now) place.now.action ≡ Some kind → IsContainer kind
             × IsInformed (graph self.now) (depth self.now) (source self.now) (rows_in row_tree known.rows.now.0)
             (opens_in decision_tree verdict_tree known.opens.now.0) place.now.action place.now.at kind }
+        requires count { count < 2 ^ 63 }
         ensures { IfOk result (λ r. row_tree r ≡ (source self.now).close (address_of place.now) (decision_tree decision.now) count
             (option_map (λ v. verdict_tree v.now) test.entry) (rows_in row_tree known.entry.rows.now.0)) };
 
