@@ -4,4 +4,5 @@ mod HaltingLemmas
 mod JudgedLemmas
 mod PartLemmas
 mod SourceLemmas
+mod VariableLemmas
 mod DoingRows

@@ -3,3 +3,4 @@ pub mod Halting
 pub mod Weights
 pub mod Seen
 pub mod Acting
+pub mod Variables

@@ -25,7 +25,9 @@ mod weights;
 pub use attempts::{ended, has_try, tries};
 pub use ending::{close, finish, makes_another};
 pub use halting::{halts, terminates};
-pub use laws::{containers_are_judged, terminates_halt, what_is_done_is_the_source};
+pub use laws::{
+    containers_are_judged, terminates_halt, what_is_done_is_meant, what_is_done_is_the_source,
+};
 pub use opening::{decide, start, test_until};
 pub use rows::{row, skipped};
 pub use setting::Setting;
