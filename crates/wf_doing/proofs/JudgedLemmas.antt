@@ -1,14 +1,17 @@
 -- Each graph of a definition is one whose status is told by steps.
-use Rattle.std.proofs.Common.{◌≡◌, ℕ, ◌<◌, Bool, true, false, ◌||◌, cond, List, [], ◌∷◌, ◌++◌, map, Option, Some, inl, inr, refl, sym, ◌∙◌, ap, subst, nat_eq}
+use Rattle.std.proofs.Common.{◌≡◌, ℕ, ◌<◌, Bool, true, false, ◌||◌, cond, List, [], ◌∷◌}
+use Rattle.std.proofs.Common.{◌++◌, map, Option, Some, inl, inr, refl, sym, ◌∙◌, ap, subst, nat_eq}
 use Rattle.std.proofs.Common.{eqb-true, true≢false}
 use Rattle.std.proofs.lemmas.Bool.{eq-eqb}
 use Rattle.std.specs.List.{AllByRecursion, find, list_any}
 use Rattle.wf_layers.specs.Address.{Table}
-use Rattle.wf_layers.specs.Definition.{Closed, ClosedAny, ClosedIn, Graph, IsDepth, Branches, Names, Need, has, has_any, has_own, holds, needs_any, needs_in, needs_of}
+use Rattle.wf_layers.specs.Definition.{Closed, ClosedAny, ClosedIn, Graph, IsDepth, Branches, Names}
+use Rattle.wf_layers.specs.Definition.{Need, has, has_any, has_own, holds, needs_any, needs_in, needs_of}
 use Rattle.wf_layers.specs.Definition as layers
 use Rattle.wf_layers.specs.Seen.{Once, OnceAny, OnceIn}
 use Rattle.wf_layers.proofs.Basics.{two, or_first, or_second, same_self, when, unless}
-use Rattle.wf_def.specs.ActionTree.{ActionTree, action, action_after, action_kind, action_number, actions_in, KindTree, compose, connector, wait, response, terminate}
+use Rattle.wf_def.specs.ActionTree.{ActionTree, action, action_after, action_kind, action_number, actions_in}
+use Rattle.wf_def.specs.ActionTree.{KindTree, compose, connector, wait, response, terminate}
 use Rattle.wf_def.specs.ActionTree.{select, query, join, parse_json, initialize, set_to, increment, decrement, append_array, append_string}
 use Rattle.wf_def.specs.ActionTree.{scope, branch, switch, switch_else, foreach, until, ActionTrees, no_actions, action_then, CaseTrees}
 use Rattle.wf_def.specs.ActionTree.{no_cases, case_then}

@@ -3,7 +3,8 @@ use Rattle.std.proofs.Common.{◌≡◌, ℕ, List, [], ◌∷◌, Option, Some,
 use Rattle.std.specs.List.{AllByRecursion}
 use Rattle.wf_answers.specs.AnswerTree.{AnswerTree}
 use Rattle.wf_def.specs.ActionTree.{ActionTree, KindTree, compose, connector, wait, response, terminate, select, query, join, parse_json}
-use Rattle.wf_def.specs.ActionTree.{initialize, set_to, increment, decrement, append_array, append_string, scope, branch, switch, switch_else}
+use Rattle.wf_def.specs.ActionTree.{initialize, set_to, increment, decrement, append_array}
+use Rattle.wf_def.specs.ActionTree.{append_string, scope, branch, switch, switch_else}
 use Rattle.wf_def.specs.ActionTree.{foreach, until, action_kind, action_name}
 use Rattle.wf_done.specs.Done.{DoneTree}
 use Rattle.wf_done.specs.Leaf as leaf

@@ -30,14 +30,16 @@ tested_by (Some a) l = tested l (action_kind a)
 -- the row of what it came to, with its tracked properties: these see the row without them
 abbrev pub tracked_row : Told → ActionTree → DoneTree → List Try → Row
 tracked_row l a result attempts =
-    row_of result (tracked_value (with_own (view_of (action_name a) (row_of result (object no_members) attempts)) l) (tracked_of a)) attempts
+    row_of result (tracked_value (with_own (view_of (action_name a) (row_of result (object no_members) attempts)) l) (tracked_of a))
+    attempts
 
 abbrev pub finished_by : Option ActionTree → Told → List AnswerTree → (indexes : List ℕ) → BegunTree → Row
 finished_by None l answers indexes b = skipped
 finished_by (Some a) l answers indexes b =
     tracked_row l a (leaf.ended answers (named (action_name a) indexes) b) (tries_in answers (named (action_name a) indexes) b)
 
-abbrev pub closed_by : Option ActionTree → Told → (indexes : List ℕ) → DecisionTree → (iterations : ℕ) → Option VerdictTree → Table Row → Row
+abbrev pub closed_by : Option ActionTree → Told → (indexes : List ℕ) → DecisionTree → (iterations : ℕ) → Option VerdictTree → Table Row
+    → Row
 closed_by None l indexes decision n verdict known = skipped
 closed_by (Some a) l indexes decision n verdict known = tracked_row l a (closed (action_kind a) indexes decision n verdict known) []
 

@@ -61,9 +61,9 @@ pub fn what_is_done_is_the_source()
         ≡ (source d e).close x decision n verdict known }
 {}
 
-/// So a leaf starts, a container decides and a test gives what the definition means, wherever what is known is what the machine promises as
-/// it asks, and what is found of each variable that is asked for is what the definition means it to be. What an action ends with asks for no
-/// more than its tracked properties do.
+/// So a leaf starts, a container decides and a test gives what the definition means, wherever what is known is what the machine promises
+/// as it asks, and what is found of each variable that is asked for is what the definition means it to be. What an action ends with asks
+/// for no more than its tracked properties do.
 pub fn what_is_done_is_meant()
     ensures start { (d : DefTree) (e : Environment) (x : Address) (kind : Kind) (depth : ℕ → ℕ) (known : KnownTree)
         → Once (graph_of d)

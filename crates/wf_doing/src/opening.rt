@@ -111,7 +111,8 @@ fn tested<'a>(
     known: Known<'a, Row, Decision, Verdict>,
 ) -> Result<Verdict, AllocError>
     ensures { IfOk result (λ v. verdict_tree v ≡ tested
-        (seen_by_test setting.now (address_of place.now) index (known_tree known.entry.rows.now.0 known.entry.opens.now.0 known.entry.store.now.0))
+        (seen_by_test setting.now (address_of place.now) index
+        (known_tree known.entry.rows.now.0 known.entry.opens.now.0 known.entry.store.now.0))
         (action_kind (action_tree action.now))) }
 {
     let mut sight = sight_in_test(alloc, setting, place, index, known)?;
@@ -127,7 +128,8 @@ pub fn test_until<'a>(
     known: Known<'a, Row, Decision, Verdict>,
 ) -> Result<Verdict, AllocError>
     ensures { IfOk result (λ v. verdict_tree v ≡ tested_by (numbered place.now.action (definition_of setting.now).top)
-        (seen_by_test setting.now (address_of place.now) index (known_tree known.entry.rows.now.0 known.entry.opens.now.0 known.entry.store.now.0))) }
+        (seen_by_test setting.now (address_of place.now) index
+        (known_tree known.entry.rows.now.0 known.entry.opens.now.0 known.entry.store.now.0))) }
 {
     match setting.places.action(place.action) {
         None => Ok(Verdict::Met(true)),
