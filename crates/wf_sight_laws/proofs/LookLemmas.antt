@@ -3,7 +3,7 @@ use Rattle.std.proofs.Common.{◌≡◌, ℕ, true, false, ◌||◌, List, [], �
 use Rattle.std.proofs.Common.{◌∙◌, subst}
 use Rattle.std.specs.Prelude.{bytes_eq, option_map}
 use Rattle.std.specs.BTreeSet.{insert_key}
-use Rattle.std.specs.List.{list_any}
+use Rattle.std.specs.List.{AllByRecursion, list_any}
 use Rattle.std.specs.Option.{option_and_then}
 use Rattle.wf_val.specs.NameOrder.{bytes_cmp}
 use Rattle.wf_val.specs.ValueTree.{ValueTree}
@@ -27,6 +27,7 @@ use Rattle.wf_accepted_laws.specs.Variables.{ReadsIt, WritesIt}
 use Rattle.wf_done.specs.Uses as done
 use Rattle.wf_done.specs.Uses.{beneath, kind_uses}
 use Rattle.wf_opening.specs.Uses.{opening_uses}
+use Rattle.wf_sight_laws.specs.Asked.{WhereVariable}
 use Rattle.wf_sight_laws.proofs.NumberLemmas.{any_back, any_front, own_name}
 
 -- ---- the variables that are asked for
@@ -49,13 +50,8 @@ reads_are writes (asks_words ∷ us) = reads_are writes us
 
 -- P holds of each variable that is asked for
 module _ (P : List ℕ → Type 0) where
-  abbrev HoldsOf : Use → Type 0
-  HoldsOf (names Fun.Variables k) = P k
-  HoldsOf asked = Unit {0}
-
   abbrev pub AllHold : List Use → Type 0
-  AllHold [] = Unit {0}
-  AllHold (asked ∷ us) = HoldsOf asked × AllHold us
+  AllHold us = AllByRecursion (WhereVariable P) us
 
   joined : (us vs : List Use) → AllHold us → AllHold vs → AllHold (us ++ vs)
   joined [] vs one other = other
@@ -72,7 +68,7 @@ module _ (P : List ℕ → Type 0) where
   abbrev OfNames : List (List ℕ) → Type 0
   OfNames ks = (k : List ℕ) → list_any (bytes_eq k) ks ≡ true → P k
 
-  one_holds : (asked : Use) → OfNames (variable_name asked) → HoldsOf asked
+  one_holds : (asked : Use) → OfNames (variable_name asked) → WhereVariable P asked
   one_holds (names Fun.Variables k) of = of k (or_first (bytes_eq k k) false (own_name k))
   one_holds (names f k) of = tt
   one_holds (asks f) of = tt
@@ -92,7 +88,7 @@ module _ (l : Told) (f : List ℕ → Option ValueTree) where
   abbrev other : Told
   other = record l { variable = f }
 
-  agree_one : (asked : Use) → HoldsOf (λ k. f k ≡ l.variable k) asked → Agree other l asked
+  agree_one : (asked : Use) → WhereVariable (λ k. f k ≡ l.variable k) asked → Agree other l asked
   agree_one (names Fun.Actions k) e = refl
   agree_one (names Fun.Outputs k) e = refl
   agree_one (names Fun.Body k) e = refl

@@ -24,7 +24,7 @@ use Rattle.wf_first.specs.First.{first_broken}
 use Rattle.wf_done.specs.Tracked.{tracked_from, tracked_value}
 use Rattle.wf_meant.specs.Source.{tracked_of}
 use Rattle.wf_meant_laws.proofs.WriterLemmas.{find_is, some_is}
-use Rattle.wf_sight_laws.proofs.LookLemmas.{agree, all_hold, tree_reads, variables_named}
+use Rattle.wf_sight_laws.proofs.LookLemmas.{AllHold, agree, all_hold, tree_reads, variables_named}
 
 -- ---- truth values and lists
 
@@ -137,6 +137,10 @@ module _ (same : (k : List ℕ) (ks : List (List ℕ)) → list_any (bytes_eq k)
       ∙ tree_reads same [] (members_uses (data_members (tracked_of a))) k is)
       ∙ none_among k (uses_at_tracked a).reads reads_none)
 
+  -- so whatever is found of variables is what is told of those that are asked for
+  pub tracked_hold : (P : List ℕ → Type 0) → AllHold P (members_uses (data_members (tracked_of a)))
+  tracked_hold P = all_hold P (members_uses (data_members (tracked_of a))) (λ k is. absurd (asks_none k is))
+
   -- THE LAW
   pub tracks_same : ((l m : Told) (ms : List DataMember) → AgreeAt l m (members_uses (data_members ms)) → (j : ℕ)
       → tracked_from l ms j ≡ tracked_from m ms j)
@@ -145,4 +149,4 @@ module _ (same : (k : List ℕ) (ks : List (List ℕ)) → list_any (bytes_eq k)
   tracks_same local l f =
       local (record l { variable = f }) l (tracked_of a)
       (agree l f (members_uses (data_members (tracked_of a)))
-      (all_hold (λ k. f k ≡ l.variable k) (members_uses (data_members (tracked_of a))) (λ k is. absurd (asks_none k is)))) 0
+      (tracked_hold (λ k. f k ≡ l.variable k))) 0

@@ -1,3 +1,4 @@
 pub mod Writes
 pub mod Variables
+pub mod Asked
 pub mod Done

@@ -21,6 +21,7 @@ ghost use Rattle.wf_meant.specs.Points.{graph_of};
 ghost use Rattle.wf_meant.specs.Record.{depth_of};
 ghost use Rattle.wf_meant.specs.Source.{source, table_of};
 ghost use Rattle.wf_asks.specs.Known.{writer};
+ghost use Rattle.wf_sight_laws.specs.Asked.{FindsAsItEnds, FindsAsItIsTested, FindsAsItOpens, FindsAsItStarts};
 ghost use Rattle.wf_sight_laws.specs.Done.{Decides, OutputsSee, Starts, Tests, Tracks};
 ghost use Rattle.wf_sight_laws.specs.Variables.{AccessesMayRead, IsTold, IsToldInTest, WriteWhatTheyGive};
 ghost use Rattle.wf_sight_laws.specs.Writes.{writes};
@@ -62,7 +63,20 @@ pub fn sights_tell_variables()
     numbered_writers_are_in_one_order();
 }
 
-/// So what an action does in what it sees is what the definition means.
+/// So of all variables that an action asks for as it starts, opens, is tested or ends, what is found is what the definition tells it.
+pub fn what_is_asked_for_is_found()
+    ensures starts { (d : DefTree) → IsRead d → broken_of d ≡ None → (e : Environment) → FindsAsItStarts d e }
+    ensures opens { (d : DefTree) → IsRead d → broken_of d ≡ None → (e : Environment) → FindsAsItOpens d e }
+    ensures tested { (d : DefTree) → IsRead d → broken_of d ≡ None → (e : Environment) → FindsAsItIsTested d e }
+    ensures ends { (d : DefTree) → IsRead d → broken_of d ≡ None → (e : Environment) → FindsAsItEnds d e }
+{
+    sights_tell_variables();
+    wf_rules::the_first_broken_rule();
+    wf_accepted_laws::standings_are_the_actions();
+    wf_uses::names_are_those_named();
+}
+
+/// And what an action does in what it sees is what the definition means.
 pub fn what_is_done_in_a_sight_is_meant()
     ensures starts { (d : DefTree) → IsRead d → broken_of d ≡ None → (e : Environment) → Starts d e }
     ensures decides { (d : DefTree) → IsRead d → broken_of d ≡ None → (e : Environment) → Decides d e }
