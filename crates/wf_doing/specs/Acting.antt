@@ -1,8 +1,7 @@
--- WHAT AN ACTION DOES by what it is told. Where a number is no action's, it is as if it were skipped.
+-- WHAT AN ACTION DOES by what it is told. Where a number is no action's, it is a fault.
 use Rattle.std.specs.Prelude.{ℕ, true, List, [], length, Option, Some, None}
 use Rattle.wf_answers.specs.AnswerTree.{AnswerTree}
 use Rattle.wf_def.specs.ActionTree.{ActionTree, action_kind, action_name}
-use Rattle.wf_done.specs.Done as done
 use Rattle.wf_done.specs.Done.{DoneTree}
 use Rattle.wf_done.specs.Leaf as leaf
 use Rattle.wf_done.specs.Leaf.{BegunTree, acted, tries_in}
@@ -10,8 +9,8 @@ use Rattle.wf_done.specs.Tracked.{tracked_value, with_own}
 use Rattle.wf_layers.specs.Address.{Table}
 use Rattle.wf_look.specs.Told.{Told}
 use Rattle.wf_meant.specs.Containers.{closed, tested}
-use Rattle.wf_meant.specs.Rows.{row_of, skipped, view_of}
-use Rattle.wf_meant.specs.Source.{tracked_of}
+use Rattle.wf_meant.specs.Rows.{row_of, view_of}
+use Rattle.wf_meant.specs.Source.{tracked_of, unknown}
 use Rattle.wf_opening.specs.Decisions.{DecisionTree}
 use Rattle.wf_opening.specs.Verdicts.{VerdictTree, met}
 use Rattle.wf_record.specs.Record.{Row}
@@ -20,7 +19,7 @@ use Rattle.wf_val.specs.ValueTree.{object, no_members}
 use Rattle.wf_doing.specs.Places.{named}
 
 abbrev pub begun_by : Option ActionTree → Told → BegunTree
-begun_by None l = acted done.skipped
+begun_by None l = acted unknown
 begun_by (Some a) l = leaf.begun l (action_kind a)
 
 abbrev pub tested_by : Option ActionTree → Told → VerdictTree
@@ -34,13 +33,13 @@ tracked_row l a result attempts =
     attempts
 
 abbrev pub finished_by : Option ActionTree → Told → List AnswerTree → (indexes : List ℕ) → BegunTree → Row
-finished_by None l answers indexes b = skipped
+finished_by None l answers indexes b = row_of unknown (object no_members) []
 finished_by (Some a) l answers indexes b =
     tracked_row l a (leaf.ended answers (named (action_name a) indexes) b) (tries_in answers (named (action_name a) indexes) b)
 
 abbrev pub closed_by : Option ActionTree → Told → (indexes : List ℕ) → DecisionTree → (iterations : ℕ) → Option VerdictTree → Table Row
     → Row
-closed_by None l indexes decision n verdict known = skipped
+closed_by None l indexes decision n verdict known = row_of unknown (object no_members) []
 closed_by (Some a) l indexes decision n verdict known = tracked_row l a (closed (action_kind a) indexes decision n verdict known) []
 
 -- how many attempts it makes

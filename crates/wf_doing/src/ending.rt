@@ -18,7 +18,7 @@ ghost use Rattle.wf_doing.specs.Seen.{definition_of, seen};
 
 use crate::attempts::{ended, has_try, tries};
 use crate::own::Own;
-use crate::rows::{row, skipped};
+use crate::rows::{row, unknown_row};
 use crate::setting::{Setting, kind_of, name_of, sight, tracked_of};
 use std::alloc::{AllocError, Global};
 use wf_asks::{Instance, Known};
@@ -27,7 +27,7 @@ use wf_def::Action;
 use wf_done::{Begun, Done, tracked, view};
 use wf_opening::{Decision, Verdict};
 use wf_record::{Row, Tries};
-use wf_val::{Text, Val};
+use wf_val::Val;
 
 // Tracked properties, which see what their action came to.
 fn properties<'a>(
@@ -96,7 +96,7 @@ pub fn finish<'a>(
         (inputs_tree setting.now.inputs.now).answers place.now.at (begun_tree begun.now)) }
 {
     match setting.places.action(place.action) {
-        None => skipped(alloc, &Text::of(alloc, "")?, &place.at),
+        None => unknown_row(alloc, &place.at),
         Some(action) => finished(alloc, setting, action, place, begun, known),
     }
 }
@@ -162,7 +162,7 @@ pub fn close<'a>(
         (rows_in row_content known.entry.rows.now.0)) }
 {
     match setting.places.action(place.action) {
-        None => skipped(alloc, &Text::of(alloc, "")?, &place.at),
+        None => unknown_row(alloc, &place.at),
         Some(action) => closed(
             alloc, setting, action, inside, place, decision, count, verdict, known,
         ),

@@ -15,6 +15,7 @@ ghost use Rattle.wf_sight.specs.SightSeen.{sight_drawn, sight_told};
 ghost use Rattle.wf_doing.specs.Acting.{begun_by, tested_by};
 ghost use Rattle.wf_doing.specs.Seen.{definition_of, seen, seen_by_test};
 
+use crate::rows::unknown;
 use crate::setting::{Setting, kind_of, sight, sight_in_test};
 use std::alloc::{AllocError, Global};
 use wf_asks::{Instance, Known};
@@ -50,7 +51,7 @@ pub fn start<'a>(
         (seen setting.now (address_of place.now) (known_tree known.entry.rows.now.0 known.entry.opens.now.0 known.entry.store.now.0))) }
 {
     match setting.places.action(place.action) {
-        None => Ok(Begun::Acted(wf_done::skipped(alloc)?)),
+        None => Ok(Begun::Acted(unknown(alloc)?)),
         Some(action) => begun(alloc, setting, action, place, known),
     }
 }

@@ -1,16 +1,19 @@
 //! Rows of actions.
-ghost use Rattle.std.specs.Prelude.{◌≡◌, IfOk};
+ghost use Rattle.std.specs.Prelude.{◌≡◌, [], IfOk};
 ghost use Rattle.wf_done.specs.DoneSeen.{done_tree};
 ghost use Rattle.wf_meant.specs.Rows.{row_of, skipped};
+ghost use Rattle.wf_meant.specs.Source.{unknown};
 ghost use Rattle.wf_record.specs.Seen.{row_tree};
 ghost use Rattle.wf_val.specs.Seen.{tree};
+ghost use Rattle.wf_val.specs.ValueTree.{no_members, object};
 ghost use Rattle.wf_doing.specs.Places.{named};
 
 use std::alloc::{AllocError, Global};
 use wf_done::Done;
+use wf_json::fault_text;
 use wf_lists::TryCopy;
-use wf_record::{Row, Tries};
-use wf_val::{Address, Fields, Indexes, Name, Val};
+use wf_record::{Row, Status, Tries};
+use wf_val::{Address, EvalFault, Fields, Indexes, Name, Text, Val};
 
 /// The row of an action that came to this, with its tracked properties and its attempts.
 pub fn row(
@@ -38,6 +41,37 @@ pub fn row(
         tracked,
         attempts,
     })
+}
+
+// What a number comes to that no action has.
+pub(crate) fn unknown(alloc: Global) -> Result<Done, AllocError>
+    ensures { IfOk result (λ d. done_tree d ≡ unknown) }
+{
+    let fault = EvalFault::NoValue {
+        name: Text::from_string(String::new(alloc)),
+    };
+    Ok(Done {
+        status: Status::Failed,
+        code: Text::of(alloc, "InvalidTemplate")?,
+        inputs: Val::Null,
+        outputs: Val::Null,
+        error: Val::Text(fault_text(alloc, &fault)?),
+    })
+}
+
+// And its row.
+pub(crate) fn unknown_row(alloc: Global, at: &Indexes) -> Result<Row, AllocError>
+    ensures { IfOk result (λ r. (row_tree r).row ≡ row_of unknown (object no_members) []) }
+{
+    let done = unknown(alloc)?;
+    row(
+        alloc,
+        &Text::of(alloc, "")?,
+        at,
+        done,
+        Val::Obj(Fields::new(alloc)),
+        Tries::new(alloc),
+    )
 }
 
 /// The row of an action that doesn't run.
