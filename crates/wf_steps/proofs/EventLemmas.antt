@@ -125,8 +125,8 @@ module _ {Row Begun Decision Verdict : Type 0} (d : Graph) (m : Source Row Begun
   of_cond true x y = refl
   of_cond false x y = refl
 
-  tested : (most next : ℕ) (v : Verdict) → option_map event (tested_kind m most next v) ≡ of_tested m s most n i next v
-  tested most next v = go (m.ends v || nat_eq next most) (nat_lt next most)
+  pub tested_same : (most next : ℕ) (v : Verdict) → option_map event (tested_kind m most next v) ≡ of_tested m s most n i next v
+  tested_same most next v = go (m.ends v || nat_eq next most) (nat_lt next most)
     where
       go : (a b : Bool) → option_map event (cond a (Some Close) (cond b (Some Begin) None))
           ≡ cond a (Some (machine.Close n i)) (cond b (Some (machine.Begin n i)) None)
@@ -141,7 +141,7 @@ module _ {Row Begun Decision Verdict : Type 0} (d : Graph) (m : Source Row Begun
   until_same : (most next : ℕ) (t : Option Verdict) → option_map event (until_kind m lacks most n i next t)
       ≡ counted_test d m s waits lacks left most n i next t
   until_same most next None = begun most next
-  until_same most next (Some v) = tested most next v
+  until_same most next (Some v) = tested_same most next v
 
   branch_same : (bs : Branches) (c : ℕ)
       → option_map event (cond (is_branch (branches_of bs) c) (close_kind (lacks (address n i))) (Some Close))

@@ -1,9 +1,10 @@
 -- Worked rows of what may happen next, of last writers, and of what is looked at anew.
 use Rattle.std.proofs.Common.{◌≡◌, ℕ, true, false, [], ◌∷◌, Option, Some, None, refl}
 use Rattle.wf_layers.specs.Address.{Address, address}
+use Rattle.wf_layers.specs.Machine as machine
 use Rattle.wf_plan.specs.Plan.{BranchTree, leaf, until}
-use Rattle.wf_steps.specs.Events.{begin_kind, close_kind, foreach_kind, is_branch}
-use Rattle.wf_steps.specs.Looked.{instances_at}
+use Rattle.wf_steps.specs.Events.{begin_kind, close_kind, count_of, count_or_zero, foreach_kind, is_branch}
+use Rattle.wf_steps.specs.Looked.{instances_at, look_each}
 use Rattle.wf_steps.specs.Written.{put_each, writers_of}
 use Rattle.wf_tables.specs.declared.entries.EventKind.TheVariants.{Start, Open, Begin, Close}
 
@@ -58,3 +59,23 @@ last_writer = refl
 
 other_variable : put_each (writers_of (record { action = 4; at = [] }) (7 ∷ [])) none_written 6 ≡ None
 other_variable = refl
+
+-- the limit of an Until, by its shape
+limit_of_an_until : count_of (until 3 (1 ∷ [])) ≡ 3
+limit_of_an_until = refl
+
+limit_of_a_leaf : count_of leaf ≡ 0
+limit_of_a_leaf = refl
+
+limit_of_none : count_or_zero None ≡ 0
+limit_of_none = refl
+
+-- what is looked at takes what the look gives, and no other changes
+abbrev skips : Address → Option machine.Event
+skips x = Some (machine.Skip x.name x.at)
+
+looked_at : look_each skips (instances_at (2 ∷ []) (4 ∷ 5 ∷ [])) (λ x. None) (address 4 (2 ∷ [])) ≡ Some (machine.Skip 4 (2 ∷ []))
+looked_at = refl
+
+not_looked_at : look_each skips (instances_at (2 ∷ []) (4 ∷ 5 ∷ [])) (λ x. None) (address 4 (1 ∷ [])) ≡ None
+not_looked_at = refl

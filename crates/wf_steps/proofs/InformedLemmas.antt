@@ -1,5 +1,5 @@
 -- What is known of a kept state as an action is asked something.
-use Rattle.std.proofs.Common.{◌≡◌, ℕ, ◌<◌, Bool, List, Option, Some, None, ⊎_elim, sym, ◌∙◌, subst, arith}
+use Rattle.std.proofs.Common.{◌≡◌, ℕ, Bool, List, Option, Some, None, ⊎_elim, sym, ◌∙◌, subst, arith}
 use Rattle.wf_layers.specs.Definition.{Need, Kind, Leaf, Until, Graph, kind_of}
 use Rattle.wf_layers.specs.Address.{Address, address}
 use Rattle.wf_layers.specs.Machine.{Running, Opening, State, IsContainer, IsDecided, IsThere, MayTest}

@@ -4,6 +4,7 @@ pub mod InformedLemmas
 pub mod QuietLemmas
 pub mod TestLemmas
 pub mod LookLemmas
+pub mod ContainerLemmas
 pub mod EndLemmas
 pub mod EventLemmas
 pub mod WrittenLemmas

@@ -1,5 +1,5 @@
 -- What a put makes of a table, at each address.
-use Rattle.std.proofs.Common.{◌≡◌, Bool, true, false, cond, List, Some, None, refl, ap, ◌∙◌}
+use Rattle.std.proofs.Common.{◌≡◌, Bool, true, false, cond, List, Some, refl, ap, ◌∙◌}
 use Rattle.wf_lists.specs.KeyOrder.{put_key}
 use Rattle.wf_layers.specs.Address.{Address, is_own}
 use Rattle.wf_layers.specs.Machine.{or_else}

@@ -1,5 +1,5 @@
 -- What a Test makes of what a state keeps.
-use Rattle.std.proofs.Common.{◌≡◌, ℕ, suc, ◌-◌, Bool, true, false, ◌||◌, cond, List, Option, Some, None, option_map, inr, nat_eq, nat_lt, ⊎_elim, refl, sym, ap, ◌∙◌, subst, arith}
+use Rattle.std.proofs.Common.{◌≡◌, ℕ, suc, ◌-◌, Bool, true, cond, List, Option, Some, None, option_map, inr, ⊎_elim, refl, sym, ap, ◌∙◌, subst, arith}
 use Rattle.std.proofs.lemmas.Option.{none-some}
 use Rattle.wf_lists.specs.KeyOrder.{IsInKeyOrder, find_key, put_key, without_key}
 use Rattle.wf_layers.specs.Definition.{Need, Kind, Leaf, Scope, Choice, Foreach, Until, Graph, kind_of}
@@ -14,7 +14,6 @@ use Rattle.wf_layers.specs.Meaning.{meaning}
 use Rattle.wf_layers.proofs.Basics.{two, when, unless}
 use Rattle.wf_layers.proofs.Tables.{own_self}
 use Rattle.wf_kept.specs.Event.{AreLeft}
-use Rattle.wf_kept.specs.Stored.{IsStored}
 use Rattle.wf_kept.proofs.Informed.{kinds_are_known, running_stands}
 use Rattle.wf_kept.proofs.Known.{Known, known, goes_on}
 use Rattle.wf_kept.proofs.Quiet.{counts_stay, left_stays, ready_but_own}
@@ -32,11 +31,11 @@ use Rattle.wf_tables.specs.Tables.{count_in, count_or_none, event_at, events_in,
 use Rattle.wf_tables.specs.declared.entries.CountAt.{CountAt}
 use Rattle.wf_tables.specs.declared.entries.EventAt.{EventAt}
 use Rattle.wf_tables.specs.declared.entries.EventKind.{EventKind}
-use Rattle.wf_tables.specs.declared.entries.EventKind.TheVariants.{Begin, Close}
 use Rattle.wf_tables.specs.declared.entries.LeafAt.{LeafAt}
 use Rattle.wf_tables.proofs.OpenLemmas.{found_at, found_is, table_changed}
 use Rattle.wf_steps.specs.Events.{count_of, count_or_zero, tested_kind}
 use Rattle.wf_steps.specs.Kept.{Goes, IsEnabled, IsKept, IsPlanned}
+use Rattle.wf_steps.proofs.EventLemmas.{tested_same}
 use Rattle.wf_steps.proofs.InformedLemmas.{tested_holds_last, tested_is_informed}
 
 the_same : {A : Type 0} {u v : A} → Some u ≡ Some v → u ≡ v
@@ -88,14 +87,6 @@ module _ {Decision Verdict : Type 0} (k : Instance) (xs : List (OpenAt Decision 
 
   pub left_same : left_in xs ≡ left_in tested
   left_same = sym (λ k x. same_left x k)
-
--- ---- the event after a test
-
-kind_after : (f : EventKind → Event) (a b : Bool)
-    → option_map f (cond a (Some Close) (cond b (Some Begin) None)) ≡ cond a (Some (f Close)) (cond b (Some (f Begin)) None)
-kind_after f true b = refl
-kind_after f false true = refl
-kind_after f false false = refl
 
 next_is : {Decision Verdict Decided Told : Type 0} (decided : Decision → Decided) (told : Verdict → Told)
     (o : Option (OpenAt Decision Verdict))
@@ -290,4 +281,4 @@ module _ {Row Begun Decision Verdict Kept Started Decided Told : Type 0} (see : 
         event_is =
             ap (option_map (λ k. event_at k at.action at.at))
             (tells ∙ ap (λ z. tested_kind m z next (told v)) (count ∙ count_there p planned) ∙ ap (λ z. tested_kind m it.0 z (told v)) at_next)
-            ∙ kind_after (λ k. event_at k at.action at.at) (m.ends (told v) || nat_eq found.next it.0) (nat_lt found.next it.0)
+            ∙ tested_same d m s' (count_in waits) (count_in lacks) (left_in opens) at.action at.at it.0 found.next (told v)

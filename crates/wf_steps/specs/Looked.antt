@@ -1,4 +1,4 @@
--- What an engine finds as it looks at idle actions.
+-- What an engine finds as it looks at idle actions, and at open containers.
 use Rattle.std.specs.Prelude.{ℕ, cond, List, [], ◌∷◌, Option, None, Some, map, option_map}
 use Rattle.wf_layers.specs.Address.{Address, Table, is_own}
 use Rattle.wf_layers.specs.Machine as machine
@@ -7,7 +7,7 @@ use Rattle.wf_asks.specs.Instances.{address_of}
 use Rattle.wf_asks.specs.declared.instance.Instance.{Instance}
 use Rattle.wf_plan.specs.Plan.{EntryTree, PlanTree}
 use Rattle.wf_plan.specs.PlanSeen.{at_place}
-use Rattle.wf_steps.specs.Events.{idle_kind}
+use Rattle.wf_steps.specs.Events.{idle_kind, open_kind}
 use Rattle.wf_tables.specs.Tables.{event_at}
 
 -- these actions at the indexes
@@ -22,6 +22,16 @@ module _ {Row Begun Decision Verdict : Type 0} (m : Source Row Begun Decision Ve
   -- what may happen next to an action of a plan that is idle
   abbrev pub idle_at : PlanTree → Address → Option machine.Event
   idle_at p x = idle_by (at_place p.entries x.name) x.name x.at
+
+module _ {Row Begun Decision Verdict : Type 0} (m : Source Row Begun Decision Verdict) where
+  abbrev pub open_by : Option EntryTree → Option (machine.Opening Decision Verdict) → Table ℕ → ℕ → ℕ → List ℕ → Option machine.Event
+  open_by None o lacks left n i = None
+  open_by (Some e) None lacks left n i = None
+  open_by (Some e) (Some w) lacks left n i = option_map (λ k. event_at k n i) (open_kind m lacks left e.shape n i w)
+
+  -- what may happen next to a container of a plan that is open
+  abbrev pub open_at : Table (machine.Opening Decision Verdict) → Table ℕ → (Address → ℕ) → PlanTree → Address → Option machine.Event
+  open_at opens lacks left p x = open_by (at_place p.entries x.name) (opens x) lacks (left x) x.name x.at
 
 -- one looked at after the other
 abbrev pub look_each : (Address → Option machine.Event) → List Instance → Table machine.Event → Table machine.Event

@@ -7,9 +7,10 @@
 //!
 //! Of the eight steps it has Start, Try and Test. Of the others it has, beside the edits of counts and rows in `wf_tables`, what may happen
 //! next to an idle action and to an open container (`idle_kind`, `open_kind`), the ready set at one instance and at several (`set_event`,
-//! `look_at`, `look_at_each`), and the last writers of variables (`writers`, `put_writers`).
+//! `look_at`, `look_at_each`, `look_at_open`), and the last writers of variables (`writers`, `put_writers`).
 #![tactic(auto)]
 
+mod container;
 mod event;
 mod laws;
 mod look;
@@ -18,6 +19,7 @@ mod state;
 mod store;
 mod until;
 
+pub use container::{last_iteration, look_at_open};
 pub use event::{idle_kind, open_kind};
 pub use laws::shapes_tell_events;
 pub use look::{instances, look_at, look_at_each};
