@@ -1,0 +1,2 @@
+mod DoneLemmas
+mod CountLemmas

@@ -1,0 +1,40 @@
+use Rattle.std.proofs.Common.{◌≡◌, IfOk, ap, subst, ◌∙◌}
+use Rattle.wf_asks.specs.Instances.{address_of}
+use Rattle.wf_def.specs.AllActions.{numbered}
+use Rattle.wf_def.specs.DefTree.{DefTree}
+use Rattle.wf_opening.specs.DecisionSeen.{decision_tree}
+use Rattle.wf_opening.specs.Decisions.{DecisionTree}
+use Rattle.wf_meaning.specs.Environment.{Environment, first_facts}
+use Rattle.wf_sight.specs.Laws.{run_of}
+use Rattle.wf_sight.specs.Seen.{known_tree}
+use Rattle.wf_sight.specs.Sight.{KnownTree, seen_at}
+use Rattle.wf_def.specs.ActionTree.{action_kind}
+use Rattle.wf_def.specs.Layered.{layered_kind}
+use Rattle.wf_meant.specs.Look.{decided_by, told_at}
+use Rattle.wf_instance.proofs.KindLemmas.{kinds}
+use Rattle.wf_doing.specs.Seen as setting
+use Rattle.wf_sight_laws.specs.Done as laws
+use Rattle.wf_actions.specs.Meant.{definition_of, environment_of}
+use Rattle.wf_actions.proofs.DoneLemmas.{decides_by}
+use Rattle.wf_actions.proofs.acting.decide.Goals as goal
+
+pub returns : goal.returns
+returns c =
+    let actions = c.args.actions.now in
+    let d : DefTree = definition_of actions in
+    let e : Environment = environment_of actions in
+    let place = c.args.place.now in
+    let x = address_of place in
+    let known : KnownTree = known_tree c.args.known.rows.now.0 c.args.known.opens.now.0 c.args.known.store.now.0 in
+    let f = setting.environment_of c.setting.result in
+    subst (λ (r : DecisionTree). IfOk c.decide.result (λ b. decision_tree b ≡ r))
+    (ap (λ (q : DefTree). decided_by (numbered place.action q.top) (seen_at q (run_of f (first_facts f)) x known)) c.setting.ensures.definition
+    ∙ ap (λ (g : Environment). decided_by (numbered place.action d.top) (seen_at d (run_of g (first_facts g)) x known))
+    c.setting.ensures.environment
+    ∙ decides_by (laws.seen d e x known) (told_at d e x known.rows) (numbered place.action d.top)
+    (λ a found.
+    let kind = layered_kind (action_kind a) in
+    let asked = c.requires.informed kind (kinds d (c.numbers_stand_once.ensures d c.was_read.ensures) place.action a found) in
+    c.what_is_done_in_a_sight_is_meant.ensures.decides d c.was_read.ensures c.always_checked.ensures.holds e x kind known a found
+    asked.1 asked.2))
+    c.decide.ensures

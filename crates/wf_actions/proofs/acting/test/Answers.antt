@@ -1,0 +1,46 @@
+use Rattle.std.proofs.Common.{◌≡◌, IfOk, Some, ap, subst, ◌∙◌}
+use Rattle.wf_asks.specs.Instances.{address_of}
+use Rattle.wf_def.specs.AllActions.{numbered}
+use Rattle.wf_def.specs.DefTree.{DefTree}
+use Rattle.wf_opening.specs.DecisionSeen.{verdict_tree}
+use Rattle.wf_opening.specs.Verdicts.{VerdictTree}
+use Rattle.wf_meaning.specs.Environment.{Environment, first_facts}
+use Rattle.wf_sight.specs.Laws.{run_of}
+use Rattle.wf_sight.specs.Seen.{known_tree}
+use Rattle.wf_sight.specs.Sight.{KnownTree, seen_in_test}
+use Rattle.wf_def.specs.ActionTree.{action_kind}
+use Rattle.wf_def.specs.Layered.{layered_kind}
+use Rattle.wf_meant.specs.Look.{told_in_test}
+use Rattle.wf_doing.specs.Acting.{tested_by}
+use Rattle.wf_layers.specs.Definition.{Until}
+use Rattle.wf_def.specs.Layered.{layered}
+use Rattle.wf_instance.proofs.KindLemmas.{kinds}
+use Rattle.wf_meant.specs.Source.{test_of}
+use Rattle.wf_doing.specs.Seen as setting
+use Rattle.wf_sight_laws.specs.Done as laws
+use Rattle.wf_actions.specs.Meant.{definition_of, environment_of}
+use Rattle.wf_actions.proofs.DoneLemmas.{tests_as}
+use Rattle.wf_actions.proofs.acting.test.Goals as goal
+
+pub returns : goal.returns
+returns c =
+    let actions = c.args.actions.now in
+    let d : DefTree = definition_of actions in
+    let e : Environment = environment_of actions in
+    let place = c.args.place.now in
+    let x = address_of place in
+    let known : KnownTree = known_tree c.args.known.rows.now.0 c.args.known.opens.now.0 c.args.known.store.now.0 in
+    let f = setting.environment_of c.setting.result in
+    subst (λ (r : VerdictTree). IfOk c.test_until.result (λ b. verdict_tree b ≡ r))
+    (ap (λ (q : DefTree). tested_by (numbered place.action q.top) (seen_in_test q (run_of f (first_facts f)) x c.args.index known)) c.setting.ensures.definition
+    ∙ ap (λ (g : Environment). tested_by (numbered place.action d.top) (seen_in_test d (run_of g (first_facts g)) x c.args.index known))
+    c.setting.ensures.environment
+    ∙ tests_as (laws.seen_tested d e x c.args.index known) (told_in_test d e x c.args.index known.rows) (numbered place.action d.top)
+    (λ a found test count fails graph is.
+    let asked = c.requires.informed count (layered graph)
+        (kinds d (c.numbers_stand_once.ensures d c.was_read.ensures) place.action a found ∙ ap (λ k. Some (layered_kind k)) is) in
+    c.what_is_done_in_a_sight_is_meant.ensures.tests d c.was_read.ensures c.always_checked.ensures.holds e x count (layered graph)
+    c.args.index known a found asked.0 asked.1
+    ∙ ap (λ o. test_of d e o x c.args.index known.rows) found)
+    ∙ c.what_is_done_is_the_source.ensures.test d e x c.args.index known.rows)
+    c.test_until.ensures

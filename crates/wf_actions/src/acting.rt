@@ -1,0 +1,241 @@
+//! What the actions of a run do, as the machine asks for it.
+ghost use Rattle.std.specs.Prelude.{◌≡◌, ◌<◌, ◌^◌, ℕ, IfOk, Some, nat_lt, option_map};
+ghost use Rattle.wf_val.specs.Cut.{cut_u64};
+ghost use Rattle.wf_layers.specs.Definition.{Graph, Kind, Leaf, Until, kind_of};
+ghost use Rattle.wf_layers.specs.Machine.{IsContainer};
+ghost use Rattle.wf_asks.specs.Instances.{address_of, rows_in};
+ghost use Rattle.wf_asks.specs.Known.{HoldsLast, HoldsLastAtTest, IsInformed, IsInformedAtTest, is_among, opens_in, store_in};
+ghost use Rattle.wf_asks.specs.Statuses.{status_tree};
+ghost use Rattle.wf_done.specs.DoneSeen.{begun_tree};
+ghost use Rattle.wf_opening.specs.DecisionSeen.{decision_tree, verdict_tree};
+ghost use Rattle.wf_sight.specs.Seen.{row_content};
+ghost use Rattle.wf_closing.specs.Inside.{inside_of};
+ghost use Rattle.wf_closing.specs.InsideSeen.{inside_tree};
+ghost use Rattle.wf_def.specs.ActionSeen.{action_tree};
+ghost use Rattle.wf_def.specs.ActionTree.{action_kind};
+ghost use Rattle.wf_def.specs.AllActions.{numbered};
+ghost use Rattle.wf_reading.specs.ReadSeen.{def_tree};
+ghost use Rattle.wf_actions.specs.Meant.{inside_by};
+ghost use Rattle.wf_actions.specs.Meant.{cost_of_row, depth, graph, source, writes};
+ghost use Rattle.wf_doing.specs.Seen as setting;
+ghost use Rattle.wf_actions.specs.Meant.{definition_of, environment_of};
+
+use crate::actions::Actions;
+use crate::opened::was_read;
+use std::alloc::{AllocError, Global};
+use wf_asks::{Instance, Known};
+use wf_closing::Inside;
+use wf_def::Action;
+use wf_doing::Setting;
+use wf_sight::Places;
+use wf_done::Begun;
+use wf_opening::{Decision, Verdict};
+use wf_record::{Row, Status};
+use wf_val::Text;
+
+fn setting<'a>(actions: &Actions<'a>) -> Setting<'a>
+    ensures definition { setting.definition_of result ≡ definition_of actions.now }
+    ensures environment { setting.environment_of result ≡ environment_of actions.now }
+{
+    Setting {
+        places: &actions.ready.places,
+        start: actions.start,
+        inputs: actions.inputs,
+    }
+}
+
+/// What a leaf has from its start on.
+pub fn start(
+    alloc: Global,
+    actions: &Actions<'_>,
+    place: &Instance,
+    known: Known<'_, Row, Decision, Verdict>,
+) -> Result<Begun, AllocError>
+    requires informed { IsInformed (graph actions.now) (depth actions.now) (source actions.now) (rows_in row_content known.rows.now.0)
+        (opens_in decision_tree verdict_tree known.opens.now.0) place.now.action place.now.at Leaf }
+    requires last { HoldsLast (graph actions.now) (depth actions.now) (source actions.now) (writes actions.now)
+        (rows_in row_content known.rows.now.0) (store_in known.store.now.0) place.now.action Leaf place.now.at }
+    ensures { IfOk result (λ b. begun_tree b
+        ≡ (source actions.now).start (address_of place.now) (rows_in row_content known.entry.rows.now.0)) }
+{
+    was_read(&actions.ready.checked.def);
+    actions.ready.checked.always_checked();
+    wf_sight_laws::what_is_done_in_a_sight_is_meant();
+    wf_doing::start(alloc, &setting(actions), place, known)
+}
+
+/// Whether a running leaf that made so many attempts makes another.
+pub fn has_try(actions: &Actions<'_>, place: &Instance, begun: &Begun, made: u64) -> bool
+    ensures { result ≡ nat_lt made ((source actions.now).tries (address_of place.now) (begun_tree begun.now)) }
+{
+    wf_doing::what_is_done_is_the_source();
+    wf_doing::makes_another(&setting(actions), place, begun, made)
+}
+
+/// The row with which a leaf ends.
+pub fn finish(
+    alloc: Global,
+    actions: &Actions<'_>,
+    place: &Instance,
+    begun: &Begun,
+    known: Known<'_, Row, Decision, Verdict>,
+) -> Result<Row, AllocError>
+    requires informed { IsInformed (graph actions.now) (depth actions.now) (source actions.now) (rows_in row_content known.rows.now.0)
+        (opens_in decision_tree verdict_tree known.opens.now.0) place.now.action place.now.at Leaf }
+    ensures { IfOk result (λ r. row_content r
+        ≡ (source actions.now).finish (address_of place.now) (begun_tree begun.now) (rows_in row_content known.entry.rows.now.0)) }
+{
+    was_read(&actions.ready.checked.def);
+    actions.ready.checked.always_checked();
+    wf_sight_laws::what_is_done_in_a_sight_is_meant();
+    wf_doing::what_is_done_is_the_source();
+    wf_doing::finish(alloc, &setting(actions), place, begun, known)
+}
+
+/// The row of an action that doesn't run.
+pub fn skipped(alloc: Global, actions: &Actions<'_>, place: &Instance) -> Result<Row, AllocError>
+    ensures { IfOk result (λ r. row_content r ≡ (source actions.now).skipped) }
+{
+    match actions.ready.places.action(place.action) {
+        Some(action) => wf_doing::skipped(alloc, &action.name, &place.at),
+        None => wf_doing::skipped(alloc, &Text::of(alloc, "")?, &place.at),
+    }
+}
+
+/// What a container finds as it opens.
+pub fn decide(
+    alloc: Global,
+    actions: &Actions<'_>,
+    place: &Instance,
+    known: Known<'_, Row, Decision, Verdict>,
+) -> Result<Decision, AllocError>
+    requires informed { (kind : Kind) → kind_of (graph actions.now) place.now.action ≡ Some kind → IsContainer kind
+        × IsInformed (graph actions.now) (depth actions.now) (source actions.now) (rows_in row_content known.rows.now.0)
+        (opens_in decision_tree verdict_tree known.opens.now.0) place.now.action place.now.at kind
+        × HoldsLast (graph actions.now) (depth actions.now) (source actions.now) (writes actions.now)
+        (rows_in row_content known.rows.now.0) (store_in known.store.now.0) place.now.action kind place.now.at }
+    ensures { IfOk result (λ d. decision_tree d
+        ≡ (source actions.now).decide (address_of place.now) (rows_in row_content known.entry.rows.now.0)) }
+{
+    was_read(&actions.ready.checked.def);
+    actions.ready.checked.always_checked();
+    wf_known_laws::numbers_stand_once();
+    wf_sight_laws::what_is_done_in_a_sight_is_meant();
+    wf_doing::decide(alloc, &setting(actions), place, known)
+}
+
+/// What the test of an Until gives after the iteration of an index.
+pub fn test(
+    alloc: Global,
+    actions: &Actions<'_>,
+    place: &Instance,
+    index: u64,
+    known: Known<'_, Row, Decision, Verdict>,
+) -> Result<Verdict, AllocError>
+    requires informed { (most : ℕ) → (g : Graph) → kind_of (graph actions.now) place.now.action ≡ Some (Until most g)
+        → IsInformedAtTest (graph actions.now) (depth actions.now) (source actions.now) (rows_in row_content known.rows.now.0)
+        (opens_in decision_tree verdict_tree known.opens.now.0) place.now.action place.now.at most g index
+        × HoldsLastAtTest (graph actions.now) (depth actions.now) (source actions.now) (writes actions.now)
+        (rows_in row_content known.rows.now.0) (store_in known.store.now.0) place.now.action most g place.now.at index }
+    ensures { IfOk result (λ v. verdict_tree v
+        ≡ (source actions.now).test (address_of place.now) index (rows_in row_content known.entry.rows.now.0)) }
+{
+    was_read(&actions.ready.checked.def);
+    actions.ready.checked.always_checked();
+    wf_known_laws::numbers_stand_once();
+    wf_sight_laws::what_is_done_in_a_sight_is_meant();
+    wf_doing::what_is_done_is_the_source();
+    wf_doing::test_until(alloc, &setting(actions), place, index, known)
+}
+
+// What closing asks of a container.
+fn inside(alloc: Global, places: &Places<'_>, number: u32) -> Result<Inside, AllocError>
+    ensures { IfOk result (λ i. inside_tree i ≡ inside_by (numbered number (def_tree places.now).top)) }
+{
+    match places.action(number) {
+        Some(action) => inside_action(alloc, action),
+        None => Ok(Inside {
+            graphs: Vec::new(alloc),
+            terminates: Vec::new(alloc),
+        }),
+    }
+}
+
+#[tactic(auto, using(wf_sight::proofs::PlaceLemmas::kind_is))]
+fn inside_action(alloc: Global, action: &Action) -> Result<Inside, AllocError>
+    ensures { IfOk result (λ i. inside_tree i ≡ inside_of (action_kind (action_tree action.now))) }
+{
+    Inside::of(alloc, &action.kind)
+}
+
+/// The row with which a container closes.
+pub fn close(
+    alloc: Global,
+    actions: &Actions<'_>,
+    place: &Instance,
+    decision: &Decision,
+    count: u64,
+    test: Option<&Verdict>,
+    known: Known<'_, Row, Decision, Verdict>,
+) -> Result<Row, AllocError>
+    requires informed { (kind : Kind) → kind_of (graph actions.now) place.now.action ≡ Some kind → IsContainer kind
+        × IsInformed (graph actions.now) (depth actions.now) (source actions.now) (rows_in row_content known.rows.now.0)
+        (opens_in decision_tree verdict_tree known.opens.now.0) place.now.action place.now.at kind }
+    requires count { count < 2 ^ 63 }
+    ensures { IfOk result (λ r. row_content r ≡ (source actions.now).close (address_of place.now) (decision_tree decision.now) count
+        (option_map (λ v. verdict_tree v.now) test.entry) (rows_in row_content known.entry.rows.now.0)) }
+{
+    was_read(&actions.ready.checked.def);
+    actions.ready.checked.always_checked();
+    wf_known_laws::numbers_stand_once();
+    wf_sight_laws::what_is_done_in_a_sight_is_meant();
+    wf_doing::what_is_done_is_the_source();
+    wf_doing::containers_are_judged();
+    let inside = inside(alloc, &actions.ready.places, place.action)?;
+    wf_doing::close(
+        alloc,
+        &setting(actions),
+        &inside,
+        place,
+        decision,
+        count,
+        test,
+        known,
+    )
+}
+
+/// How an action ended whose row this is.
+pub fn status(actions: &Actions<'_>, row: &Row) -> Status
+    ensures { status_tree result ≡ (source actions.now).status (row_content row.now) }
+{
+    row.status
+}
+
+/// What a row adds to the cost of its run; at most the greatest u64.
+pub fn row_cost(row: &Row) -> u64
+    ensures { result ≡ cut_u64 (cost_of_row (row_content row.now)) }
+{
+    wf_record::row_cost(row)
+}
+
+/// Whether something beside its `runAfter` keeps an action from running.
+pub fn halts(actions: &Actions<'_>, place: &Instance, known: Known<'_, Row, Decision, Verdict>) -> bool
+    ensures { result ≡ (source actions.now).halts (address_of place.now) (rows_in row_content known.entry.rows.now.0) }
+{
+    wf_doing::terminates_halt();
+    actions.ready.checked.always_checked();
+    wf_doing::halts(&actions.ready.checked.order, &actions.ready.terminates, place.action, known.rows)
+}
+
+/// The variables to which a row gives values.
+pub fn written<'s>(actions: &'s Actions<'_>, place: &Instance, row: &Row) -> &'s [u32]
+    ensures { (v : ℕ) → is_among v result.now ≡ writes actions.now v (address_of place.now) (row_content row.now) }
+{
+    if place.at.len() != actions.ready.places.loops(place.action).len() as u64 {
+        return &[];
+    }
+    match row.status {
+        Status::Succeeded => actions.ready.places.written(place.action),
+        _ => &[],
+    }
+}

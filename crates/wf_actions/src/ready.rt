@@ -1,0 +1,23 @@
+//! How a definition is made ready.
+ghost use Rattle.std.specs.Prelude.{◌≡◌, IfOk};
+
+use crate::actions::Ready;
+use std::alloc::{AllocError, Global};
+use wf_doing::terminates;
+use wf_rules::Checked;
+use wf_sight::Places;
+
+impl<'a> Ready<'a> {
+    /// Makes a definition ready. It walks its graphs a few times.
+    pub fn of(alloc: Global, checked: &'a Checked) -> Result<Ready<'a>, AllocError>
+        ensures { IfOk result (λ r. r.checked.now ≡ checked.now) }
+    {
+        let places = Places::of(alloc, &checked.def)?;
+        let terminates = terminates(alloc, &checked.def.top)?;
+        Ok(Ready {
+            checked,
+            places,
+            terminates,
+        })
+    }
+}
