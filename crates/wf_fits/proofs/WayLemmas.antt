@@ -26,7 +26,15 @@ use Rattle.wf_fits.specs.Walk.{Walked, behind, cases_walk, graph_walk, is_at, ki
 use Rattle.wf_fits.specs.WalkSeen.{walked}
 use Rattle.wf_fits.specs.WaysSeen as seen
 use Rattle.wf_fits.specs.WaysSeen.{AreWays, placed_at}
+use Rattle.wf_fits.specs.Sorts.{all_initials, is_named, sort_by}
+use Rattle.wf_fits.specs.SortsSeen.{sort_in, typed_tree}
+use Rattle.wf_fits.specs.declared.sorts.Typed.{Typed}
 use Rattle.wf_fits.specs.declared.walk.Placed.{Placed}
+use Rattle.wf_def.specs.ActionSeen.{action_tree}
+use Rattle.wf_def.specs.ActionTree.{InitialTree}
+use Rattle.wf_val.specs.NameOrder.{bytes_cmp}
+use Rattle.std.proofs.lemmas.Cmp.{nat_list_cmp_total}
+use Rattle.std.proofs.lemmas.Map.Text.{is_eq-slice_cmp}
 
 -- ---- all actions, in the order of the tree
 
@@ -245,15 +253,39 @@ placed_found ps n =
     ∙ find-as walked (λ (p : Placed). is_eq (nat_cmp n (out-Action p.action.now).number)) (is_at n)
     (λ p. same_number n (out-Action p.action.now).number ∙ ap (nat_eq n) (number_is p.action.now)) ps
 
-pub are_ways : (d : DefTree) (table : List Placed) (ws : List Walked) → ws ≡ graph_walk [] d.top
-    → ((n : ℕ) → placed_at table n ≡ find (is_at n) ws) → AreWays d table
-are_ways d table ws walk found = record {
-  actions = λ n. ap (option_map (λ (w : Walked). w.action)) (found n)
-      ∙ (find-as (λ (w : Walked). w.action) (is_at n) (has_number n) (λ w. refl) ws
-      ∙ ap (find (has_number n)) (ap actions_of walk ∙ actions-graph [] d.top));
-  ways = λ n. ap seen.way_in (found n) ∙ (way_of (find (is_at n) ws)
-      ∙ (ap (λ (vs : List Walked). way_or_none (way_found n vs)) walk ∙ walk_way n d.top));
-}
+pub types_found : (ts : List Typed) (is : List InitialTree) → map typed_tree ts ≡ is → (k : List ℕ)
+    → sort_in (all_put bytes_cmp (λ (t : Typed). t.initial.now.name) ts) k ≡ sort_by is k
+types_found ts is same k =
+    ap (option_map (λ (t : Typed). t.initial.now.sort))
+    (find-all_put bytes_cmp (λ (t : Typed). t.initial.now.name) nat_list_cmp_total k ts)
+    ∙ (twice (find (λ (t : Typed). is_eq (bytes_cmp k t.initial.now.name)) ts)
+    ∙ ap (option_map (λ (i : InitialTree). i.sort))
+    (find-as typed_tree (λ (t : Typed). is_eq (bytes_cmp k t.initial.now.name)) (is_named k)
+    (λ t. is_eq-slice_cmp k t.initial.now.name) ts ∙ ap (find (is_named k)) same))
+  where
+    twice : (o : Option Typed) → option_map (λ (t : Typed). t.initial.now.sort) o
+        ≡ option_map (λ (i : InitialTree). i.sort) (option_map typed_tree o)
+    twice None = refl
+    twice (Some t) = refl
+
+pub actions_walked : (ps : List Placed) → map (λ (p : Placed). action_tree p.action.now) ps ≡ actions_of (map walked ps)
+actions_walked [] = refl
+actions_walked (p ∷ ps) = ap (λ as'. action_tree p.action.now ∷ as') (actions_walked ps)
+
+pub are_ways : (d : DefTree) (table : List Placed) (types : List Typed) (ps : List Placed) → map walked ps ≡ graph_walk [] d.top
+    → ((n : ℕ) → placed_at table n ≡ find (is_at n) (map walked ps))
+    → ((k : List ℕ) → sort_in types k ≡ sort_by (all_initials (map (λ (p : Placed). action_tree p.action.now) ps)) k)
+    → AreWays d table types
+are_ways d table types ps walk found typed =
+    let ws = map walked ps in
+    let all = ap actions_of walk ∙ actions-graph [] d.top in
+    record {
+      actions = λ n. ap (option_map (λ (w : Walked). w.action)) (found n)
+          ∙ (find-as (λ (w : Walked). w.action) (is_at n) (has_number n) (λ w. refl) ws ∙ ap (find (has_number n)) all);
+      ways = λ n. ap seen.way_in (found n) ∙ (way_of (find (is_at n) ws)
+          ∙ (ap (λ (vs : List Walked). way_or_none (way_found n vs)) walk ∙ walk_way n d.top));
+      sorts = λ k. typed k ∙ ap (λ as'. sort_by (all_initials as') k) (actions_walked ps ∙ all);
+    }
   where
     way_of : (o : Option Walked) → seen.way_in o ≡ way_or_none (option_map (λ (w : Walked). w.way) o)
     way_of None = refl

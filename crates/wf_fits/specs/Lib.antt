@@ -1,3 +1,5 @@
 pub mod Walk
 pub mod WalkSeen
+pub mod Sorts
+pub mod SortsSeen
 pub mod WaysSeen

@@ -7,8 +7,11 @@ use Rattle.wf_def.specs.DefTree.{DefTree}
 use Rattle.wf_def.specs.declared.graph.Action.{out-Action}
 use Rattle.wf_meant.specs.Points.{graph_of}
 use Rattle.wf_ways.specs.Way.{Step, way}
+use Rattle.wf_fits.specs.Sorts.{sort_of}
+use Rattle.wf_fits.specs.SortsSeen.{sort_in}
 use Rattle.wf_fits.specs.Walk.{Walked}
 use Rattle.wf_fits.specs.WalkSeen.{walked}
+use Rattle.wf_fits.specs.declared.sorts.Typed.{Typed}
 use Rattle.wf_fits.specs.declared.walk.Placed.{Placed}
 
 abbrev pub placed_at : List Placed → ℕ → Option Walked
@@ -20,6 +23,7 @@ way_in None = []
 way_in (Some w) = w.way
 
 -- The table has what the definition has.
-pub record AreWays (d : DefTree) (placed : List Placed) : Type 0 where
+pub record AreWays (d : DefTree) (placed : List Placed) (typed : List Typed) : Type 0 where
   pub actions : (n : ℕ) → option_map (λ (w : Walked). w.action) (placed_at placed n) ≡ numbered n d.top
   pub ways : (n : ℕ) → way_in (placed_at placed n) ≡ way (graph_of d) n
+  pub sorts : (k : List ℕ) → sort_in typed k ≡ sort_of d k

@@ -1,8 +1,9 @@
 //! The way to each action of a definition.
 ghost use Rattle.std.specs.List.{find};
-ghost use Rattle.std.specs.Prelude.{◌≡◌, ℕ, IfOk, map, option_map};
+ghost use Rattle.std.specs.Prelude.{◌≡◌, ℕ, IfOk, Some, map, option_map};
 ghost use Rattle.wf_def.specs.ActionSeen.{action_tree};
 ghost use Rattle.wf_def.specs.AllActions.{numbered};
+ghost use Rattle.wf_fits.specs.Sorts.{sort_at, sort_changed};
 ghost use Rattle.wf_fits.specs.Walk.{is_at};
 ghost use Rattle.wf_fits.specs.WalkSeen.{step_tree, walked};
 ghost use Rattle.wf_fits.specs.WaysSeen.{placed_at};
@@ -10,12 +11,13 @@ ghost use Rattle.wf_meant.specs.Points.{graph_of};
 ghost use Rattle.wf_reading.specs.ReadSeen.{def_tree};
 ghost use Rattle.wf_ways.specs.Way.{way};
 
+use crate::sorts::{Typed, changes, kind_of, sort_in, sorts_of};
 use crate::step::Step;
 use crate::tables::by_keys;
 use crate::walk::{Placed, all_placed};
 use std::alloc::{AllocError, Global};
 use std::marker::Model;
-use wf_def::Action;
+use wf_def::{Action, Sort};
 use wf_lists::{Keyed, Sorted};
 use wf_reading::Def;
 
@@ -36,6 +38,7 @@ impl<'a> Keyed for Placed<'a> {
 pub struct Ways<'a> {
     def: &'a Def,
     by_number: Sorted<Placed<'a>>,
+    sorts: Sorted<Typed<'a>>,
 }
 
 impl<'a> Model for Ways<'a> {
@@ -51,7 +54,7 @@ impl<'a> Model for Ways<'a> {
 
     ghost view = { λ w. w.def.now };
 
-    ghost invariant = { λ w. AreWays (def_tree w.def.now) w.by_number };
+    ghost invariant = { λ w. AreWays (def_tree w.def.now) w.by_number w.sorts };
 }
 
 fn by_number<'a>(alloc: Global, actions: Vec<Placed<'a>>) -> Result<Sorted<Placed<'a>>, AllocError>
@@ -67,8 +70,13 @@ impl<'a> Ways<'a> {
         ensures { IfOk result (λ w. w ≡ def.now) }
     {
         let actions = all_placed(alloc, &def.top)?;
+        let sorts = sorts_of(alloc, &actions)?;
         let by_number = by_number(alloc, actions)?;
-        Ok(Ways { def, by_number })
+        Ok(Ways {
+            def,
+            by_number,
+            sorts,
+        })
     }
 
     /// The action of a number.
@@ -88,6 +96,25 @@ impl<'a> Ways<'a> {
         match self.by_number.get(&number) {
             Some(placed) => &placed.way,
             None => &[],
+        }
+    }
+
+    /// The type of the variable that an action writes, where it writes one that another initialised.
+    pub fn sort(&self, number: u32) -> Option<Sort>
+        ensures { result ≡ sort_at (def_tree self.now) number }
+    {
+        match self.action(number) {
+            Some(action) => self.sort_changed(action),
+            None => None,
+        }
+    }
+
+    fn sort_changed(&self, action: &Action) -> Option<Sort>
+        ensures { result ≡ sort_changed (def_tree self.now) (Some (action_tree action.now)) }
+    {
+        match changes(kind_of(action)) {
+            Some(name) => sort_in(&self.sorts, name),
+            None => None,
         }
     }
 }

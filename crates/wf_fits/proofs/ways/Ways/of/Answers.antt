@@ -1,10 +1,14 @@
+use Rattle.std.proofs.Common.{List, map, ap, ◌∙◌}
+use Rattle.wf_def.specs.ActionSeen.{action_tree}
 use Rattle.wf_reading.specs.ReadSeen.{def_tree}
+use Rattle.wf_fits.specs.Sorts.{all_initials, sort_by}
+use Rattle.wf_fits.specs.declared.walk.Placed.{Placed}
 use Rattle.wf_fits.proofs.WayLemmas.{are_ways}
-use Rattle.std.proofs.Common.{map}
-use Rattle.wf_fits.specs.WalkSeen.{walked}
 use Rattle.wf_fits.proofs.ways.Ways.of.Goals as goal
 
 pub invariant_of-result : goal.invariant_of-result
 invariant_of-result c =
-    are_ways (def_tree c.args.def.now) c.in_ok-by_number.by_number (map walked c.in_ok-actions.actions.items)
+    are_ways (def_tree c.args.def.now) c.in_ok-by_number.by_number c.in_ok-sorts.sorts c.in_ok-actions.actions.items
     c.in_ok-actions.ensures c.in_ok-by_number.ensures
+    (λ k. c.in_ok-sorts.ensures k
+    ∙ ap (λ (ps : List Placed). sort_by (all_initials (map (λ (p : Placed). action_tree p.action.now) ps)) k) c.deref.ensures.value)
