@@ -8,4 +8,6 @@ pub mod ContainerLemmas
 pub mod EndLemmas
 pub mod EventLemmas
 pub mod WrittenLemmas
+pub mod RoundLemmas
+pub mod SettledLemmas
 pub mod EventRows

@@ -2,4 +2,5 @@ pub mod Shown
 pub mod Events
 pub mod Written
 pub mod Looked
+pub mod Round
 pub mod Kept

@@ -11,18 +11,24 @@
 #![tactic(auto)]
 
 mod container;
+mod counted;
 mod event;
 mod laws;
 mod look;
 mod ready;
+mod round;
+mod settled;
 mod state;
 mod store;
 mod until;
 
 pub use container::{last_iteration, look_at_open};
+pub use counted::count_row;
 pub use event::{idle_kind, open_kind};
 pub use laws::shapes_tell_events;
 pub use look::{instances, look_at, look_at_each};
 pub use ready::set_event;
+pub use round::{Round, round_of};
+pub use settled::{last_of, settle};
 pub use state::State;
 pub use store::{put_writers, writers};

@@ -16,7 +16,8 @@ fn put_event(ready: &mut Roomy<EventAt>, event: EventAt)
     ready.put(event);
 }
 
-fn take_event(ready: &mut Roomy<EventAt>, place: &Instance)
+/// Nothing may happen next at an instance. No memory is taken.
+pub(crate) fn take_event(ready: &mut Roomy<EventAt>, place: &Instance)
     ensures events { (x : Address) → events_in ready.new.0 x
         ≡ cond (is_own place.now.action place.now.at x) None (events_in ready.old.0 x) }
     ensures room { ready.old.1 ≤ ready.new.1 }
