@@ -10,4 +10,5 @@ pub mod EventLemmas
 pub mod WrittenLemmas
 pub mod RoundLemmas
 pub mod SettledLemmas
+pub mod PlacedLemmas
 pub mod EventRows

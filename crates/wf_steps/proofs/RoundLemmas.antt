@@ -30,14 +30,14 @@ and_false : (a : Bool) → false ≡ (a && false)
 and_false true = refl
 and_false false = refl
 
-no_next : (j : List ℕ) → false ≡ is_next j []
+pub no_next : (j : List ℕ) → false ≡ is_next j []
 no_next [] = refl
 no_next (a ∷ j) = refl
 
 some_more : (k : ℕ) → nat_lt 0 (suc k) ≡ true
 some_more k = grind (arith)
 
-outer_is : (a : ℕ) (i j : List ℕ) → same_at (but_last (a ∷ i)) j ≡ is_next j (a ∷ i)
+pub outer_is : (a : ℕ) (i j : List ℕ) → same_at (but_last (a ∷ i)) j ≡ is_next j (a ∷ i)
 outer_is a [] [] = refl
 outer_is a [] (b ∷ j) = and_false (nat_eq b a) ∙ ap (λ z. nat_eq b a && z) (no_next j)
 outer_is a (b ∷ i) [] = refl
@@ -77,10 +77,10 @@ module _ (d : Graph) (p : PlanTree) (plan : IsPlanOf d p) (n : ℕ) (is_in : has
   pub one_holder : HasOneHolder d n
   one_holder a b ta tb = some_is (sym (plan.held n a is_in ta) ∙ plan.held n b is_in tb)
 
-  no_holder : at_place p.holders n ≡ None → (x : ℕ) → owns (kind_of d x) n ≡ false
+  pub no_holder : at_place p.holders n ≡ None → (x : ℕ) → owns (kind_of d x) n ≡ false
   no_holder e x = not_true (owns (kind_of d x) n) (λ t. none-some x (sym e ∙ plan.held n x is_in t))
 
-  holder_is : (c : ℕ) → at_place p.holders n ≡ Some c → (x : ℕ) → nat_eq c x ≡ owns (kind_of d x) n
+  pub holder_is : (c : ℕ) → at_place p.holders n ≡ Some c → (x : ℕ) → nat_eq c x ≡ owns (kind_of d x) n
   holder_is c e x =
       ⊎_elim
       (λ t. eq-eqb c x (some_is (sym e ∙ plan.held n x is_in t)) ∙ sym t)

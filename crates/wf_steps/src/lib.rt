@@ -7,7 +7,8 @@
 //!
 //! Of the eight steps it has Start, Try and Test. Of the others it has, beside the edits of counts and rows in `wf_tables`, what may happen
 //! next to an idle action and to an open container (`idle_kind`, `open_kind`), the ready set at one instance and at several (`set_event`,
-//! `look_at`, `look_at_each`, `look_at_open`), and the last writers of variables (`writers`, `put_writers`).
+//! `look_at`, `look_at_each`, `look_at_open`), and the last writers of variables (`writers`, `put_writers`). For what gives an action its
+//! row there are the graph round it (`round_of`), the counts (`count_row`) and the looks (`settle`).
 #![tactic(auto)]
 
 mod container;
