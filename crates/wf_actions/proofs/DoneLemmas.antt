@@ -1,8 +1,7 @@
 -- What an action does in what it sees, by whether there is one of its number.
-use Rattle.std.proofs.Common.{◌≡◌, ℕ, Bool, List, [], Option, Some, None, refl, sym, ap, ◌∙◌}
+use Rattle.std.proofs.Common.{◌≡◌, ℕ, Bool, List, [], Option, Some, None, refl, ap}
 use Rattle.wf_answers.specs.AnswerTree.{AnswerTree}
 use Rattle.wf_def.specs.ActionTree.{ActionTree, ActionTrees, KindTree, action_kind, action_name, compose, connector, wait, response, terminate, select, query, join, parse_json, initialize, set_to, increment, decrement, append_array, append_string, scope, branch, switch, switch_else, foreach, until}
-use Rattle.wf_def.specs.AllActions.{numbered}
 use Rattle.wf_def.specs.DefTree.{DefTree}
 use Rattle.wf_done.specs.Done.{DoneTree}
 use Rattle.wf_done.specs.Leaf as leaf

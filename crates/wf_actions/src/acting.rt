@@ -27,10 +27,10 @@ use wf_asks::{Instance, Known};
 use wf_closing::Inside;
 use wf_def::Action;
 use wf_doing::Setting;
-use wf_sight::Places;
 use wf_done::Begun;
 use wf_opening::{Decision, Verdict};
 use wf_record::{Row, Status};
+use wf_sight::Places;
 use wf_val::Text;
 
 fn setting<'a>(actions: &Actions<'a>) -> Setting<'a>
@@ -45,7 +45,7 @@ fn setting<'a>(actions: &Actions<'a>) -> Setting<'a>
 }
 
 /// What a leaf has from its start on.
-pub fn start(
+pub(crate) fn start(
     alloc: Global,
     actions: &Actions<'_>,
     place: &Instance,
@@ -65,7 +65,7 @@ pub fn start(
 }
 
 /// Whether a running leaf that made so many attempts makes another.
-pub fn has_try(actions: &Actions<'_>, place: &Instance, begun: &Begun, made: u64) -> bool
+pub(crate) fn has_try(actions: &Actions<'_>, place: &Instance, begun: &Begun, made: u64) -> bool
     ensures { result ≡ nat_lt made ((source actions.now).tries (address_of place.now) (begun_tree begun.now)) }
 {
     wf_doing::what_is_done_is_the_source();
@@ -73,7 +73,7 @@ pub fn has_try(actions: &Actions<'_>, place: &Instance, begun: &Begun, made: u64
 }
 
 /// The row with which a leaf ends.
-pub fn finish(
+pub(crate) fn finish(
     alloc: Global,
     actions: &Actions<'_>,
     place: &Instance,
@@ -93,7 +93,11 @@ pub fn finish(
 }
 
 /// The row of an action that doesn't run.
-pub fn skipped(alloc: Global, actions: &Actions<'_>, place: &Instance) -> Result<Row, AllocError>
+pub(crate) fn skipped(
+    alloc: Global,
+    actions: &Actions<'_>,
+    place: &Instance,
+) -> Result<Row, AllocError>
     ensures { IfOk result (λ r. row_content r ≡ (source actions.now).skipped) }
 {
     match actions.ready.places.action(place.action) {
@@ -103,7 +107,7 @@ pub fn skipped(alloc: Global, actions: &Actions<'_>, place: &Instance) -> Result
 }
 
 /// What a container finds as it opens.
-pub fn decide(
+pub(crate) fn decide(
     alloc: Global,
     actions: &Actions<'_>,
     place: &Instance,
@@ -125,7 +129,7 @@ pub fn decide(
 }
 
 /// What the test of an Until gives after the iteration of an index.
-pub fn test(
+pub(crate) fn test(
     alloc: Global,
     actions: &Actions<'_>,
     place: &Instance,
@@ -169,7 +173,7 @@ fn inside_action(alloc: Global, action: &Action) -> Result<Inside, AllocError>
 }
 
 /// The row with which a container closes.
-pub fn close(
+pub(crate) fn close(
     alloc: Global,
     actions: &Actions<'_>,
     place: &Instance,
@@ -205,30 +209,39 @@ pub fn close(
 }
 
 /// How an action ended whose row this is.
-pub fn status(actions: &Actions<'_>, row: &Row) -> Status
+pub(crate) fn status(actions: &Actions<'_>, row: &Row) -> Status
     ensures { status_tree result ≡ (source actions.now).status (row_content row.now) }
 {
     row.status
 }
 
 /// What a row adds to the cost of its run; at most the greatest u64.
-pub fn row_cost(row: &Row) -> u64
+pub(crate) fn row_cost(row: &Row) -> u64
     ensures { result ≡ cut_u64 (cost_of_row (row_content row.now)) }
 {
     wf_record::row_cost(row)
 }
 
 /// Whether something beside its `runAfter` keeps an action from running.
-pub fn halts(actions: &Actions<'_>, place: &Instance, known: Known<'_, Row, Decision, Verdict>) -> bool
+pub(crate) fn halts(
+    actions: &Actions<'_>,
+    place: &Instance,
+    known: Known<'_, Row, Decision, Verdict>,
+) -> bool
     ensures { result ≡ (source actions.now).halts (address_of place.now) (rows_in row_content known.entry.rows.now.0) }
 {
     wf_doing::terminates_halt();
     actions.ready.checked.always_checked();
-    wf_doing::halts(&actions.ready.checked.order, &actions.ready.terminates, place.action, known.rows)
+    wf_doing::halts(
+        &actions.ready.checked.order,
+        &actions.ready.terminates,
+        place.action,
+        known.rows,
+    )
 }
 
 /// The variables to which a row gives values.
-pub fn written<'s>(actions: &'s Actions<'_>, place: &Instance, row: &Row) -> &'s [u32]
+pub(crate) fn written<'s>(actions: &'s Actions<'_>, place: &Instance, row: &Row) -> &'s [u32]
     ensures { (v : ℕ) → is_among v result.now ≡ writes actions.now v (address_of place.now) (row_content row.now) }
 {
     if place.at.len() != actions.ready.places.loops(place.action).len() as u64 {

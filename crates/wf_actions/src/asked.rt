@@ -27,8 +27,11 @@ impl<'a> Acts for Actions<'a> {
     ghost use Rattle.wf_actions.specs.Meant as meant;
 
     type Row = Row;
+
     type Begun = Begun;
+
     type Decision = Decision;
+
     type Verdict = Verdict;
 
     ghost RowTree = { recorded.Row };
@@ -73,7 +76,8 @@ impl<'a> Acts for Actions<'a> {
         place: &Instance,
         known: Known<'_, Row, Decision, Verdict>,
     ) -> Result<Begun, AllocError>
-        requires informed { IsInformed (meant.graph self.now) (meant.depth self.now) (meant.source self.now) (rows_in row_content known.rows.now.0)
+        requires informed { IsInformed (meant.graph self.now) (meant.depth self.now) (meant.source self.now)
+            (rows_in row_content known.rows.now.0)
             (opens_in decision_tree verdict_tree known.opens.now.0) place.now.action place.now.at Leaf }
         requires last { HoldsLast (meant.graph self.now) (meant.depth self.now) (meant.source self.now) (meant.writes self.now)
             (rows_in row_content known.rows.now.0) (store_in known.store.now.0) place.now.action Leaf place.now.at }
@@ -94,10 +98,12 @@ impl<'a> Acts for Actions<'a> {
         begun: &Begun,
         known: Known<'_, Row, Decision, Verdict>,
     ) -> Result<Row, AllocError>
-        requires informed { IsInformed (meant.graph self.now) (meant.depth self.now) (meant.source self.now) (rows_in row_content known.rows.now.0)
+        requires informed { IsInformed (meant.graph self.now) (meant.depth self.now) (meant.source self.now)
+            (rows_in row_content known.rows.now.0)
             (opens_in decision_tree verdict_tree known.opens.now.0) place.now.action place.now.at Leaf }
         ensures { IfOk result (λ r. row_content r
-            ≡ (meant.source self.now).finish (address_of place.now) (begun_tree begun.now) (rows_in row_content known.entry.rows.now.0)) }
+            ≡ (meant.source self.now).finish (address_of place.now) (begun_tree begun.now)
+            (rows_in row_content known.entry.rows.now.0)) }
     {
         acting::finish(alloc, self, place, begun, known)
     }
@@ -113,7 +119,8 @@ impl<'a> Acts for Actions<'a> {
         known: Known<'_, Row, Decision, Verdict>,
     ) -> Result<Decision, AllocError>
         requires informed { (kind : Kind) → kind_of (meant.graph self.now) place.now.action ≡ Some kind → IsContainer kind
-            × IsInformed (meant.graph self.now) (meant.depth self.now) (meant.source self.now) (rows_in row_content known.rows.now.0)
+            × IsInformed (meant.graph self.now) (meant.depth self.now) (meant.source self.now)
+            (rows_in row_content known.rows.now.0)
             (opens_in decision_tree verdict_tree known.opens.now.0) place.now.action place.now.at kind
             × HoldsLast (meant.graph self.now) (meant.depth self.now) (meant.source self.now) (meant.writes self.now)
             (rows_in row_content known.rows.now.0) (store_in known.store.now.0) place.now.action kind place.now.at }
@@ -139,7 +146,8 @@ impl<'a> Acts for Actions<'a> {
         known: Known<'_, Row, Decision, Verdict>,
     ) -> Result<Verdict, AllocError>
         requires informed { (most : ℕ) → (g : layers.Graph) → kind_of (meant.graph self.now) place.now.action ≡ Some (Until most g)
-            → IsInformedAtTest (meant.graph self.now) (meant.depth self.now) (meant.source self.now) (rows_in row_content known.rows.now.0)
+            → IsInformedAtTest (meant.graph self.now) (meant.depth self.now) (meant.source self.now)
+            (rows_in row_content known.rows.now.0)
             (opens_in decision_tree verdict_tree known.opens.now.0) place.now.action place.now.at most g index
             × HoldsLastAtTest (meant.graph self.now) (meant.depth self.now) (meant.source self.now) (meant.writes self.now)
             (rows_in row_content known.rows.now.0) (store_in known.store.now.0) place.now.action most g place.now.at index }
@@ -163,10 +171,12 @@ impl<'a> Acts for Actions<'a> {
         known: Known<'_, Row, Decision, Verdict>,
     ) -> Result<Row, AllocError>
         requires informed { (kind : Kind) → kind_of (meant.graph self.now) place.now.action ≡ Some kind → IsContainer kind
-            × IsInformed (meant.graph self.now) (meant.depth self.now) (meant.source self.now) (rows_in row_content known.rows.now.0)
+            × IsInformed (meant.graph self.now) (meant.depth self.now) (meant.source self.now)
+            (rows_in row_content known.rows.now.0)
             (opens_in decision_tree verdict_tree known.opens.now.0) place.now.action place.now.at kind }
         requires count { count < 2 ^ 63 }
-        ensures { IfOk result (λ r. row_content r ≡ (meant.source self.now).close (address_of place.now) (decision_tree decision.now) count
+        ensures { IfOk result (λ r. row_content r ≡ (meant.source self.now).close (address_of place.now)
+            (decision_tree decision.now) count
             (option_map (λ v. verdict_tree v.now) test.entry) (rows_in row_content known.entry.rows.now.0)) }
     {
         acting::close(alloc, self, place, decision, count, test, known)

@@ -16,13 +16,13 @@ use crate::opened::was_read;
 
 /// The laws of order hold of them, and no leaf makes more attempts than a number can count. The writers of each variable are in one order.
 /// What a row costs grows with the attempts and iterations that it tells.
-pub fn are_an_instance(actions: &Actions<'_>)
+pub(crate) fn are_an_instance(actions: &Actions<'_>)
     ensures sound { IsInstance (graph actions.now) (source actions.now) (depth actions.now) }
     ensures counted { (x : Address) → (b : BegunTree) → (source actions.now).tries x b < 2 ^ 64 }
     ensures ordered { (v : ℕ) → OneOrder (graph actions.now) (source actions.now) (writer (writes actions.now) v)
         (meaning (source actions.now) (depth actions.now) (graph actions.now)) }
-    ensures told { TellsTurns (graph actions.now) (source actions.now) (meaning (source actions.now) (depth actions.now) (graph actions.now))
-        turns }
+    ensures told { TellsTurns (graph actions.now) (source actions.now)
+        (meaning (source actions.now) (depth actions.now) (graph actions.now)) turns }
     ensures priced { (r : Row) → 64 * suc (turns r) ≤ cost_of_row r }
 {
     was_read(&actions.ready.checked.def);

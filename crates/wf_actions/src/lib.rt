@@ -1,4 +1,11 @@
 //! The actions of a run, as the event machine asks for them.
+//!
+//! The machine asks the actions of a definition by the trait `wf_asks::Acts`. `Actions` answers it: a definition that breaks no rule, made
+//! ready once (`Ready`), a start and the inputs of a run that isn't made from another. Each answer is that of `wf_doing`; contracts say
+//! that it is the answer which the definition means (`wf_meant`), wherever what is known is what the machine promises as it asks, and that
+//! all answers together are an instance of the laws of order. `specs/Meant` says which graph, which source and which writers these are.
+//!
+//! It keeps no rows and decides no order.
 #![tactic(auto)]
 
 mod acting;
@@ -8,7 +15,4 @@ mod laws;
 mod opened;
 mod ready;
 
-pub use acting::{close, decide, finish, halts, has_try, row_cost, skipped, start, status, test, written};
 pub use actions::{Actions, Ready};
-pub use laws::are_an_instance;
-pub use opened::was_read;

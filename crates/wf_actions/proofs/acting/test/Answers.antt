@@ -8,11 +8,9 @@ use Rattle.wf_meaning.specs.Environment.{Environment, first_facts}
 use Rattle.wf_sight.specs.Laws.{run_of}
 use Rattle.wf_sight.specs.Seen.{known_tree}
 use Rattle.wf_sight.specs.Sight.{KnownTree, seen_in_test}
-use Rattle.wf_def.specs.ActionTree.{action_kind}
 use Rattle.wf_def.specs.Layered.{layered_kind}
 use Rattle.wf_meant.specs.Look.{told_in_test}
 use Rattle.wf_doing.specs.Acting.{tested_by}
-use Rattle.wf_layers.specs.Definition.{Until}
 use Rattle.wf_def.specs.Layered.{layered}
 use Rattle.wf_instance.proofs.KindLemmas.{kinds}
 use Rattle.wf_meant.specs.Source.{test_of}
@@ -38,7 +36,7 @@ returns c =
     ∙ tests_as (laws.seen_tested d e x c.args.index known) (told_in_test d e x c.args.index known.rows) (numbered place.action d.top)
     (λ a found test count fails graph is.
     let asked = c.requires.informed count (layered graph)
-        (kinds d (c.numbers_stand_once.ensures d c.was_read.ensures) place.action a found ∙ ap (λ k. Some (layered_kind k)) is) in
+    (kinds d (c.numbers_stand_once.ensures d c.was_read.ensures) place.action a found ∙ ap (λ k. Some (layered_kind k)) is) in
     c.what_is_done_in_a_sight_is_meant.ensures.tests d c.was_read.ensures c.always_checked.ensures.holds e x count (layered graph)
     c.args.index known a found asked.0 asked.1
     ∙ ap (λ o. test_of d e o x c.args.index known.rows) found)

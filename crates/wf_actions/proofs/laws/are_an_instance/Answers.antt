@@ -1,4 +1,4 @@
-use Rattle.std.proofs.Common.{◌≡◌, ◌<◌, ◌≤◌, ◌+◌, ℕ, List, [], length, map, ap, sym, subst, ◌∙◌}
+use Rattle.std.proofs.Common.{[]}
 use Rattle.wf_layers.specs.Meaning.{meaning}
 use Rattle.wf_actions.specs.Meant.{definition_of, depth, environment_of, graph, source}
 use Rattle.wf_doing.specs.Places.{named}

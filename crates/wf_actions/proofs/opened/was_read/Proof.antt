@@ -1,5 +1,4 @@
 -- A definition keeps only that a proof of this exists. An entailment is a proposition, so the proof may be opened in front of the walk.
-use mathlib.Core.List.{◌++◌, []}
 use mathlib.Core.Logic.{∥∥₁_elim}
 use seplogic.Bi.Basic.{Entails, Entails-prop}
 use seplogic.Ra.Ura.{Ura}
