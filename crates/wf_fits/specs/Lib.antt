@@ -3,3 +3,5 @@ pub mod WalkSeen
 pub mod Sorts
 pub mod SortsSeen
 pub mod WaysSeen
+pub mod Fits
+pub mod FitsSeen

@@ -1,17 +1,20 @@
-//! How each action of a definition is reached, and which variable it writes.
+//! How an instance of an action stands to the rows of a record.
 //!
 //! The laws on the shape of a record (`wf_ways`) judge an address along the way to its action: the containers round it, outermost first,
 //! and how each is entered. `Ways` is made once for a definition, by one walk over its graphs, and tells the way to each action by its
-//! number; and the type of the variable that an action writes, which says what its row may tell (`wf_says`).
+//! number; and the type of the variable that an action writes, which says what its row may tell (`wf_says`). `stands` tells whether a
+//! record has to have a row for an instance, by one search for the row of each container on the way.
 //!
-//! It asks for no row: how an address stands to a record is not judged here.
+//! Which of the rows fail, and which are missing, it doesn't say.
 #![tactic(auto)]
 
 mod sorts;
+mod standing;
 mod step;
 mod tables;
 mod walk;
 mod ways;
 
+pub use standing::{Standing, stands};
 pub use step::{Into, Step};
 pub use ways::Ways;
