@@ -26,7 +26,7 @@ mod until;
 pub use container::{last_iteration, look_at_open};
 pub use counted::count_row;
 pub use event::{idle_kind, open_kind};
-pub use laws::shapes_tell_events;
+pub use laws::{rows_are_placed, shapes_tell_events};
 pub use look::{instances, look_at, look_at_each};
 pub use ready::set_event;
 pub use round::{Round, round_of};
