@@ -1,5 +1,6 @@
 -- The graph round an action, and the container that holds it.
-use Rattle.std.specs.Prelude.{◌≡◌, ℕ, ◌-◌, Bool, false, ◌&&◌, not, cond, nat_lt, length, List, [], ◌∷◌, ◌++◌, Option, Some, None, option_map}
+use Rattle.std.specs.Prelude.{◌≡◌, ℕ, ◌-◌, Bool, false, ◌&&◌, not, List, [], ◌∷◌, ◌++◌, Option, Some, None}
+use Rattle.std.specs.Prelude.{cond, length, nat_lt, option_map}
 use Rattle.wf_layers.specs.Address.{Address, Table, address, is_own}
 use Rattle.wf_layers.specs.Machine as machine
 use Rattle.wf_layers.specs.Machine.{has_ended}
