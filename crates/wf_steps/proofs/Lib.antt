@@ -12,3 +12,4 @@ pub mod RoundLemmas
 pub mod SettledLemmas
 pub mod PlacedLemmas
 pub mod EventRows
+pub mod RoundRows
