@@ -41,16 +41,6 @@ fn answer_at<'a>(
     }
 }
 
-fn retries(policy: &Policy) -> u32
-    ensures { result ≡ retries policy.now }
-{
-    match policy {
-        Policy::Standard => 4,
-        Policy::Never => 0,
-        Policy::Count(n) => *n,
-    }
-}
-
 fn is_final(policy: &Policy, attempt: u32, answer: Option<&Answer>) -> bool
     ensures { result ≡ is_final policy.now attempt (option_map (λ a. answer_tree a.now) answer.entry) }
 {
@@ -64,7 +54,7 @@ fn is_final(policy: &Policy, attempt: u32, answer: Option<&Answer>) -> bool
 fn last_attempt(policy: &Policy, answers: &Answers, name: &Name, at: &Indexes) -> u64
     ensures { result ≡ last_attempt policy.now (answered_at (map answer_tree answers.now) (named name.now at.now)) }
 {
-    let retries = retries(policy);
+    let retries = policy.retries();
     for made in 0..retries {
         let number = made + 1;
         if is_final(policy, number, answer_at(answers, name, at, number as u64)) {

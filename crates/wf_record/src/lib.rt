@@ -23,7 +23,7 @@ mod status;
 mod value;
 
 pub use attempt::{Tries, Try};
-pub use cost::row_cost;
+pub use cost::{iterations, row_cost};
 pub use laws::{a_line_is_its_pieces, a_row_is_found_by_its_address, cost_by_counts};
 pub use line::record_line;
 pub use record::Record;

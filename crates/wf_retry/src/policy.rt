@@ -40,8 +40,8 @@ pub enum PolicyFault {
 }
 
 impl Policy {
-    // How often an attempt may be repeated.
-    fn retries(&self) -> u32
+    /// How often an attempt may be repeated.
+    pub fn retries(&self) -> u32
         ensures { result ≡ retries self.now }
     {
         match self {

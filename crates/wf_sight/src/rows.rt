@@ -1,15 +1,14 @@
 //! Rows by instances, and what they tell.
-ghost use Rattle.std.specs.Prelude.{◌≡◌, ◌++◌, ◌∷◌, [], IfOk, bytes_eq, codes, map, option_map};
-ghost use Rattle.wf_val.specs.Seen.{member, tree};
+ghost use Rattle.std.specs.Prelude.{◌≡◌, ◌++◌, ◌∷◌, [], IfOk, option_map};
+ghost use Rattle.wf_val.specs.Seen.{tree};
 ghost use Rattle.wf_layers.specs.Address.{address};
-ghost use Rattle.wf_record.specs.Cost.{iterations, round_count, rounds, rounds_of};
 ghost use Rattle.wf_meant.specs.Rows.{iterations_of, view_of};
 ghost use Rattle.wf_meant.specs.Variables.{given_by};
 ghost use Rattle.wf_sight.specs.Seen.{row_content, rows_seen};
 
 use std::alloc::{AllocError, Global};
 use wf_asks::{Instance, Rows};
-use wf_record::{Row, Status};
+use wf_record::{Row, Status, iterations};
 use wf_val::{Fields, Indexes, Name, Text, Val};
 use wf_variables::value_given;
 
@@ -83,53 +82,6 @@ pub(crate) fn given_by<'a>(name: &Text, row: &'a Row) -> Option<&'a Val>
     match row.status {
         Status::Succeeded => value_given(name, &row.outputs),
         _ => None,
-    }
-}
-
-fn is_iterations(name: &str) -> bool
-    ensures { result ≡ bytes_eq name.now (codes "iterations") }
-{
-    name == "iterations"
-}
-
-fn round_count(name: &str, value: &Val) -> u64
-    ensures { result ≡ round_count name.now (tree value.now) }
-{
-    match value {
-        Val::Int(n) if is_iterations(name) && 1 <= *n && *n <= 5000 => *n as u64,
-        _ => 0,
-    }
-}
-
-fn rounds_of(members: &[(Text, Val)]) -> u64
-    ensures { result ≡ rounds_of (map member members.now) }
-{
-    match members {
-        [(name, value)] => round_count(name.as_str(), value),
-        _ => 0,
-    }
-}
-
-// How often an Until went round that gave out this.
-#[tactic(auto, using(wf_val::proofs::ValueTreeLemmas::listed))]
-fn rounds(value: &Val) -> u64
-    ensures { result ≡ rounds (tree value.now) }
-{
-    match value {
-        Val::Obj(fields) => rounds_of(fields.as_slice()),
-        _ => 0,
-    }
-}
-
-// How many iterations a loop had that took in and gave out these.
-#[tactic(auto, using(wf_val::proofs::ValueTreeLemmas::listed))]
-fn iterations(inputs: &Val, outputs: &Val) -> u64
-    ensures { result ≡ iterations (tree inputs.now) (tree outputs.now) }
-{
-    match (inputs, outputs) {
-        (Val::List(items), Val::Null) => items.len(),
-        (Val::Null, outputs) => rounds(outputs),
-        _ => 0,
     }
 }
 

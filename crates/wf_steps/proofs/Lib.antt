@@ -1,15 +1,5 @@
-pub mod TableLemmas
 pub mod OverLemmas
 pub mod InformedLemmas
 pub mod QuietLemmas
 pub mod TestLemmas
-pub mod LookLemmas
-pub mod ContainerLemmas
 pub mod EndLemmas
-pub mod EventLemmas
-pub mod WrittenLemmas
-pub mod RoundLemmas
-pub mod SettledLemmas
-pub mod PlacedLemmas
-pub mod EventRows
-pub mod RoundRows

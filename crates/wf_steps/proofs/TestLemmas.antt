@@ -33,9 +33,9 @@ use Rattle.wf_tables.specs.declared.entries.EventAt.{EventAt}
 use Rattle.wf_tables.specs.declared.entries.EventKind.{EventKind}
 use Rattle.wf_tables.specs.declared.entries.LeafAt.{LeafAt}
 use Rattle.wf_tables.proofs.OpenLemmas.{found_at, found_is, table_changed}
-use Rattle.wf_steps.specs.Events.{count_of, count_or_zero, tested_kind}
+use Rattle.wf_events.specs.Events.{count_of, count_or_zero, tested_kind}
 use Rattle.wf_steps.specs.Kept.{Goes, IsEnabled, IsKept, IsPlanned}
-use Rattle.wf_steps.proofs.EventLemmas.{tested_same}
+use Rattle.wf_events.proofs.EventLemmas.{tested_same}
 use Rattle.wf_steps.proofs.InformedLemmas.{tested_holds_last, tested_is_informed}
 
 the_same : {A : Type 0} {u v : A} → Some u ≡ Some v → u ≡ v

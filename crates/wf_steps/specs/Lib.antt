@@ -1,6 +1,2 @@
 pub mod Shown
-pub mod Events
-pub mod Written
-pub mod Looked
-pub mod Round
 pub mod Kept

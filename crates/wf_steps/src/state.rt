@@ -6,12 +6,10 @@ ghost use Rattle.wf_steps.specs.Kept.{Goes, IsEnabled, IsOver, Picked};
 ghost use Rattle.wf_tables.specs.Tables.{event_tree};
 ghost use Rattle.wf_steps.specs.Shown.{shown};
 
-use crate::event::tested_kind;
-use crate::ready::set_event;
-use crate::until::{count_of, next_index, with_test};
 use std::alloc::{AllocError, Global};
 use std::marker::Model;
 use wf_asks::{Acts, Instance, Known, Opens, Rows, Store};
+use wf_events::{count_of, next_index, set_event, tested_kind, with_test};
 use wf_plan::Plan;
 use wf_room::Roomy;
 use wf_tables::{CountAt, EventAt, EventKind, LeafAt};

@@ -1,0 +1,10 @@
+pub mod TableLemmas
+pub mod LookLemmas
+pub mod ContainerLemmas
+pub mod EventLemmas
+pub mod WrittenLemmas
+pub mod RoundLemmas
+pub mod SettledLemmas
+pub mod PlacedLemmas
+pub mod EventRows
+pub mod RoundRows

@@ -1,0 +1,4 @@
+pub mod Events
+pub mod Written
+pub mod Looked
+pub mod Round

@@ -1,6 +1,0 @@
-use Rattle.wf_steps.proofs.PlacedLemmas.{placed_by}
-use Rattle.wf_steps.proofs.laws.rows_are_placed.Goals as goal
-
-pub returns : goal.returns
-returns g c =
-    λ d depth m s reached e s' st pl p plan. placed_by d depth m s reached e s' st pl p plan
