@@ -1,8 +1,8 @@
 -- Who waits for an action that gets its row.
-use Rattle.std.proofs.Common.{◌≡◌, ℕ, true, false, List, Option, Some, None, refl, sym, ap, ◌∙◌, subst, arith, nat_eq, eqb-true, true≢false, length}
+use Rattle.std.proofs.Common.{◌≡◌, ℕ, Bool, true, false, ◌&&◌, List, Option, Some, None, refl, sym, ap, ◌∙◌, subst, arith, nat_eq, eqb-true, true≢false, length}
 use Rattle.std.proofs.lemmas.Option.{none-some}
 use Rattle.wf_layers.specs.Definition.{Graph, IsDepth, Names, needs_of}
-use Rattle.wf_layers.specs.Address.{address, SeenIn}
+use Rattle.wf_layers.specs.Address.{address, is_own, same_at, SeenIn}
 use Rattle.wf_layers.specs.Source.{Source}
 use Rattle.wf_layers.specs.Meaning.{meaning}
 use Rattle.wf_layers.specs.Facts.{Facts}
@@ -10,7 +10,7 @@ use Rattle.wf_layers.specs.Machine.{Opening, Running, State, Event, place_of, ha
 use Rattle.wf_layers.specs.Changes.{is_named, places}
 use Rattle.wf_layers.proofs.Basics.{not_true}
 use Rattle.wf_layers.proofs.Open.{open_sub, placed_in}
-use Rattle.wf_layers.proofs.Changes.{enabled_there}
+use Rattle.wf_layers.proofs.Changes.{enabled_there, opens_else, rows_else, running_else}
 use Rattle.wf_kept.specs.Reached.{IsReached, begun, resumed}
 use Rattle.wf_kept.specs.Ready.{Stands}
 use Rattle.wf_kept.proofs.Known.{Known, known, goes_on}
@@ -98,3 +98,27 @@ module _ {Row Begun Decision Verdict : Type 0} (d : Graph) (depth : ℕ → ℕ)
       go : (o : Option (Opening Decision Verdict)) → s.opens (address q i) ≡ o → s.opens (address q i) ≡ None
       go None h = h
       go (Some w) h = absurd (not_there (facts.before_open (address q i) w h (address n i) sees))
+
+  -- and it is none of those that get rows with it, or change otherwise
+  not_own : is_own n i (address q i) ≡ false
+  not_own = ap (λ b. b && same_at i i) (flipped n q ∙ apart)
+    where
+      flipped : (a b : ℕ) → nat_eq a b ≡ nat_eq b a
+      flipped a b = grind (arith)
+
+  neither : (a b : Bool) → b ≡ false → (a && b) ≡ false
+  neither true b u = u
+  neither false b u = refl
+
+  pub no_row_then : s'.rows (address q i) ≡ None
+  no_row_then =
+      rows_else m d k.so (meaning m depth d) k.sol k.closed k.out s e s' k.busy k.rooted st q i waits.0 waits.1 waits.2
+      (neither (places e) (is_own n i (address q i)) not_own)
+      ∙ no_row
+
+  pub not_running_then : s'.running (address q i) ≡ None
+  not_running_then =
+      running_else m d k.so (meaning m depth d) k.sol k.closed k.out s e s' st (address q i) not_own ∙ not_running
+
+  pub not_open_then : s'.opens (address q i) ≡ None
+  not_open_then = opens_else m d k.so (meaning m depth d) k.sol k.closed k.out s e s' st (address q i) not_own ∙ not_open

@@ -63,3 +63,12 @@ pub fn who_waits_is_idle<Row, Begun, Decision, Verdict>()
         → (nat_eq q (place_of e).name ≡ false) × (s.rows (address q (place_of e).at) ≡ None)
         × (s.running (address q (place_of e).at) ≡ None) × (s.opens (address q (place_of e).at) ≡ None) }
 {}
+
+/// And so it is afterwards: whatever gets a row with the action, none that names it does.
+pub fn who_waits_stays_idle<Row, Begun, Decision, Verdict>()
+    ensures { (d : Graph) (depth : ℕ → ℕ) (m : Source Row Begun Decision Verdict) (s : State Row Begun Decision Verdict)
+        → IsReached d depth m s → (e : Event) (s' : State Row Begun Decision Verdict) → Step d m s e s' → places e ≡ true
+        → (q : ℕ) → is_named (needs_of d q) (place_of e).name ≡ true
+        → (s'.rows (address q (place_of e).at) ≡ None) × (s'.running (address q (place_of e).at) ≡ None)
+        × (s'.opens (address q (place_of e).at) ≡ None) }
+{}
