@@ -8,6 +8,7 @@
 
 mod container;
 mod counted;
+mod edits;
 mod event;
 mod laws;
 mod look;
@@ -19,6 +20,7 @@ mod until;
 
 pub use container::{last_iteration, look_at_open};
 pub use counted::count_row;
+pub use edits::{RowEdits, count_and_settle, make_room, row_edits};
 pub use event::{idle_kind, open_kind, tested_kind};
 pub use laws::{rows_are_placed, shapes_tell_events};
 pub use look::{instances, look_at, look_at_each};
@@ -26,4 +28,4 @@ pub use ready::{set_event, take_event};
 pub use round::{Round, round_of};
 pub use settled::{last_of, settle};
 pub use store::{put_writers, writers};
-pub use until::{count_of, next_index, with_test};
+pub use until::{count_of, iterations, last_test, next_index, with_test};

@@ -1,9 +1,10 @@
-//! What a state has of an Until that is tested.
-ghost use Rattle.std.specs.Prelude.{◌≡◌, Some};
+//! What a state has of an Until that is tested, and what its row tells as it closes.
+ghost use Rattle.std.specs.Prelude.{◌≡◌, ◌<◌, ◌^◌, Some, option_map};
 ghost use Rattle.wf_layers.specs.Changes.{next_of};
 ghost use Rattle.wf_asks.specs.Instances.{address_of};
 ghost use Rattle.wf_asks.specs.Known.{opens_in};
 ghost use Rattle.wf_plan.specs.PlanSeen.{at_place, plan_tree};
+ghost use Rattle.wf_events.specs.Closed.{iterations_by, last_by};
 ghost use Rattle.wf_events.specs.Events.{count_or_zero};
 
 use wf_asks::{Instance, OpenAt, Opens};
@@ -19,6 +20,36 @@ pub fn count_of(plan: &Plan, action: u32) -> u64
             _ => 0,
         },
         None => 0,
+    }
+}
+
+/// How many iterations the row of a container tells, whose next one would have this index: those of an Until, and 0 of any other.
+pub fn iterations(plan: &Plan, action: u32, next: u64) -> u64
+    ensures count { result ≡ iterations_by (at_place (plan_tree plan.now).entries action) next }
+    ensures in_range { result < 2 ^ 32 }
+{
+    match plan.entry(action) {
+        Some(entry) => match &entry.shape {
+            Shape::Until { count, .. } => {
+                let most = *count as u64;
+                if next < most { next } else { most }
+            }
+            _ => 0,
+        },
+        None => 0,
+    }
+}
+
+/// The last test that it tells: that of an Until, and none of any other.
+pub fn last_test<'t, V>(plan: &Plan, action: u32, test: &'t Option<V>) -> Option<&'t V>
+    ensures { option_map (λ v. v.now) result ≡ last_by (at_place (plan_tree plan.now).entries action) test.now }
+{
+    match plan.entry(action) {
+        Some(entry) => match &entry.shape {
+            Shape::Until { .. } => test.as_ref(),
+            _ => None,
+        },
+        None => None,
     }
 }
 
