@@ -3,3 +3,5 @@ pub mod InformedLemmas
 pub mod QuietLemmas
 pub mod TestLemmas
 pub mod EndLemmas
+pub mod RowPlacedLemmas
+pub mod CloseLemmas

@@ -6,6 +6,8 @@
 //! counts and ready set are those of its tables. What actions do is asked of `wf_asks::Acts`, and what may happen next of `wf_events`.
 #![tactic(auto)]
 
+mod close;
+mod end;
 mod state;
 
 pub use state::State;

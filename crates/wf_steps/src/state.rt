@@ -17,15 +17,15 @@ use wf_tables::{CountAt, EventAt, EventKind, LeafAt};
 /// What has happened so far in a run, and what may happen next.
 #[derive(Drop)]
 pub struct State<'a, A: Acts> {
-    acts: &'a A,
-    plan: &'a Plan,
-    rows: Rows<A::Row>,
-    running: Roomy<LeafAt<A::Begun>>,
-    opens: Opens<A::Decision, A::Verdict>,
-    store: Store,
-    waits: Roomy<CountAt>,
-    lacks: Roomy<CountAt>,
-    ready: Roomy<EventAt>,
+    pub(crate) acts: &'a A,
+    pub(crate) plan: &'a Plan,
+    pub(crate) rows: Rows<A::Row>,
+    pub(crate) running: Roomy<LeafAt<A::Begun>>,
+    pub(crate) opens: Opens<A::Decision, A::Verdict>,
+    pub(crate) store: Store,
+    pub(crate) waits: Roomy<CountAt>,
+    pub(crate) lacks: Roomy<CountAt>,
+    pub(crate) ready: Roomy<EventAt>,
 }
 
 impl<'a, A: Acts> Model for State<'a, A> {
