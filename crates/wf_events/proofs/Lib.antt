@@ -8,3 +8,4 @@ pub mod SettledLemmas
 pub mod PlacedLemmas
 pub mod EventRows
 pub mod RoundRows
+pub mod SkippedRows

@@ -4,3 +4,4 @@ pub mod Looked
 pub mod Round
 pub mod RowEdits
 pub mod Closed
+pub mod Skipped
