@@ -1,0 +1,3 @@
+pub mod EnteredLemmas
+pub mod MadeLemmas
+pub mod EnterRows
