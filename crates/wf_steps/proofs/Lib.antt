@@ -5,3 +5,5 @@ pub mod TestLemmas
 pub mod EndLemmas
 pub mod RowPlacedLemmas
 pub mod CloseLemmas
+pub mod OpeningLemmas
+pub mod BeginLemmas

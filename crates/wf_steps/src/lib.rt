@@ -8,6 +8,8 @@
 
 mod close;
 mod end;
+mod begin;
+mod opening;
 mod state;
 
 pub use state::State;
