@@ -7,3 +7,5 @@ pub mod RowPlacedLemmas
 pub mod CloseLemmas
 pub mod OpeningLemmas
 pub mod BeginLemmas
+pub mod FreshLemmas
+pub mod WholeLemmas

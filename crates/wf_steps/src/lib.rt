@@ -10,6 +10,8 @@ mod close;
 mod end;
 mod begin;
 mod opening;
+mod fresh;
+mod seen;
 mod state;
 
 pub use state::State;

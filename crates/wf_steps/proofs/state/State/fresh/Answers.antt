@@ -1,0 +1,17 @@
+use Rattle.std.proofs.Common.{refl}
+use Rattle.wf_plan.specs.PlanSeen.{plan_tree}
+use Rattle.wf_steps.proofs.FreshLemmas.{first_kept}
+use Rattle.wf_steps.proofs.state.State.fresh.Goals as goal
+
+pub invariant_of-result : goal.invariant_of-result
+invariant_of-result g c =
+    let a = g.A.Acts in
+    rw (c.new-rows.ensures, c.new.ensures, c.new-opens.ensures, c.new-store.ensures) (
+      c.requires,
+      first_kept (a.graph c.args.acts.now) (a.source c.args.acts.now) (a.depth c.args.acts.now) (a.writes c.args.acts.now)
+          (plan_tree c.args.plan.now) c.is_instance.ensures.sound c.requires c.in_ok-waits.waits.0 c.new-2.result.0 c.in_ok-ready.ready.0
+          c.in_ok-waits.ensures (rw c.new-rows.ensures at c.in_ok-ready.ensures),
+    )
+
+pub returns-clause-first : goal.returns-clause-first
+returns-clause-first g c = rw (c.new-rows.ensures, c.new.ensures, c.new-opens.ensures) refl

@@ -1,0 +1,84 @@
+//! The state of a run that begins.
+ghost use Rattle.std.specs.Prelude.{◌≡◌, ◌&&◌, [], IfOk, None, cond, length};
+ghost use Rattle.wf_layers.specs.Address.{Address, same_at};
+ghost use Rattle.wf_layers.specs.Machine.{fresh};
+ghost use Rattle.wf_kept.specs.Counted.{nonzero};
+ghost use Rattle.wf_asks.specs.Instances.{rows_in};
+ghost use Rattle.wf_asks.specs.Known.{is_among};
+ghost use Rattle.wf_plan.specs.PlanSeen.{plan_tree};
+ghost use Rattle.wf_events.specs.Looked.{idle_at};
+ghost use Rattle.wf_tables.specs.Counts.{needs_at};
+ghost use Rattle.wf_tables.specs.Tables.{count_in, events_in};
+ghost use Rattle.wf_steps.specs.Kept.{IsPlanned};
+ghost use Rattle.wf_steps.specs.Shown.{shown};
+
+use crate::state::State;
+use std::alloc::{AllocError, Global};
+use wf_asks::{Acts, Opens, Rows, Store};
+use wf_events::{instances, look_at_each};
+use wf_plan::Plan;
+use wf_room::Roomy;
+use wf_tables::{CountAt, EventAt, entered, set_counts};
+use wf_val::Indexes;
+
+// How much each action of the definition's own graph waits for, where nothing has a row.
+fn first_waits(alloc: Global, plan: &Plan) -> Result<Roomy<CountAt>, AllocError>
+    ensures { IfOk result (λ waits. (x : Address) → count_in waits.0 x
+        ≡ cond (is_among x.name (plan_tree plan.now).top && same_at [] x.at)
+        (nonzero (length (needs_at (plan_tree plan.now) x.name))) None) }
+{
+    let counts = entered(alloc, plan, plan.top(), &Indexes::new(alloc))?;
+    let mut waits = Roomy::new(alloc);
+    waits.make_room(counts.len())?;
+    set_counts(&mut waits, counts);
+    Ok(waits)
+}
+
+// What may happen first: to each action of the definition's own graph, by how much it waits for.
+fn first_ready<A: Acts>(
+    alloc: Global,
+    acts: &A,
+    plan: &Plan,
+    rows: &Rows<A::Row>,
+    opens: &Opens<A::Decision, A::Verdict>,
+    store: &Store,
+    waits: &Roomy<CountAt>,
+) -> Result<Roomy<EventAt>, AllocError>
+    ensures { IfOk result (λ ready. (x : Address) → events_in ready.0 x
+        ≡ cond (is_among x.name (plan_tree plan.now).top && same_at [] x.at)
+        (idle_at (A.source acts.now) (rows_in A.row_tree rows.now.0) (count_in waits.now.0) (plan_tree plan.now) x) None) }
+{
+    let places = instances(alloc, plan.top(), &Indexes::new(alloc))?;
+    let mut ready = Roomy::new(alloc);
+    ready.make_room(places.len())?;
+    look_at_each(acts, plan, rows, opens, store, waits, &mut ready, places);
+    Ok(ready)
+}
+
+impl<'a, A: Acts> State<'a, A> {
+    /// The state of a run that begins: nothing has happened, and the definition's own graph is open.
+    pub fn fresh(alloc: Global, acts: &'a A, plan: &'a Plan) -> Result<State<'a, A>, AllocError>
+        requires { IsPlanned (A.graph acts.now) (plan_tree plan.now) }
+        ensures acts { IfOk result (λ s. s.0 ≡ acts.now) }
+        ensures first { IfOk result (λ s. shown A.row_tree A.begun_tree A.decision_tree A.verdict_tree s.1 ≡ fresh) }
+        ensures lists { IfOk result (λ s. s.1 ≡ ([], ([], ([], [])))) }
+    {
+        acts.is_instance();
+        let rows = Roomy::new(alloc);
+        let opens = Roomy::new(alloc);
+        let store = Roomy::new(alloc);
+        let waits = first_waits(alloc, plan)?;
+        let ready = first_ready(alloc, acts, plan, &rows, &opens, &store, &waits)?;
+        Ok(State {
+            acts,
+            plan,
+            rows,
+            running: Roomy::new(alloc),
+            opens,
+            store,
+            waits,
+            lacks: Roomy::new(alloc),
+            ready,
+        })
+    }
+}
