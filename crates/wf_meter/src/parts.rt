@@ -1,0 +1,135 @@
+//! What stands at an action, by its cost.
+ghost use Rattle.std.specs.Prelude.{◌≡◌, ◌<◌, ◌≤◌, ◌+◌, ◌-◌, ◌*◌, ◌^◌, ℕ, length};
+ghost use Rattle.wf_val.specs.Cut.{cut_u64};
+ghost use Rattle.wf_asks.specs.Instances.{address_of, rows_in};
+ghost use Rattle.wf_asks.specs.Known.{opens_in};
+ghost use Rattle.wf_plan.specs.PlanSeen.{at_place, plan_tree, shape_tree};
+ghost use Rattle.wf_tables.specs.Tables.{running_in};
+ghost use Rattle.wf_meter.specs.Parts.{block_of, block_worth, iterations_by, leaf_part, open_part, row_part, shape_iterations, worth};
+
+use wf_asks::{Acts, Instance, OpenAt, Opens, Rows};
+use wf_plan::{Plan, Shape};
+use wf_room::Roomy;
+use wf_tables::LeafAt;
+
+// A part is at most the greatest u64, so a sum of as many as a list may have fits.
+fn cut(cost: u128) -> u128
+    ensures { result ≡ cut_u64 cost }
+{
+    if cost < 18_446_744_073_709_551_615 {
+        cost
+    } else {
+        18_446_744_073_709_551_615
+    }
+}
+
+// What counts so many times, and has a weight that may be cut already.
+fn weighed(count: u64, weight: u64) -> u128
+    ensures { (w : ℕ) → weight ≡ cut_u64 w → result ≡ cut_u64 (64 * (1 + count) + w) }
+{
+    cut((count as u128 + 1) * 64 + weight as u128)
+}
+
+// The row of an action, if it has one.
+fn row_part<A: Acts>(acts: &A, rows: &Rows<A::Row>, place: &Instance) -> u128
+    ensures part { result ≡ worth (row_part (A.cost_of_row acts.now)) (address_of place.now)
+        (rows_in A.row_tree rows.now.0 (address_of place.now)) }
+    ensures bound { result < 2 ^ 64 }
+{
+    match rows.get(place) {
+        Some(found) => acts.row_cost(&found.row) as u128,
+        None => 0,
+    }
+}
+
+/// The rows of these actions at the indexes of an instance. The instance's action is another one afterwards.
+pub fn block_part<A: Acts>(
+    acts: &A,
+    rows: &Rows<A::Row>,
+    block: &[u32],
+    place: &mut Instance,
+) -> u128
+    ensures part { result ≡ block_worth (row_part (A.cost_of_row acts.now)) (rows_in A.row_tree rows.now.0) place.old.at block.now }
+    ensures at { place.new.at ≡ place.old.at }
+    ensures bound { result ≤ (2 ^ 64 - 1) * length block.now }
+{
+    let mut total = 0;
+    for action in block {
+        place.action = *action;
+        total += row_part(acts, rows, place);
+    }
+    total
+}
+
+/// A running leaf, for itself, for its attempts so far and by what it keeps of its inputs.
+pub fn leaf_part<A: Acts>(acts: &A, running: &Roomy<LeafAt<A::Begun>>, place: &Instance) -> u128
+    ensures part { result ≡ worth (leaf_part (A.weight_of_begun acts.now)) (address_of place.now)
+        (running_in A.begun_tree running.now.0 (address_of place.now)) }
+{
+    match running.get(place) {
+        Some(found) => weighed(found.tries, acts.begun_weight(&found.begun)),
+        None => 0,
+    }
+}
+
+// The iterations that an open container counts.
+fn iterations<A: Acts>(acts: &A, shape: &Shape, open: &OpenAt<A::Decision, A::Verdict>) -> u64
+    ensures { result ≡ shape_iterations (shape_tree shape.now) ((A.source acts.now).items (A.decision_tree open.now.decision))
+        open.now.next }
+{
+    match shape {
+        Shape::Foreach { .. } => acts.items(&open.decision),
+        _ => open.next,
+    }
+}
+
+fn iterations_at<A: Acts>(
+    acts: &A,
+    plan: &Plan,
+    action: u32,
+    open: &OpenAt<A::Decision, A::Verdict>,
+) -> u64
+    ensures { result ≡ iterations_by (at_place (plan_tree plan.now).entries action)
+        ((A.source acts.now).items (A.decision_tree open.now.decision)) open.now.next }
+{
+    match plan.entry(action) {
+        Some(entry) => iterations(acts, &entry.shape, open),
+        None => open.next,
+    }
+}
+
+/// An open container, for itself, for iterations and by what it keeps of what it decided by.
+pub fn open_part<A: Acts>(
+    acts: &A,
+    plan: &Plan,
+    opens: &Opens<A::Decision, A::Verdict>,
+    place: &Instance,
+) -> u128
+    ensures part { result ≡ worth (open_part (plan_tree plan.now) (A.source acts.now).items (A.weight_of_decision acts.now))
+        (address_of place.now) (opens_in A.decision_tree A.verdict_tree opens.now.0 (address_of place.now)) }
+{
+    match opens.get(place) {
+        Some(found) => weighed(
+            iterations_at(acts, plan, place.action, found),
+            acts.decision_weight(&found.decision),
+        ),
+        None => 0,
+    }
+}
+
+/// The action and those inside it that stand in no loop there: an event at the action gives rows to no others.
+pub fn block(plan: &Plan, action: u32) -> &[u32]
+    ensures { result.now ≡ block_of (plan_tree plan.now) action }
+{
+    match plan.entry(action) {
+        Some(entry) => &entry.block,
+        None => &[],
+    }
+}
+
+/// The greatest u64 where a sum of sums is above it.
+pub fn total(rows: u128, running: u128, opens: u128) -> u64
+    ensures { result ≡ cut_u64 (rows + running + opens) }
+{
+    cut(rows.saturating_add(running).saturating_add(opens)) as u64
+}
