@@ -1,5 +1,5 @@
 -- What changes of a sum over a list in the order of instances, where its table changes at some instances alone.
-use Rattle.std.proofs.Common.{◌≡◌, ℕ, ◌+◌, Bool, true, false, ◌&&◌, ◌||◌, cond, List, [], ◌∷◌, Some, None, option_map, is_eq, nat_eq, ⊎_elim, refl, sym, ap, ◌∙◌, arith}
+use Rattle.std.proofs.Common.{◌≡◌, ◌≤◌, ℕ, ◌+◌, Bool, true, false, ◌&&◌, ◌||◌, cond, List, [], ◌∷◌, Some, None, option_map, is_eq, nat_eq, ⊎_elim, refl, sym, ap, ◌∙◌, arith}
 use Rattle.std.proofs.lemmas.Cmp.{tied_itself}
 use Rattle.std.proofs.lemmas.Option.{none-some}
 use Rattle.wf_lists.specs.KeyOrder.{IsInKeyOrder, find_key, without_key}
@@ -84,6 +84,18 @@ module _ {X Y : Type 0} (at : X → Instance) (see : X → Y) (w : Address → Y
           ap (λ z. worth w (address q i) (cond (z && same_at i i) None (t (address q i)))) f in
           let those = on refl in
           omega (arith, here, those)
+
+  -- what stands at some actions is part of the sum
+  pub block_below : (i ns : List ℕ) → AreDistinct ns → (xs : List X) → IsInKeyOrder instance_cmp at xs
+      → block_worth w (table xs) i ns ≤ sum_of part xs
+  block_below i [] once xs ox = omega arith
+  block_below i (n ∷ ns) once xs ox =
+      let k : Instance = record { action = n; at = i } in
+      let whole = less_one k xs in
+      let those = block_below i ns once.1 (rest k xs) (in_order-without instance_total at k xs ox) in
+      let same : block_worth w (table (rest k xs)) i ns ≡ block_worth w (table xs) i ns =
+      ap (λ t. block_worth w t i ns) (table_take at see k xs ox) ∙ block_same n i ns (table xs) once.0 in
+      omega (arith, whole, those, same)
 
   -- WHERE TWO TABLES agree but at these actions, the sums differ by what stands there.
   pub sums_differ : (i ns : List ℕ) → AreDistinct ns → (xs ys : List X) → IsInKeyOrder instance_cmp at xs → IsInKeyOrder instance_cmp at ys
