@@ -1,0 +1,5 @@
+pub mod ListLemmas
+pub mod TurnLemmas
+pub mod NumberLemmas
+pub mod RunningLemmas
+pub mod WorkedRows
