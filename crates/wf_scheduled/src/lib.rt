@@ -15,10 +15,12 @@ ghost use Rattle.wf_lists.specs.KeyOrder.{IsInKeyOrder, find_key};
 ghost use Rattle.wf_layers.specs.Address.{Address};
 ghost use Rattle.wf_layers.specs.Definition.{Graph};
 ghost use Rattle.wf_layers.specs.Enabled.{events};
-ghost use Rattle.wf_layers.specs.Machine.{Event, Run, State, fresh, place_of};
+ghost use Rattle.wf_layers.specs.Machine.{Event, Run, State, Step, fresh, place_of};
+ghost use Rattle.wf_layers.specs.Meaning.{meaning};
 ghost use Rattle.wf_layers.specs.Source.{Source};
 ghost use Rattle.wf_kept.specs.Reached.{IsReached};
-ghost use Rattle.wf_scheduled.specs.Counts.{AreNumbered, AreRunning, HasNotBegun, most_from, running_from};
+ghost use Rattle.wf_scheduled.specs.Counts.{AreNumbered, AreRunning, HasNotBegun, most_from, number_of, running_from};
+ghost use Rattle.wf_scheduled.specs.Happened.{HasHappened};
 ghost use Rattle.wf_scheduled.specs.Turns.{AreEnabled, IsRun, Turn, Turns, address_cmp};
 
 /// A list in order that has at each address what the table of events has there has exactly the events that may happen.
@@ -53,6 +55,13 @@ pub fn attempts_and_iterations_are_numbered<Row, Begun, Decision, Verdict>()
     ensures fresh { HasNotBegun (fresh {Row = Row} {Begun = Begun} {Decision = Decision} {Verdict = Verdict}) }
     ensures numbered { (d : Graph) (m : Source Row Begun Decision Verdict) (first s : State Row Begun Decision Verdict) (es : List Event)
         → HasNotBegun first → Run d m first es s → AreNumbered es s }
+{}
+
+/// What has just happened is there, as the definition means it.
+pub fn what_has_happened_is_there<Row, Begun, Decision, Verdict>()
+    ensures { (d : Graph) (depth : ℕ → ℕ) (m : Source Row Begun Decision Verdict) (first before s : State Row Begun Decision Verdict)
+        (es : List Event) (e : Event) → IsReached d depth m before → HasNotBegun first → Run d m first es before → Step d m before e s
+        → HasHappened m (meaning m depth d) s e (number_of es e) }
 {}
 
 /// As many leaves are running as the events so far say.
