@@ -1,2 +1,3 @@
 mod DoneLemmas
 mod CountLemmas
+mod InsideLemmas

@@ -1,1 +1,3 @@
+pub mod Insides
+pub mod InsidesSeen
 pub mod Meant

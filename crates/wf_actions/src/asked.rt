@@ -22,7 +22,7 @@ impl<'a> Acts for Actions<'a> {
     ghost use Rattle.wf_opening.specs.Decisions.{DecisionTree};
     ghost use Rattle.wf_opening.specs.Verdicts.{VerdictTree};
     ghost use Rattle.wf_record.specs.Record as recorded;
-    ghost use Rattle.wf_sight.specs.Seen.{row_content};
+    ghost use Rattle.wf_views.specs.Seen.{row_content};
     ghost use Rattle.wf_turns.specs.Turns as told;
     ghost use Rattle.wf_actions.specs.Meant as meant;
 

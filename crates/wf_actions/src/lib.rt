@@ -11,6 +11,7 @@
 mod acting;
 mod actions;
 mod asked;
+mod insides;
 mod laws;
 mod opened;
 mod ready;

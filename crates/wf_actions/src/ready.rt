@@ -2,10 +2,11 @@
 ghost use Rattle.std.specs.Prelude.{◌≡◌, IfOk};
 
 use crate::actions::Ready;
+use crate::insides::insides_of;
 use std::alloc::{AllocError, Global};
+use wf_catalog::Places;
 use wf_doing::terminates;
 use wf_rules::Checked;
-use wf_sight::Places;
 
 impl<'a> Ready<'a> {
     /// Makes a definition ready. It walks its graphs a few times.
@@ -14,10 +15,12 @@ impl<'a> Ready<'a> {
     {
         let places = Places::of(alloc, &checked.def)?;
         let terminates = terminates(alloc, &checked.def.top)?;
+        let insides = insides_of(alloc, &checked.def.top)?;
         Ok(Ready {
             checked,
             places,
             terminates,
+            insides,
         })
     }
 }

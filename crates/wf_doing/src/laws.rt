@@ -26,7 +26,8 @@ ghost use Rattle.wf_reading.specs.Read.{IsRead};
 ghost use Rattle.wf_trigger.specs.Starts.{StartTree};
 ghost use Rattle.wf_doing.specs.Acting.{attempts_by, begun_by, closed_by, finished_by, tested_by};
 ghost use Rattle.wf_doing.specs.Halting.{any_halts, terminates_in};
-ghost use Rattle.wf_doing.specs.Variables.{FindsTold, deciding_uses, starting_uses, testing_uses, tracking_uses};
+ghost use Rattle.wf_sight.specs.Found.{FindsTold};
+ghost use Rattle.wf_doing.specs.Variables.{deciding_uses, starting_uses, testing_uses, tracking_uses};
 
 /// Of each action of a definition the steps of its own graphs give how these ended.
 pub fn containers_are_judged()

@@ -16,9 +16,10 @@ ghost use Rattle.wf_doing.specs.Acting.{begun_by, tested_by};
 ghost use Rattle.wf_doing.specs.Seen.{definition_of, seen, seen_by_test};
 
 use crate::rows::unknown;
-use crate::setting::{Setting, kind_of, sight, sight_in_test};
+use crate::setting::{Setting, sight, sight_in_test};
 use std::alloc::{AllocError, Global};
 use wf_asks::{Instance, Known};
+use wf_catalog::kind_of;
 use wf_def::{Action, Kind};
 use wf_done::{Begun, begin};
 use wf_opening::{Decision, Verdict, open, test};

@@ -1,8 +1,7 @@
 //! What the actions of a run go by, and what they see of it.
 ghost use Rattle.std.specs.Prelude.{◌≡◌, IfOk, map};
 ghost use Rattle.wf_asks.specs.Instances.{address_of};
-ghost use Rattle.wf_def.specs.ActionSeen.{action_tree, kind_tree};
-ghost use Rattle.wf_def.specs.ActionTree.{action_kind, action_name};
+ghost use Rattle.wf_def.specs.ActionSeen.{action_tree};
 ghost use Rattle.wf_meaning.specs.Environment.{first_facts};
 ghost use Rattle.wf_meant.specs.Source.{tracked_of};
 ghost use Rattle.wf_sight.specs.Laws.{run_of};
@@ -14,13 +13,14 @@ ghost use Rattle.wf_doing.specs.Seen.{environment_of, seen, seen_by_test};
 use std::alloc::{AllocError, Global};
 use wf_answers::Inputs;
 use wf_asks::{Instance, Known};
-use wf_def::{Action, Kind};
+use wf_catalog::Places;
+use wf_def::Action;
 use wf_opening::{Decision, Verdict};
 use wf_record::Row;
-use wf_sight::{Places, Run, Sight};
+use wf_sight::{Run, Sight};
 use wf_template::Tree;
 use wf_trigger::Start;
-use wf_val::{Name, Text};
+use wf_val::Text;
 
 /// A definition, and a run of it that isn't made from another.
 #[derive(Drop)]
@@ -68,20 +68,6 @@ pub(crate) fn sight_in_test<'a>(
     ensures drawn { IfOk result (λ s. sight_drawn s ≡ 0) }
 {
     Sight::in_test(alloc, setting.places, &run(setting), place, index, known)
-}
-
-#[tactic(auto, using(wf_sight::proofs::PlaceLemmas::name_is))]
-pub(crate) fn name_of(action: &Action) -> &Name
-    ensures { result.now ≡ action_name (action_tree action.now) }
-{
-    &action.name
-}
-
-#[tactic(auto, using(wf_sight::proofs::PlaceLemmas::kind_is))]
-pub(crate) fn kind_of(action: &Action) -> &Kind
-    ensures { kind_tree result.now ≡ action_kind (action_tree action.now) }
-{
-    &action.kind
 }
 
 #[tactic(auto, using(crate::proofs::PartLemmas::tracked_is))]

@@ -18,9 +18,9 @@ use Rattle.wf_def.specs.AllActions.{all_actions, kind_actions, cases_actions, ha
 use Rattle.wf_def.specs.DefTree.{DefTree}
 use Rattle.wf_def.specs.Layered.{layered, layered_cases, layered_kind}
 use Rattle.wf_def.specs.declared.graph.Action.{out-Action}
-use Rattle.wf_sight.specs.Keys.{all_put}
-use Rattle.wf_sight.proofs.KeyLemmas.{find-all_put}
-use Rattle.wf_sight.proofs.PlaceLemmas.{number_is}
+use Rattle.wf_catalog.specs.Keys.{all_put}
+use Rattle.wf_catalog.proofs.KeyLemmas.{find-all_put, find-as, same_number}
+use Rattle.wf_catalog.proofs.PlaceLemmas.{number_is}
 use Rattle.wf_ways.specs.Way.{Step, step, whole, branch_of, item, round, way, way_any, way_in}
 use Rattle.wf_fits.specs.Walk.{Walked, behind, cases_walk, graph_walk, is_at, kind_walk}
 use Rattle.wf_fits.specs.WalkSeen.{walked}
@@ -219,32 +219,6 @@ walk_way n g = elim (two (has (layered g) n)) [
 ]
 
 -- ---- together
-
-out : {X Y : Type 0} (f : X → Y) (b : Bool) (x : X) (o : Option X) → option_map f (cond b (Some x) o) ≡ cond b (Some (f x)) (option_map f o)
-out f true x o = refl
-out f false x o = refl
-
--- what is found is found as what it stands for
-find-as : {X Y : Type 0} (f : X → Y) (P : X → Bool) (Q : Y → Bool) → ((x : X) → P x ≡ Q (f x)) → (xs : List X)
-    → option_map f (find P xs) ≡ find Q (map f xs)
-find-as f P Q same [] = refl
-find-as f P Q same (x ∷ xs) =
-    out f (P x) x (find P xs) ∙ (ap (λ (b : Bool). cond b (Some (f x)) (option_map f (find P xs))) (same x)
-    ∙ ap (cond (Q (f x)) (Some (f x))) (find-as f P Q same xs))
-
-same_number : (n m : ℕ) → is_eq (nat_cmp n m) ≡ nat_eq n m
-same_number n m =
-    elim (nat_lt n m) as (λ b. nat_lt n m ≡ b → is_eq (cond b Less (cond (nat_eq n m) Equal Greater)) ≡ nat_eq n m) [
-      | true ↦ λ less. elim (two (nat_eq n m)) [
-        | inl t ↦ absurd (omega (arith, ltb-true n m less, eqb-true n m t))
-        | inr f ↦ sym f
-      ]
-      | false ↦ λ more. last (nat_eq n m)
-    ] refl
-  where
-    last : (b : Bool) → is_eq (cond b Equal Greater) ≡ b
-    last true = refl
-    last false = refl
 
 pub placed_found : (ps : List Placed) (n : ℕ)
     → placed_at (all_put nat_cmp (λ (p : Placed). (out-Action p.action.now).number) ps) n ≡ find (is_at n) (map walked ps)

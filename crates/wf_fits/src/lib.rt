@@ -11,7 +11,6 @@
 mod sorts;
 mod standing;
 mod step;
-mod tables;
 mod walk;
 mod ways;
 

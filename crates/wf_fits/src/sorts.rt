@@ -1,14 +1,13 @@
 //! The types of variables.
 ghost use Rattle.std.specs.Prelude.{◌≡◌, ◌++◌, ℕ, List, IfOk, map, option_map};
 ghost use Rattle.wf_def.specs.ActionSeen.{action_tree, initial_tree, kind_tree};
-ghost use Rattle.wf_def.specs.ActionTree.{action_kind};
 ghost use Rattle.wf_fits.specs.Sorts.{all_initials, changes, initials_of, sort_by};
 ghost use Rattle.wf_fits.specs.SortsSeen.{sort_in, typed_tree};
 
-use crate::tables::by_keys;
 use crate::walk::Placed;
 use std::alloc::{AllocError, Global};
-use wf_def::{Action, Initial, Kind, Sort};
+use wf_catalog::{by_keys, kind_of};
+use wf_def::{Initial, Kind, Sort};
 use wf_lists::{Keyed, Sorted};
 use wf_val::Text;
 
@@ -26,13 +25,6 @@ impl<'a> Keyed for Typed<'a> {
     fn key(&self) -> &Text {
         &self.initial.name
     }
-}
-
-#[tactic(auto, using(wf_sight::proofs::PlaceLemmas::kind_is))]
-pub(crate) fn kind_of(action: &Action) -> &Kind
-    ensures { kind_tree result.now ≡ action_kind (action_tree action.now) }
-{
-    &action.kind
 }
 
 fn with_each<'a>(

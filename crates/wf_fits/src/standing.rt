@@ -13,10 +13,10 @@ ghost use Rattle.wf_record.specs.Seen.{record_tree, row_tree};
 ghost use Rattle.wf_shape.specs.Standing.{own};
 ghost use Rattle.wf_turns.specs.Reading.{taken_in};
 
-use crate::sorts::kind_of;
 use crate::step::{Into, Step};
 use crate::ways::Ways;
 use std::alloc::{AllocError, Global};
+use wf_catalog::{kind_of, name_of};
 use wf_def::Action;
 use wf_record::{Record, Row};
 use wf_says::{branch_said, fits, is_skipped, items_said, rounds_said};
@@ -90,7 +90,6 @@ fn indexes(alloc: Global, at: &[u64]) -> Result<Indexes, AllocError>
     Ok(indexes)
 }
 
-#[tactic(auto, using(wf_sight::proofs::PlaceLemmas::name_is))]
 fn row_of<'a>(
     alloc: Global,
     log: &'a Record,
@@ -102,7 +101,7 @@ fn row_of<'a>(
         (find_row (record { name = action_name (action_tree action.now); at = at.now }) (record_tree log.now).rows)) }
 {
     let address = Address {
-        name: action.name.copy(alloc)?,
+        name: name_of(action).copy(alloc)?,
         at: indexes(alloc, at)?,
     };
     Ok(log.row(&address))

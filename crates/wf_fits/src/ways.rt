@@ -11,12 +11,12 @@ ghost use Rattle.wf_meant.specs.Points.{graph_of};
 ghost use Rattle.wf_reading.specs.ReadSeen.{def_tree};
 ghost use Rattle.wf_ways.specs.Way.{way};
 
-use crate::sorts::{Typed, changes, kind_of, sort_in, sorts_of};
+use crate::sorts::{Typed, changes, sort_in, sorts_of};
 use crate::step::Step;
-use crate::tables::by_keys;
 use crate::walk::{Placed, all_placed};
 use std::alloc::{AllocError, Global};
 use std::marker::Model;
+use wf_catalog::{by_keys, kind_of};
 use wf_def::{Action, Sort};
 use wf_lists::{Keyed, Sorted};
 use wf_reading::Def;

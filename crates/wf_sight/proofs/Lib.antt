@@ -1,10 +1,8 @@
-pub mod KeyLemmas
-pub mod WalkLemmas
-pub mod PlaceLemmas
-pub mod ViewLemmas
+pub mod HeldLemmas
 pub mod LoopLemmas
 pub mod OpenLemmas
 pub mod ItemLemmas
 pub mod TellLemmas
 pub mod ToldLemmas
+pub mod FoundLemmas
 mod SightRows

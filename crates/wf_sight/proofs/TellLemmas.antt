@@ -18,8 +18,8 @@ use Rattle.wf_meant.specs.Points.{Point, action_named, graph_of, held_by, is_ins
 use Rattle.wf_meant.specs.References.{Spots, first_level, own_loop, result_at, result_by, result_in, shared, spots_by, view_at, view_by}
 use Rattle.wf_meant.specs.References.{view_in}
 use Rattle.wf_sight.specs.Laws.{GoesByLoops}
-use Rattle.wf_sight.specs.Loops.{beyond, common}
-use Rattle.wf_sight.specs.Sight.{result_by_loops, result_from, view_by_loops, view_from}
+use Rattle.wf_views.specs.Loops.{beyond, common}
+use Rattle.wf_views.specs.Views.{result_by_loops, result_from, view_by_loops, view_from}
 use Rattle.wf_sight.proofs.LoopLemmas.{fronts_of}
 
 -- the points that go by the loops round them

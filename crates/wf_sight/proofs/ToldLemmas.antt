@@ -17,7 +17,8 @@ use Rattle.wf_meant.specs.Points.{Point, graph_of, point_of, point_of_outputs, p
 use Rattle.wf_meant.specs.References.{result_at, view_at}
 use Rattle.wf_meant.specs.Source.{source}
 use Rattle.wf_sight.specs.Laws.{GoesByLoops, run_of, with_variables}
-use Rattle.wf_sight.specs.Sight.{KnownTree, items_open, result_from, seen_at, seen_by_outputs, seen_from, seen_in_test, view_from}
+use Rattle.wf_views.specs.Views.{result_from, view_from}
+use Rattle.wf_sight.specs.Sight.{KnownTree, items_open, seen_at, seen_by_outputs, seen_from, seen_in_test}
 use Rattle.wf_sight.specs.Variables.{variable_in}
 use Rattle.wf_sight.proofs.ItemLemmas.{items_inside, items_same}
 use Rattle.wf_sight.proofs.OpenLemmas.{kind_open, loops_open}

@@ -5,7 +5,7 @@ use Rattle.wf_def.specs.DefTree.{DefTree}
 use Rattle.wf_loops.specs.Loops.{loops_of}
 use Rattle.wf_meaning.specs.Environment.{Environment, Facts}
 use Rattle.wf_meant.specs.Points.{Point, graph_of}
-use Rattle.wf_sight.specs.Loops.{beyond, common}
+use Rattle.wf_views.specs.Loops.{beyond, common}
 use Rattle.wf_sight.specs.Sight.{KnownTree, RunTree}
 use Rattle.wf_sight.specs.Variables.{variable_in}
 

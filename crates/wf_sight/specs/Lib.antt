@@ -1,12 +1,6 @@
-pub mod Keys
-pub mod Loops
-pub mod Walk
-pub mod WalkSeen
 pub mod Variables
-pub mod PlacesSeen
-pub mod Inner
-pub mod Views
 pub mod Sight
 pub mod Seen
 pub mod SightSeen
 pub mod Laws
+pub mod Found

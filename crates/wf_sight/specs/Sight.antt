@@ -1,14 +1,12 @@
 -- WHAT IS SEEN at a point of a run, by the rows that are there, what open containers decided, and who wrote last.
-use Rattle.std.specs.Prelude.{ℕ, pos, List, [], ◌∷◌, ◌++◌, map, reverse, take, Option, Some, None, option_map, slice_get, bytes_eq, find}
+use Rattle.std.specs.Prelude.{ℕ, pos, List, [], ◌∷◌, ◌++◌, map, reverse, Option, Some, None, option_map, slice_get, bytes_eq, find}
 use Rattle.std.specs.Prelude.{codes}
-use Rattle.std.specs.Option.{option_and_then}
 use Rattle.wf_val.specs.Address.{address_text}
 use Rattle.wf_val.specs.Get.{value_of}
 use Rattle.wf_val.specs.ValueTree.{ValueTree}
 use Rattle.wf_look.specs.Told.{Told}
 use Rattle.wf_layers.specs.Address.{Address, Table, address}
 use Rattle.wf_layers.specs.Machine.{Opening}
-use Rattle.wf_def.specs.ActionTree.{ActionTree, action_kind, action_number}
 use Rattle.wf_def.specs.DefTree.{DefTree}
 use Rattle.wf_trigger.specs.Starts.{StartTree}
 use Rattle.wf_record.specs.Record.{Row}
@@ -16,35 +14,9 @@ use Rattle.wf_opening.specs.Decisions.{DecisionTree, each}
 use Rattle.wf_opening.specs.Verdicts.{VerdictTree}
 use Rattle.wf_loops.specs.Loops.{loops_of}
 use Rattle.wf_meant.specs.Look.{Item, index_in, instance, name_of}
-use Rattle.wf_meant.specs.Points.{action_named, graph_of}
-use Rattle.wf_meant.specs.References.{first_level, own_loop, result_in, spots_by, view_in}
-use Rattle.wf_sight.specs.Loops.{beyond, common}
+use Rattle.wf_meant.specs.Points.{graph_of}
+use Rattle.wf_views.specs.Views.{result_from, view_from}
 use Rattle.wf_sight.specs.Variables.{variable_in}
-
--- ---- actions, by their names
-
--- seen from inside these loops, at these indexes
-module _ (d : DefTree) (loops at : List ℕ) (known : Table Row) where
-  abbrev pub view_by_loops : Option ActionTree → Option ValueTree
-  view_by_loops None = None
-  view_by_loops (Some a) =
-      let round = loops_of (graph_of d) (action_number a) in
-      option_and_then (view_in a known) (spots_by d (take (common round loops) at) (beyond round loops) known)
-
-  abbrev pub view_from : List ℕ → Option ValueTree
-  view_from k = view_by_loops (action_named d k)
-
-  abbrev pub result_by_loops : Option ActionTree → Option ValueTree
-  result_by_loops None = None
-  result_by_loops (Some a) =
-      let round = loops_of (graph_of d) (action_number a) in
-      option_and_then
-      (λ inner. option_map (result_in known inner)
-      (spots_by d (take (common round loops) at) (beyond round loops ++ own_loop a) known))
-      (first_level (action_kind a))
-
-  abbrev pub result_from : List ℕ → Option ValueTree
-  result_from k = result_by_loops (action_named d k)
 
 -- ---- items
 
@@ -86,11 +58,10 @@ pub record KnownTree : Type 0 where
   pub opens : Opens
   pub store : ℕ → Option Address
 
--- From inside these loops at these indexes, where these are the items; words are those of a place, and `own` is the view of the row that
--- is ending.
-abbrev pub seen_with : DefTree → RunTree → (place : List ℕ) → (loops at : List ℕ) → (held : List Item) → (own : Option ValueTree)
+-- From inside these loops at these indexes, where these are the items; words are those of a place.
+abbrev pub seen_with : DefTree → RunTree → (place : List ℕ) → (loops at : List ℕ) → (held : List Item)
     → Table Row → (ℕ → Option Address) → Told
-seen_with d run place loops at held own known store = record {
+seen_with d run place loops at held known store = record {
   parameter = λ k. value_of k run.start.parameters;
   variable = λ k. variable_in d known store k;
   trigger = run.start.trigger;
@@ -99,7 +70,7 @@ seen_with d run place loops at held own known store = record {
   items = reverse (map (λ h. h.1) held);
   item_of = λ k. option_map (λ h. h.1) (find (λ h. bytes_eq k h.0) held);
   index_of = λ k. index_in d loops at k;
-  own = own;
+  own = None;
   moment = pos run.moment;
   run_name = run.name;
   seed = run.seed;
@@ -108,7 +79,7 @@ seen_with d run place loops at held own known store = record {
 
 -- the items being those that the open loops decided
 abbrev pub seen_from : DefTree → RunTree → (place : List ℕ) → (loops at : List ℕ) → KnownTree → Told
-seen_from d run place loops at known = seen_with d run place loops at (items_open d known.opens loops at []) None known.rows known.store
+seen_from d run place loops at known = seen_with d run place loops at (items_open d known.opens loops at []) known.rows known.store
 
 -- ---- the points
 

@@ -1,11 +1,11 @@
 -- What a sight tells, as contracts see it.
-use Rattle.std.specs.Prelude.{ℕ, map, option_map}
-use Rattle.wf_val.specs.Seen.{tree}
+use Rattle.std.specs.Prelude.{ℕ, map}
 use Rattle.wf_look.specs.Told.{Told}
 use Rattle.wf_reading.specs.ReadSeen.{def_tree}
 use Rattle.wf_asks.specs.Known.{store_in}
 use Rattle.wf_trigger.specs.StartsSeen.{start_tree}
-use Rattle.wf_sight.specs.Seen.{item_tree, rows_seen}
+use Rattle.wf_views.specs.Seen.{rows_seen}
+use Rattle.wf_sight.specs.Seen.{item_tree}
 use Rattle.wf_sight.specs.Sight.{RunTree, seen_with}
 use Rattle.wf_sight.specs.declared.sight.Run.{Run}
 use Rattle.wf_sight.specs.declared.sight.Sight.{Sight}
@@ -17,7 +17,7 @@ abbrev pub sight_told : Sight → Told
 sight_told s = seen_with (def_tree s.places.now)
     (record { start = start_tree s.start.now; name = s.name.now; seed = s.seed.now; moment = s.moment }) s.place s.loops.items s.at
     (map item_tree s.items.items)
-    (option_map (λ v. tree v.now) s.own) (rows_seen s.rows.now.0) (store_in s.store.now.0)
+    (rows_seen s.rows.now.0) (store_in s.store.now.0)
 
 -- how many words it has drawn
 abbrev pub sight_drawn : Sight → ℕ

@@ -9,14 +9,13 @@ ghost use Rattle.wf_reading.specs.ReadSeen.{def_tree};
 ghost use Rattle.wf_sight.specs.Seen.{item_tree, opens_seen};
 ghost use Rattle.wf_sight.specs.Sight.{item_held, item_open, items_open, named_item};
 
-use crate::actions::has_name;
-use crate::places::Places;
-use crate::rows::indexes;
 use std::alloc::{AllocError, Global};
 use wf_asks::{Instance, Opens};
+use wf_catalog::{Places, name_of};
 use wf_def::Action;
 use wf_opening::{Decision, Verdict};
 use wf_val::{Indexes, Name, Val};
+use wf_views::indexes;
 
 /// An item, and the loop whose item it is.
 #[derive(Drop)]
@@ -148,6 +147,16 @@ pub(crate) fn items_of<'a>(
     )
 }
 
+// Whether an action has the name; where there is none, whether the name is empty.
+fn has_name(action: Option<&Action>, name: &Name) -> bool
+    ensures { result ≡ bytes_eq name.now (name_in (option_map (λ a. action_tree a.now) action.entry)) }
+{
+    match action {
+        Some(action) => name.as_str() == name_of(action).as_str(),
+        None => name.as_str() == "",
+    }
+}
+
 /// The item of the loop of a name.
 pub(crate) fn item_of<'a>(items: &[Held<'a>], name: &Name) -> Option<&'a Val>
     ensures { option_map (λ v. tree v.now) result
@@ -162,7 +171,7 @@ pub(crate) fn item_of<'a>(items: &[Held<'a>], name: &Name) -> Option<&'a Val>
 }
 
 /// The item of the nearest loop.
-#[tactic(auto, using(crate::proofs::ViewLemmas::nearest_is))]
+#[tactic(auto, using(crate::proofs::HeldLemmas::nearest_is))]
 pub(crate) fn nearest<'a>(items: &[Held<'a>]) -> Option<&'a Val>
     ensures { option_map (λ v. tree v.now) result ≡ slice_get (reverse (map (λ h. h.1) (map item_tree items.now))) 0 }
 {

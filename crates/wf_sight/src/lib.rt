@@ -16,19 +16,9 @@
 //! It evaluates nothing, keeps no rows and decides no order.
 #![tactic(auto)]
 
-mod actions;
-mod inner;
 mod items;
 mod laws;
-mod places;
-mod rows;
 mod sight;
-mod spots;
-mod tables;
-mod variables;
-mod views;
-mod walk;
 
 pub use laws::what_is_seen_is_told;
-pub use places::Places;
 pub use sight::{Run, Sight};

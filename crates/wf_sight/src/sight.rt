@@ -2,31 +2,31 @@
 ghost use Rattle.std.specs.Prelude.{◌≡◌, [], IfOk, option_map};
 ghost use Rattle.wf_asks.specs.Instances.{address_of};
 ghost use Rattle.wf_asks.specs.Known.{store_in};
-ghost use Rattle.wf_done.specs.Tracked.{with_own};
 ghost use Rattle.wf_layers.specs.Address.{address};
 ghost use Rattle.wf_meant.specs.Look.{instance};
 ghost use Rattle.wf_val.specs.Address.{address_text};
 ghost use Rattle.wf_val.specs.Seen.{tree};
 ghost use Rattle.wf_reading.specs.ReadSeen.{def_tree};
-ghost use Rattle.wf_sight.specs.Seen.{known_tree, rows_seen};
+ghost use Rattle.wf_meant.specs.Variables.{given_by};
+ghost use Rattle.wf_views.specs.Seen.{row_content, rows_seen};
+ghost use Rattle.wf_sight.specs.Seen.{known_tree};
 ghost use Rattle.wf_sight.specs.Sight.{seen_at, seen_by_outputs, seen_from, seen_in_test};
 ghost use Rattle.wf_sight.specs.SightSeen.{run_tree, sight_drawn, sight_told};
 ghost use Rattle.wf_sight.specs.Variables.{variable_in};
 
-use crate::actions::name_of;
 use crate::items::{Held, index_of, item_of, items_of, nearest};
-use crate::places::Places;
-use crate::rows::{given_by, indexes, indexes_then, row_of};
-use crate::views::{result_from, view_from};
 use std::alloc::{AllocError, Global};
 use wf_asks::{Instance, Known, Rows, Store};
+use wf_catalog::{Places, name_of};
 use wf_fn_time::Ticks;
 use wf_lists::TryCopy;
 use wf_look::{Look, word_of};
 use wf_opening::{Decision, Verdict};
-use wf_record::Row;
+use wf_record::{Row, Status};
 use wf_trigger::Start;
 use wf_val::{Address, Indexes, Name, Text, Val};
+use wf_variables::value_given;
+use wf_views::{indexes, indexes_then, result_from, row_of, view_from};
 
 /// What a run goes by: how it was started, and what the action is told of the run itself. Where a part of a run is done anew, its actions
 /// are told of the run that did them last.
@@ -55,7 +55,6 @@ pub struct Sight<'a> {
     items: Vec<Held<'a>>,
     // of which words are made
     place: Text,
-    own: Option<&'a Val>,
     drawn: u64,
 }
 
@@ -77,6 +76,16 @@ fn place_text(
         at: indexes(alloc, at)?,
     };
     address.text(alloc)
+}
+
+// The value that a row gives a variable.
+fn given_by<'a>(name: &Text, row: &'a Row) -> Option<&'a Val>
+    ensures { option_map (λ v. tree v.now) result ≡ given_by name.now (row_content row.now) }
+{
+    match row.status {
+        Status::Succeeded => value_given(name, &row.outputs),
+        _ => None,
+    }
 }
 
 // The value of a variable, by the row of its last writer.
@@ -129,7 +138,6 @@ impl<'a> Sight<'a> {
             at,
             items,
             place,
-            own: None,
             drawn: 0,
         })
     }
@@ -194,16 +202,6 @@ impl<'a> Sight<'a> {
             known,
         )
     }
-
-    /// The same beside the view of the action itself, as its tracked properties see it.
-    pub fn with_own(self, view: &'a Val) -> Sight<'a>
-        ensures told { sight_told result ≡ with_own (tree view.now) (sight_told self.entry) }
-        ensures drawn { sight_drawn result ≡ sight_drawn self.entry }
-    {
-        let mut sight = self;
-        sight.own = Some(view);
-        sight
-    }
 }
 
 impl<'a> Look for Sight<'a> {
@@ -260,7 +258,7 @@ impl<'a> Look for Sight<'a> {
     }
 
     fn own(&self) -> Option<&Val> {
-        self.own
+        None
     }
 
     fn moment(&self) -> i64 {

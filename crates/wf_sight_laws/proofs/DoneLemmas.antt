@@ -25,7 +25,8 @@ use Rattle.wf_meant.specs.Containers.{tested}
 use Rattle.wf_meant.specs.Look.{decided_by, told_at, told_in_test}
 use Rattle.wf_meant.specs.Source as source_of
 use Rattle.wf_meant.specs.Source.{test_of}
-use Rattle.wf_sight_laws.proofs.LookLemmas.{agree, at_opening, at_start, at_test}
+use Rattle.wf_sight.proofs.FoundLemmas.{all_agree}
+use Rattle.wf_sight_laws.proofs.LookLemmas.{at_opening, at_start, at_test}
 
 tested_same : ((l m : Told) (c : CondTree) → AgreeAt l m (cond_uses c) → tested_from l c ≡ tested_from m c) → (l m : Told) (kind : KindTree)
     → ((us : List Use) → test_uses kind ≡ Some us → AgreeAt l m us) → tested l kind ≡ tested m kind
@@ -48,14 +49,14 @@ module _ (same : (k : List ℕ) (ks : List (List ℕ)) → list_any (bytes_eq k)
         → begun seen (action_kind a) ≡ source_of.begun d e (numbered x.name d.top) x rows
     starts_same local =
         local seen there (action_kind a)
-        (agree there f (kind_uses (action_kind a)) (at_start same d x.name a found (λ k. f k ≡ there.variable k) all)) 0
+        (all_agree f there (kind_uses (action_kind a)) (at_start same d x.name a found (λ k. f k ≡ there.variable k) all)) 0
         ∙ ap (λ (o : Option ActionTree). source_of.begun d e o x rows) (sym found)
 
     pub decides_same : ((l m : Told) (kind : KindTree) → AgreeAt l m (opening_uses kind) → decided l kind ≡ decided m kind)
         → decided seen (action_kind a) ≡ decided_by (numbered x.name d.top) there
     decides_same local =
         local seen there (action_kind a)
-        (agree there f (opening_uses (action_kind a)) (at_opening same d x.name a found (λ k. f k ≡ there.variable k) all))
+        (all_agree f there (opening_uses (action_kind a)) (at_opening same d x.name a found (λ k. f k ≡ there.variable k) all))
         ∙ ap (λ (o : Option ActionTree). decided_by o there) (sym found)
 
   -- in a test
@@ -70,5 +71,5 @@ module _ (same : (k : List ℕ) (ks : List (List ℕ)) → list_any (bytes_eq k)
         → tested seen' (action_kind a) ≡ test_of d e (numbered x.name d.top) x j rows
     tests_same local =
         tested_same local seen' there' (action_kind a)
-        (λ us some. agree there' f us (at_test same d x.name a found (λ k. f k ≡ there'.variable k) all us some))
+        (λ us some. all_agree f there' us (at_test same d x.name a found (λ k. f k ≡ there'.variable k) all us some))
         ∙ ap (λ (o : Option ActionTree). test_of d e o x j rows) (sym found)

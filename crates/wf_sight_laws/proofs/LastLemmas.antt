@@ -16,7 +16,8 @@ use Rattle.wf_meant.specs.Source.{source}
 use Rattle.wf_meant.specs.Variables.{given_by, variable_at}
 use Rattle.wf_meant_laws.specs.Last.{LastIsRead}
 use Rattle.wf_meant_laws.specs.Writers.{is_writer, value_at, writes_to}
-use Rattle.wf_sight.specs.Variables.{variable_in, variable_number}
+use Rattle.wf_catalog.specs.Variables.{variable_number}
+use Rattle.wf_sight.specs.Variables.{variable_in}
 use Rattle.wf_sight_laws.specs.Writes.{writes}
 use Rattle.wf_sight_laws.proofs.NumberLemmas.{written_has_number}
 

@@ -1,4 +1,4 @@
--- Two looks that tell the same of all but variables, and of those that are asked for, too, agree.
+-- What an action asks for is what stands at its sites, and what holds of the variables read there holds of each that is asked for.
 use Rattle.std.proofs.Common.{◌≡◌, ℕ, true, false, ◌||◌, List, [], ◌∷◌, ◌++◌, Option, Some, None, ◌⊎◌, inl, inr, refl, ap}
 use Rattle.std.proofs.Common.{◌∙◌, subst}
 use Rattle.std.specs.Prelude.{bytes_eq, option_map}
@@ -6,12 +6,10 @@ use Rattle.std.specs.BTreeSet.{insert_key}
 use Rattle.std.specs.List.{AllByRecursion, list_any}
 use Rattle.std.specs.Option.{option_and_then}
 use Rattle.wf_val.specs.NameOrder.{bytes_cmp}
-use Rattle.wf_val.specs.ValueTree.{ValueTree}
 use Rattle.wf_val.specs.declared.function.Fun.{Fun}
 use Rattle.wf_template.specs.DataTree.{DataTree}
 use Rattle.wf_layers.proofs.Basics.{or_first, or_second}
-use Rattle.wf_look.specs.Told.{Told}
-use Rattle.wf_eval_expr.specs.Uses.{Agree, AgreeAt, Use, asks, asks_moment, asks_words, names}
+use Rattle.wf_eval_expr.specs.Uses.{Use, asks, asks_moment, asks_words, names}
 use Rattle.wf_eval.specs.Uses.{template_uses, tree_uses}
 use Rattle.wf_def.specs.ActionTree.{ActionTree, InitialTree, KindTree, action, action_kind, append_array, append_string, branch, compose}
 use Rattle.wf_def.specs.ActionTree.{connector, decrement, foreach, increment, initialize, join, parse_json, query, response, scope, select}
@@ -27,7 +25,7 @@ use Rattle.wf_accepted_laws.specs.Variables.{ReadsIt, WritesIt}
 use Rattle.wf_done.specs.Uses as done
 use Rattle.wf_done.specs.Uses.{beneath, kind_uses}
 use Rattle.wf_opening.specs.Uses.{opening_uses}
-use Rattle.wf_sight_laws.specs.Asked.{WhereVariable}
+use Rattle.wf_sight.specs.Found.{WhereVariable}
 use Rattle.wf_sight_laws.proofs.NumberLemmas.{any_back, any_front, own_name}
 
 -- ---- the variables that are asked for
@@ -81,36 +79,6 @@ module _ (P : List ℕ → Type 0) where
     one_holds asked (λ k is. of k (any_front k (variable_name asked) (variables_named us) is)),
     all_hold us (λ k is. of k (any_back k (variable_name asked) (variables_named us) is)),
   )
-
--- ---- two looks
-
-module _ (l : Told) (f : List ℕ → Option ValueTree) where
-  abbrev other : Told
-  other = record l { variable = f }
-
-  agree_one : (asked : Use) → WhereVariable (λ k. f k ≡ l.variable k) asked → Agree other l asked
-  agree_one (names Fun.Actions k) e = refl
-  agree_one (names Fun.Outputs k) e = refl
-  agree_one (names Fun.Body k) e = refl
-  agree_one (names Fun.Result k) e = refl
-  agree_one (names Fun.Items k) e = refl
-  agree_one (names Fun.IterationIndexes k) e = refl
-  agree_one (names Fun.Parameters k) e = refl
-  agree_one (names Fun.Variables k) e = e
-  agree_one (names g k) e = tt
-  agree_one (asks Fun.Action) e = refl
-  agree_one (asks Fun.Item) e = refl
-  agree_one (asks Fun.Trigger) e = refl
-  agree_one (asks Fun.TriggerOutputs) e = refl
-  agree_one (asks Fun.TriggerBody) e = refl
-  agree_one (asks Fun.Workflow) e = refl
-  agree_one (asks g) e = tt
-  agree_one asks_moment e = refl
-  agree_one asks_words e = (refl, refl)
-
-  pub agree : (us : List Use) → AllHold (λ k. f k ≡ l.variable k) us → AgreeAt other l us
-  agree [] e = tt
-  agree (asked ∷ us) e = (agree_one asked e.0, agree us e.1)
 
 -- ---- what an action asks for as it starts or opens is what stands at its sites
 

@@ -14,7 +14,7 @@ use Rattle.wf_def.specs.DefTree.{DefTree}
 use Rattle.wf_refs.specs.Sites.{writes_of}
 use Rattle.wf_meant_laws.specs.Writers.{is_writer, writes_if}
 use Rattle.wf_meant_laws.proofs.WriterLemmas.{find_is, some_is}
-use Rattle.wf_sight.specs.Variables.{first_place, listed, numbers_by, numbers_of, variable_number, written, written_names}
+use Rattle.wf_catalog.specs.Variables.{first_place, listed, numbers_by, numbers_of, variable_number, written, written_names}
 
 -- ---- truth values and names
 

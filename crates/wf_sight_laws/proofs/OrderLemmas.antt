@@ -29,7 +29,7 @@ use Rattle.wf_meant_laws.specs.Store.{Accesses}
 use Rattle.wf_meant_laws.specs.Tables.{StandAtInstances}
 use Rattle.wf_meant_laws.specs.Writers.{is_writer, writes_if}
 use Rattle.wf_meant_laws.proofs.WholeLemmas.{round_of}
-use Rattle.wf_sight.specs.Variables.{variable_number, written}
+use Rattle.wf_catalog.specs.Variables.{variable_number, written}
 use Rattle.wf_sight_laws.specs.Writes.{if_succeeded, is_full, writes}
 use Rattle.wf_sight_laws.proofs.NumberLemmas.{one_number, writer_of}
 use Rattle.wf_sight_laws.proofs.RowLemmas.{writer_is_leaf}

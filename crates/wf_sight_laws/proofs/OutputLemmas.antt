@@ -20,7 +20,7 @@ use Rattle.wf_meant_laws.proofs.WriterLemmas.{last_is_read}
 use Rattle.wf_meant_laws.specs.Writers.{writes_to}
 use Rattle.wf_sight.specs.Laws.{with_variables}
 use Rattle.wf_sight.specs.Sight.{KnownTree}
-use Rattle.wf_sight.specs.Variables.{variable_number}
+use Rattle.wf_catalog.specs.Variables.{variable_number}
 use Rattle.wf_sight_laws.specs.Writes.{writes}
 use Rattle.wf_sight_laws.proofs.LastLemmas.{told_by_number}
 

@@ -29,7 +29,7 @@ use Rattle.wf_instance.proofs.KindLemmas.{kinds}
 use Rattle.wf_meant_laws.specs.Tables.{StandAtInstances}
 use Rattle.wf_meant_laws.specs.Writers.{is_writer, writes_if, writes_to}
 use Rattle.wf_meant_laws.proofs.WholeLemmas.{full_of}
-use Rattle.wf_sight.specs.Variables.{variable_number, written}
+use Rattle.wf_catalog.specs.Variables.{variable_number, written}
 use Rattle.wf_sight_laws.specs.Writes.{if_succeeded, is_full, writes}
 use Rattle.wf_sight_laws.proofs.CameLemmas.{leaf_row}
 use Rattle.wf_sight_laws.proofs.GivesLemmas.{Known, RowGives, ended_gives}

@@ -24,7 +24,8 @@ use Rattle.wf_first.specs.First.{first_broken}
 use Rattle.wf_done.specs.Tracked.{tracked_from, tracked_value}
 use Rattle.wf_meant.specs.Source.{tracked_of}
 use Rattle.wf_meant_laws.proofs.WriterLemmas.{find_is, some_is}
-use Rattle.wf_sight_laws.proofs.LookLemmas.{AllHold, agree, all_hold, tree_reads, variables_named}
+use Rattle.wf_sight.proofs.FoundLemmas.{all_agree}
+use Rattle.wf_sight_laws.proofs.LookLemmas.{AllHold, all_hold, tree_reads, variables_named}
 
 -- ---- truth values and lists
 
@@ -148,5 +149,5 @@ module _ (same : (k : List ℕ) (ks : List (List ℕ)) → list_any (bytes_eq k)
       → tracked_value (record l { variable = f }) (tracked_of a) ≡ tracked_value l (tracked_of a)
   tracks_same local l f =
       local (record l { variable = f }) l (tracked_of a)
-      (agree l f (members_uses (data_members (tracked_of a)))
+      (all_agree f l (members_uses (data_members (tracked_of a)))
       (tracked_hold (λ k. f k ≡ l.variable k))) 0

@@ -1,13 +1,11 @@
 -- Which variables are asked for, and that the values found of them are those told.
 use Rattle.std.specs.Prelude.{◌≡◌, ℕ, List, Option, Some}
-use Rattle.std.specs.List.{AllByRecursion}
 use Rattle.wf_val.specs.ValueTree.{ValueTree}
-use Rattle.wf_val.specs.declared.function.Fun.{Fun}
 use Rattle.wf_template.specs.DataTree.{data_members}
 use Rattle.wf_layers.specs.Address.{Address}
 use Rattle.wf_layers.specs.Definition.{Graph, Kind, Leaf}
 use Rattle.wf_look.specs.Told.{Told}
-use Rattle.wf_eval_expr.specs.Uses.{Use, names}
+use Rattle.wf_eval_expr.specs.Uses.{Use}
 use Rattle.wf_eval.specs.Uses.{members_uses}
 use Rattle.wf_def.specs.ActionTree.{ActionTree, action_kind}
 use Rattle.wf_def.specs.AllActions.{numbered}
@@ -21,17 +19,10 @@ use Rattle.wf_meant.specs.Look.{told_at, told_in_test}
 use Rattle.wf_meant.specs.Points.{graph_of}
 use Rattle.wf_meant.specs.Record.{depth_of}
 use Rattle.wf_meant.specs.Source.{source, tracked_of}
+use Rattle.wf_sight.specs.Found.{FindsTold}
 use Rattle.wf_sight.specs.Sight.{KnownTree}
 use Rattle.wf_sight.specs.Variables.{variable_in}
 use Rattle.wf_sight_laws.specs.Writes.{writes}
-
-abbrev pub WhereVariable : (List ℕ → Type 0) → Use → Type 0
-WhereVariable Holds (names Fun.Variables k) = Holds k
-WhereVariable Holds asked = Unit {0}
-
--- the values found are those told, of each variable that is asked for
-abbrev pub FindsTold : (List ℕ → Option ValueTree) → Told → List Use → Type 0
-FindsTold found l us = AllByRecursion (WhereVariable (λ k. found k ≡ l.variable k)) us
 
 module _ (d : DefTree) (e : Environment) where
   -- what the rows of the last writers in the store give

@@ -14,7 +14,8 @@ use Rattle.wf_meant.specs.Variables.{variable_at}
 use Rattle.wf_meant_laws.specs.Store.{Accesses}
 use Rattle.wf_meant_laws.specs.Writers.{writes_to}
 use Rattle.wf_sight.specs.Sight.{KnownTree}
-use Rattle.wf_sight.specs.Variables.{variable_in, variable_number}
+use Rattle.wf_catalog.specs.Variables.{variable_number}
+use Rattle.wf_sight.specs.Variables.{variable_in}
 use Rattle.wf_sight_laws.specs.Writes.{writes}
 
 module _ (d : DefTree) (e : Environment) where

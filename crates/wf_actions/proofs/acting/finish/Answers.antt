@@ -9,7 +9,8 @@ use Rattle.wf_meaning.specs.Environment.{Environment, first_facts}
 use Rattle.wf_meant.specs.Look.{told_at}
 use Rattle.wf_record.specs.Record.{Row}
 use Rattle.wf_sight.specs.Laws.{run_of}
-use Rattle.wf_sight.specs.Seen.{known_tree, row_content}
+use Rattle.wf_views.specs.Seen.{row_content}
+use Rattle.wf_sight.specs.Seen.{known_tree}
 use Rattle.wf_sight.specs.Sight.{KnownTree, seen_at}
 use Rattle.wf_trigger.specs.StartsSeen.{start_tree}
 use Rattle.wf_doing.specs.Acting.{finished_by}

@@ -1,0 +1,5 @@
+pub mod Keys
+pub mod Walk
+pub mod WalkSeen
+pub mod Variables
+pub mod PlacesSeen

@@ -1,9 +1,0 @@
-use Rattle.std.proofs.Common.{◌≡◌, ◌++◌, drop, map}
-use Rattle.wf_sight.specs.PlacesSeen.{variable_tree}
-use Rattle.wf_sight.specs.Variables.{numbered_from}
-use Rattle.wf_sight.proofs.variables.numbered.Given as goal
-
-abbrev pub invariant-loop-place : goal.invariant-loop-place
-invariant-loop-place l =
-    map variable_tree l.all.items ++ numbered_from l.place (map (λ n. n.now) (drop l.place l.names))
-    ≡ numbered_from 0 (map (λ n. n.now) l.names)

@@ -1,0 +1,4 @@
+pub mod Loops
+pub mod Inner
+pub mod Views
+pub mod Seen
