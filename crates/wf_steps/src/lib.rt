@@ -6,11 +6,11 @@
 //! counts and ready set are those of its tables. What actions do is asked of `wf_asks::Acts`, and what may happen next of `wf_events`.
 #![tactic(auto)]
 
+mod begin;
 mod close;
 mod end;
-mod begin;
-mod opening;
 mod fresh;
+mod opening;
 mod seen;
 mod state;
 
