@@ -1,11 +1,11 @@
 -- What a Close makes of the tables, and that all is kept.
-use Rattle.std.proofs.Common.{◌≡◌, ℕ, zero, suc, ◌-◌, ◌<◌, ◌≤◌, Bool, true, false, ◌&&◌, cond, List, [], ◌∷◌, ◌++◌, Option, Some, None, option_map, is_eq, nat_eq, nat_lt, ⊎_elim, refl, sym, ap, ◌∙◌, subst, arith, eqb-true, true≢false, length}
+use Rattle.std.proofs.Common.{◌≡◌, ℕ, zero, suc, ◌-◌, ◌<◌, ◌≤◌, Bool, true, false, ◌&&◌, cond, List, [], ◌∷◌, ◌++◌, Option, Some, None, option_map, nat_eq, nat_lt, ⊎_elim, refl, sym, ap, ◌∙◌, subst, arith, eqb-true, true≢false, length}
 use Rattle.std.proofs.lemmas.Option.{none-some}
 use Rattle.wf_lists.specs.KeyOrder.{IsInKeyOrder, find_key, put_key, without_key}
 use Rattle.wf_lists.proofs.KeyOrderLemmas.{find-without}
 use Rattle.wf_layers.specs.Address.{Address, Table, address, is_own, same_at}
 use Rattle.wf_layers.specs.Changes.{is_named, next_of, owns}
-use Rattle.wf_layers.specs.Definition.{Graph, Need, Pace, InTurn, AtMost, Kind, Leaf, Scope, Choice, Foreach, Until, holds, kind_of, needs_of}
+use Rattle.wf_layers.specs.Definition.{Graph, Need, Pace, Kind, Leaf, Scope, Choice, Foreach, Until, holds, kind_of, needs_of}
 use Rattle.wf_layers.specs.Machine as machine
 use Rattle.wf_layers.specs.Machine.{IsContainer, IsThere, MayClose, Opening, State, closing, is_ended, one, or_else, place, unfinished, without}
 use Rattle.wf_layers.specs.Meaning.{meaning, only}
@@ -15,9 +15,8 @@ use Rattle.wf_layers.proofs.Changes.{owns_holds}
 use Rattle.wf_layers.proofs.Open.{open_sub, placed_in}
 use Rattle.wf_layers.proofs.Tables.{own_is}
 use Rattle.wf_kept.specs.Event.{AreLeft}
-use Rattle.wf_kept.specs.Reached.{IsReached}
 use Rattle.wf_kept.proofs.Informed.{kinds_are_known, reached_facts}
-use Rattle.wf_kept.proofs.Known.{Known, known}
+use Rattle.wf_kept.proofs.Known.{known}
 use Rattle.wf_kept.proofs.Stored.{store_goes_on}
 use Rattle.wf_step_laws.proofs.Idle as idle
 use Rattle.wf_asks.specs.Instances.{address_of, instance_cmp, instance_of, instance_total, rows_in}
@@ -27,7 +26,6 @@ use Rattle.wf_asks.specs.declared.known.OpenAt.{OpenAt}
 use Rattle.wf_asks.specs.declared.known.RowAt.{RowAt}
 use Rattle.wf_asks.specs.declared.known.WriterAt.{WriterAt}
 use Rattle.wf_plan.specs.Plan.{PlanTree, shape_of}
-use Rattle.wf_plan.specs.PlanOf.{IsPlanOf}
 use Rattle.wf_plan.specs.PlanSeen.{at_place}
 use Rattle.wf_tables.specs.Tables.{count_in, count_or_none, events_in, left_in, running_in, state_of}
 use Rattle.wf_tables.specs.declared.entries.CountAt.{CountAt}
@@ -225,8 +223,8 @@ module _ {Row Begun Decision Verdict Kept Started Decided Told : Type 0} (see : 
         ap (λ c. m.close (address_of at) (decided found.decision) c (option_map told found.test) (rows_in see rows))
         (at_most most found.next fact.0)
 
-    module _ (order : IsInKeyOrder instance_cmp (λ (o : OpenAt Decision Verdict). o.instance) opens) (p : PlanTree) (planned : IsPlanned d p)
-        (row : Row)
+    module _ (order : IsInKeyOrder instance_cmp (λ (o : OpenAt Decision Verdict). o.instance) opens) (p : PlanTree)
+        (planned : IsPlanned d p) (row : Row)
         (gives : see row ≡ m.close (address_of at) (decided found.decision) (iterations_by (at_place p.entries at.action) found.next)
         (option_map told (last_by (at_place p.entries at.action) found.test)) (rows_in see rows))
         (opens' : List (OpenAt Decision Verdict))
@@ -303,4 +301,5 @@ module _ {Row Begun Decision Verdict Kept Started Decided Told : Type 0} (see : 
           row_kept d m depth writes s opens store waits lacks ready kept p planned (machine.Close at.action at.at) s' close_goes refl
           close_idles (left_in left_open) (left_rest order) opens' store waits' lacks' ready' settled.named settled.owned settled.finished
           settled.looked
-          (λ v. store_goes_on d depth m (writer writes v) s (store_in store v) (kept.stored v) (machine.Close at.action at.at) s' close_goes)
+          (λ v. store_goes_on d depth m (writer writes v) s (store_in store v) (kept.stored v) (machine.Close at.action at.at) s'
+          close_goes)

@@ -5,9 +5,8 @@ use Rattle.wf_layers.specs.Changes.{is_named, places}
 use Rattle.wf_layers.specs.Definition.{Graph, needs_of}
 use Rattle.wf_layers.specs.Machine.{Event, State, Step, place_of}
 use Rattle.wf_layers.specs.Source.{Source}
-use Rattle.wf_kept.specs.Counted.{AreCounts, less}
+use Rattle.wf_kept.specs.Counted.{less}
 use Rattle.wf_kept.specs.Event.{AreLeft}
-use Rattle.wf_kept.specs.Ready.{IsReady}
 use Rattle.wf_kept.specs.Stored.{IsStored}
 use Rattle.wf_kept.proofs.Known.{goes_on}
 use Rattle.wf_step_laws.proofs.Placed.{rows_are_counted}

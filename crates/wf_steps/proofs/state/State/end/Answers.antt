@@ -26,7 +26,8 @@ invariant_of-self-in-Some g c =
           c.in_ok-ending-in-Some.ending.row c.in_ok-ending-in-Some.ensures.row c.count_and_settle.new.opens.0
           (rw c.in_ok-make_room-in-Some.ensures.opens at c.count_and_settle.ensures.opens) (plan_tree s.plan.now) c.self.invariant.0
           c.put_writers.new.store.0
-          (λ v. (rw c.in_ok-make_room-in-Some-2.ensures.items at (c.put_writers.ensures v)) ∙ c.in_ok-ending-in-Some.ensures.writers (store_in s.store.0) v)
+          (λ v. (rw c.in_ok-make_room-in-Some-2.ensures.items at (c.put_writers.ensures v))
+          ∙ c.in_ok-ending-in-Some.ensures.writers (store_in s.store.0) v)
           c.count_and_settle.new.waits.0 c.count_and_settle.new.lacks.0 c.count_and_settle.new.ready.0
           (rw (
             c.put.ensures.items,
@@ -42,7 +43,13 @@ returns-in_ok-make_room-in-Some-2-clause-ok g c =
     let s = c.self.inside in
     let a = g.A.Acts in
     let may = rw (← c.self.view_is) at c.requires in
-    rw (← c.self.view_is, c.put.ensures.items, c.in_ok-ending-in-Some.ensures.place, c.in_ok-make_room-in-Some.ensures.rows, c.take_leaf.ensures.rest)
+    rw (
+      ← c.self.view_is,
+      c.put.ensures.items,
+      c.in_ok-ending-in-Some.ensures.place,
+      c.in_ok-make_room-in-Some.ensures.rows,
+      c.take_leaf.ensures.rest,
+    )
     (end_goes a.row_tree a.begun_tree a.decision_tree a.verdict_tree (a.graph s.acts.now) (a.source s.acts.now)
     (a.depth s.acts.now) (a.writes s.acts.now) s.rows.0 s.running.0 s.opens.0 s.store.0 s.waits.0 s.lacks.0 s.ready.0
     c.self.invariant.1 c.args.place.now may c.in-Some.leaf.now c.in-Some.ensures c.take_leaf.ensures.in_order
