@@ -9,3 +9,4 @@ pub mod PlacedLemmas
 pub mod EventRows
 pub mod RoundRows
 pub mod SkippedRows
+pub mod ClosedRows
