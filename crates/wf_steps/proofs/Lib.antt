@@ -9,3 +9,4 @@ pub mod OpeningLemmas
 pub mod BeginLemmas
 pub mod FreshLemmas
 pub mod WholeLemmas
+pub mod SkipLemmas

@@ -12,6 +12,7 @@ mod end;
 mod fresh;
 mod opening;
 mod seen;
+mod skip;
 mod state;
 
 pub use state::State;
