@@ -1,10 +1,10 @@
 //! What may happen next in a run, and what an engine edits in what it keeps as an action gets its row.
 //!
-//! An engine keeps counts of what is waited for and the ready set, so that a step looks at no more than it changes. Here stand what may happen
-//! next to an idle action and to an open container, by those counts (`idle_kind`, `open_kind`), the ready set at one instance and at several
-//! (`set_event`, `look_at`, `look_at_each`, `look_at_open`), and the last writers of variables (`writers`, `put_writers`). For what gives an
-//! action its row: the graph round it (`round_of`), the counts (`count_row`) and the looks (`settle`); and what gets rows with an action that
-//! doesn't run (`block_rows`).
+//! An engine keeps counts of what is waited for and the ready set, so that a step looks at no more than it changes. Here stand what may
+//! happen next to an idle action and to an open container, by those counts (`idle_kind`, `open_kind`), the ready set at one instance and
+//! at several (`set_event`, `look_at`, `look_at_each`, `look_at_open`), and the last writers of variables (`writers`, `put_writers`). For
+//! what gives an action its row: the graph round it (`round_of`), the counts (`count_row`) and the looks (`settle`); and what gets rows
+//! with an action that doesn't run (`block_rows`).
 #![tactic(auto)]
 
 mod container;

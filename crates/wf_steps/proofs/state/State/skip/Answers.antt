@@ -2,12 +2,6 @@ use Rattle.wf_plan.specs.PlanSeen.{plan_tree}
 use Rattle.wf_steps.proofs.SkipLemmas.{skip_goes, skip_kept}
 use Rattle.wf_steps.proofs.state.State.skip.Goals as goal
 
-pub count_and_settle-requires-clause-edits : goal.count_and_settle-requires-clause-edits
-count_and_settle-requires-clause-edits g c = rw c.in_ok-make_room.ensures.opens c.in_ok-skipping.ensures.edits
-
-pub count_and_settle-requires-clause-followers : goal.count_and_settle-requires-clause-followers
-count_and_settle-requires-clause-followers g c = c.self.invariant.0.plan.follow_once c.args.place.now.action
-
 pub invariant_of-self-2 : goal.invariant_of-self-2
 invariant_of-self-2 g c =
     let s = c.self.inside in
