@@ -1,0 +1,124 @@
+//! What is told of events that have a number: of a Try, a Begin and a Test.
+ghost use Rattle.std.specs.Prelude.{◌≡◌, ◌∷◌, ◌++◌, codes, decimal, IfOk, OnOk};
+ghost use Rattle.wf_opening.specs.DecisionSeen.{verdict_tree};
+ghost use Rattle.wf_trace.specs.Texts.{try_text, verdict_text};
+ghost use Rattle.wf_trace.specs.Told.{attempt_text, line_at, test_text};
+
+use crate::fault::add_fault;
+use crate::line::{add, front};
+use std::alloc::{AllocError, Global};
+use wf_opening::Verdict;
+use wf_record::Try;
+use wf_val::{Indexes, Name};
+
+// Adds a number in decimal.
+pub(crate) fn add_number(alloc: Global, line: &mut Vec<u8>, number: u64) -> Result<(), AllocError>
+    ensures { OnOk result (line.new.items ≡ line.old.items ++ decimal number) }
+{
+    let text = format!(in alloc; "{}", number)?;
+    add(line, text.as_str())
+}
+
+// Adds what an attempt came to.
+fn add_try(alloc: Global, line: &mut Vec<u8>, attempt: Try) -> Result<(), AllocError>
+    ensures { OnOk result (line.new.items ≡ line.old.items ++ try_text attempt) }
+{
+    match attempt {
+        Try::Code(code) => add_number(alloc, line, code as u64),
+        Try::NoConnection => add(line, "noConnection"),
+        Try::TimedOut => add(line, "timedOut"),
+        Try::NoAnswer => add(line, "noAnswer"),
+        Try::Unknown => add(line, "unknown"),
+    }
+}
+
+// Adds the number of an attempt, and what it came to.
+#[tactic(auto, using(std::proofs::Common::append_assoc))]
+fn add_attempt(
+    alloc: Global,
+    line: &mut Vec<u8>,
+    number: u64,
+    attempt: Try,
+) -> Result<(), AllocError>
+    ensures { OnOk result (line.new.items ≡ line.old.items ++ attempt_text number attempt) }
+{
+    add_number(alloc, line, number)?;
+    line.push(b' ')?;
+    add_try(alloc, line, attempt)
+}
+
+/// A leaf has made an attempt, counted from 1, and this is what came of it.
+#[tactic(auto, using(crate::proofs::LineLemmas::spaced_line))]
+pub fn try_line(
+    alloc: Global,
+    name: &Name,
+    at: &Indexes,
+    number: u64,
+    attempt: Try,
+) -> Result<Vec<u8>, AllocError>
+    ensures { IfOk result (λ line. line.items ≡ line_at (codes "Try") name.now at.now (32 ∷ attempt_text number attempt)) }
+{
+    let mut line = front(alloc, "Try", name, at)?;
+    line.push(b' ')?;
+    add_attempt(alloc, &mut line, number, attempt)?;
+    Ok(line)
+}
+
+/// An iteration of a loop has begun, which has this index.
+#[tactic(auto, using(crate::proofs::LineLemmas::spaced_line))]
+pub fn begin_line(
+    alloc: Global,
+    name: &Name,
+    at: &Indexes,
+    index: u64,
+) -> Result<Vec<u8>, AllocError>
+    ensures { IfOk result (λ line. line.items ≡ line_at (codes "Begin") name.now at.now (32 ∷ decimal index)) }
+{
+    let mut line = front(alloc, "Begin", name, at)?;
+    line.push(b' ')?;
+    add_number(alloc, &mut line, index)?;
+    Ok(line)
+}
+
+// Adds what the test of an Until gave.
+fn add_verdict(alloc: Global, line: &mut Vec<u8>, verdict: &Verdict) -> Result<(), AllocError>
+    ensures { OnOk result (line.new.items ≡ line.old.items ++ verdict_text (verdict_tree verdict.now)) }
+{
+    match verdict {
+        Verdict::Met(true) => add(line, "true"),
+        Verdict::Met(false) => add(line, "false"),
+        Verdict::Astray(fault) => add_fault(alloc, line, fault),
+    }
+}
+
+// Adds the index of an iteration, and what the test behind it gave.
+#[tactic(auto, using(std::proofs::Common::append_assoc))]
+fn add_test(
+    alloc: Global,
+    line: &mut Vec<u8>,
+    index: u64,
+    verdict: &Verdict,
+) -> Result<(), AllocError>
+    ensures { OnOk result (line.new.items ≡ line.old.items ++ test_text index (verdict_tree verdict.now)) }
+{
+    add_number(alloc, line, index)?;
+    line.push(b' ')?;
+    add_verdict(alloc, line, verdict)
+}
+
+/// An Until was tested behind the iteration of this index.
+#[tactic(auto, using(crate::proofs::LineLemmas::spaced_line))]
+pub fn test_line(
+    alloc: Global,
+    name: &Name,
+    at: &Indexes,
+    index: u64,
+    verdict: &Verdict,
+) -> Result<Vec<u8>, AllocError>
+    ensures { IfOk result (λ line. line.items ≡ line_at (codes "Test") name.now at.now (32 ∷ test_text index (verdict_tree verdict.now))) }
+{
+    let mut line = front(alloc, "Test", name, at)?;
+    line.push(b' ')?;
+    add_test(alloc, &mut line, index, verdict)?;
+    Ok(line)
+}
