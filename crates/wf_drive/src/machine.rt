@@ -57,8 +57,10 @@ pub trait Machine {
     /// The event at a place among those that may happen, counted around where there are fewer.
     fn pick(&self, alloc: Global, place: u64) -> Result<Self::Event, AllocError>
         requires { IsOver (graph (origin self.now)) (source (origin self.now)) (state self.now) → ⊥ }
-        ensures picked { IfOk result (λ e. IsPicked (graph (origin self.now)) (source (origin self.now)) (state self.now) place (event_tree e)) }
-        ensures enabled { IfOk result (λ e. IsEnabled (graph (origin self.now)) (source (origin self.now)) (state self.now) (event_tree e)) };
+        ensures picked { IfOk result (λ e. IsPicked (graph (origin self.now)) (source (origin self.now)) (state self.now) place
+            (event_tree e)) }
+        ensures enabled { IfOk result (λ e. IsEnabled (graph (origin self.now)) (source (origin self.now)) (state self.now)
+            (event_tree e)) };
 
     /// It happens.
     fn step(&mut self, alloc: Global, event: &Self::Event) -> Result<(), AllocError>

@@ -102,7 +102,8 @@ module _ {Row Begun Decision Verdict : Type 0} (d : Graph) (depth : ℕ → ℕ)
         is : s.opens (address n i) ≡ Some (with_test w (m.test (address n i) j before.rows))
         is =
             ap (λ (t : State Row Begun Decision Verdict). t.opens (address n i)) to
-            ∙ replaced (is_own n i (address n i)) (Some (with_test w (m.test (address n i) j before.rows))) (before.opens (address n i)) (own_self n i)
+            ∙ replaced (is_own n i (address n i)) (Some (with_test w (m.test (address n i) j before.rows))) (before.opens (address n i))
+            (own_self n i)
 
         st : Step d m before (Test n i) s
         st = (after, kind, w, j, th, e, may, to)

@@ -35,7 +35,8 @@ module _ {Row Begun Decision Verdict : Type 0} (d : Graph) (m : Source Row Begun
   pub one_pick : (s : State Row Begun Decision Verdict) (place : ℕ) (e e' : Event) → IsPicked d m s place e → IsPicked d m s place e'
       → e ≡ e'
   one_pick s place e e' p q =
-      let both : Some e ≡ Some e' = sym p.picked ∙ ap (λ l. slice_get l (place % length l)) (one_list s p.listed q.listed p.enabled q.enabled)
+      let both : Some e ≡ Some e' = sym p.picked ∙ ap (λ l. slice_get l (place % length l))
+      (one_list s p.listed q.listed p.enabled q.enabled)
       ∙ q.picked in
       cc
 

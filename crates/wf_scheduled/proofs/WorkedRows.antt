@@ -15,7 +15,8 @@ in_turn =
     Open 1 [] ∷ Begin 1 [] ∷ Start 0 (0 ∷ []) ∷ End 0 (0 ∷ []) ∷ Begin 1 [] ∷ Start 0 (1 ∷ []) ∷ End 0 (1 ∷ []) ∷ Begin 1 []
     ∷ Start 0 (2 ∷ []) ∷ End 0 (2 ∷ []) ∷ Close 1 [] ∷ []
 
--- two connectors, of which one makes two attempts, in each iteration of an Until, 2, that is tested twice; what is skipped and open doesn't run
+-- two connectors, of which one makes two attempts, in each iteration of an Until, 2, that is tested twice; what is skipped and what is open
+-- doesn't run
 abbrev attempts : List Event
 attempts =
     Skip 3 [] ∷ Open 2 [] ∷ Begin 2 [] ∷ Start 0 (0 ∷ []) ∷ Start 1 (0 ∷ []) ∷ Try 0 (0 ∷ []) ∷ Try 1 (0 ∷ []) ∷ Try 0 (0 ∷ [])

@@ -1,10 +1,11 @@
 //! The run under a schedule, of any definition.
 //!
-//! In each state of the event machine (`wf_layers`) some events may happen next. A schedule is a list of numbers, and turn k takes the event
-//! at the place that its number k names among those that may happen, in the order of their addresses, counted around; after the schedule's
-//! end each turn takes the first (`specs/Turns`). So a schedule leads to one list of events. What is said of a run beside its rows is said
-//! of this list alone, whatever the states on the way (`specs/Counts`): how many events there are, which attempt a Try makes and which
-//! iteration a Begin begins, and how many leaves were running at a time at most.
+//! In each state of the event machine (`wf_layers`) some events may happen next. A schedule is a list of numbers, and turn k takes the
+//! event at the place that its number k names among those that may happen, in the order of their addresses, counted around; after the
+//! schedule's end each turn takes the first (`specs/Turns`). So a schedule leads to one list of events. What is said of a run beside its
+//! rows is said of this list alone, whatever the states on the way (`specs/Counts`): how many events there are, which attempt a Try makes
+//! and which iteration a Begin begins, and how many leaves were running at a time at most. Behind each event the state has what the event
+//! came to (`specs/Happened`).
 //!
 //! It has no code. Each public function has an empty body, and its contract is a law. How an engine keeps its states and finds the event at
 //! a place is the engine's part; that the rows of a run don't depend on the schedule is said by `wf_layers`.

@@ -1,5 +1,5 @@
 -- Lines in the pieces in which they are written.
-use Rattle.std.proofs.Common.{◌≡◌, ◌∙◌, ℕ, zero, suc, ◌-◌, List, [], ◌∷◌, ◌++◌, Option, None, Some, slice_get, append_assoc, refl, sym, ap, codes}
+use Rattle.std.proofs.Common.{◌≡◌, ◌∙◌, ℕ, zero, suc, List, [], ◌∷◌, ◌++◌, Option, None, Some, slice_get, append_assoc, refl, sym, ap, codes}
 use Rattle.std.proofs.lemmas.List.{append-nil}
 use Rattle.std.proofs.lemmas.Option.{none-some}
 use Rattle.wf_val.specs.Address.{address_text}
@@ -12,7 +12,8 @@ use Rattle.wf_trace.specs.Texts.{case_at, case_text}
 use Rattle.wf_trace.specs.Told.{line_at}
 
 -- a kind and an address, and what stands behind them
-pub line_is : (kind name at value : List ℕ) → line_at kind name at value ≡ (kind ++ 32 ∷ address_text (record { name = name; at = at })) ++ value
+pub line_is : (kind name at value : List ℕ)
+    → line_at kind name at value ≡ (kind ++ 32 ∷ address_text (record { name = name; at = at })) ++ value
 line_is kind name at value = sym (append_assoc kind (32 ∷ address_text (record { name = name; at = at })) value)
 
 pub bare_line : (kind name at : List ℕ) → line_at kind name at [] ≡ kind ++ 32 ∷ address_text (record { name = name; at = at })

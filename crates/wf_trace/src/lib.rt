@@ -1,9 +1,9 @@
 //! What a trace tells of an event.
 //!
-//! A trace has a line for each event of a run: the kind of the event, the address, and behind these what the kind has to tell (`specs/Told`): of a Start the
-//! inputs, of a Try which attempt it is and what came of it, of an End the status and what is given out, of an Open what is decided, of a
-//! Begin and a Test which iteration it is and what the test gives, of a Close the status. What has no value is a fault, behind an
-//! exclamation mark (`specs/Texts`).
+//! A trace has a line for each event of a run: the kind of the event, the address, and behind these what the kind has to tell
+//! (`specs/Told`): of a Start the inputs, of a Try which attempt it is and what came of it, of an End the status and what is given out, of
+//! an Open what is decided, of a Begin and a Test which iteration it is and what the test gives, of a Close the status. What has no value
+//! is a fault, behind an exclamation mark (`specs/Texts`).
 //!
 //! All of it is told by the rows that the definition means, and by which of its kind an event is, so a line is known without the state in
 //! which the event happened. Each function here writes one kind of line from what a state has at the instance.

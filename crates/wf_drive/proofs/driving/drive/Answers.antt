@@ -66,8 +66,8 @@ loop-alloc-preserved g c =
     record {
       same = same;
       comes = goes_on (a.graph o) (a.source o) (a.told o) c.args.schedule.now (a.state c.args.machine) (a.state l.machine) (a.state new)
-          l.steps l.peak c.args.traced l.trace.items e comes turn c.requires.first.not_begun (l.steps + 1) c.max-peak.result c.running.result
-          c.note.new.trace.items refl c.running.ensures c.max-peak.ensures
+          l.steps l.peak c.args.traced l.trace.items e comes turn c.requires.first.not_begun (l.steps + 1) c.max-peak.result
+          c.running.result c.note.new.trace.items refl c.running.ensures c.max-peak.ensures
           (noted (a.state c.args.machine) (a.state l.machine) comes.events c.requires.first.not_begun run turn.goes);
       taken = subst (HasTaken (a.graph o) (a.depth o) (a.source o) (a.state new)) more
           (one_more_taken (a.graph o) (a.depth o) (a.source o) (a.state l.machine) reached l.steps l.invariant.taken e (a.state new)
