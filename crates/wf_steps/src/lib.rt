@@ -14,5 +14,6 @@ mod opening;
 mod seen;
 mod skip;
 mod state;
+mod step;
 
 pub use state::State;
