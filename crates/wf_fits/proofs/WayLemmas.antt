@@ -20,7 +20,7 @@ use Rattle.wf_def.specs.Layered.{layered, layered_cases, layered_kind}
 use Rattle.wf_def.specs.declared.graph.Action.{out-Action}
 use Rattle.wf_catalog.specs.Keys.{all_put}
 use Rattle.wf_catalog.proofs.KeyLemmas.{find-all_put, find-as, same_number}
-use Rattle.wf_catalog.proofs.PlaceLemmas.{number_is}
+use Rattle.wf_catalog.proofs.PlaceLemmas.{name_is, number_is}
 use Rattle.wf_ways.specs.Way.{Step, step, whole, branch_of, item, round, way, way_any, way_in}
 use Rattle.wf_fits.specs.Walk.{Walked, behind, cases_walk, graph_walk, is_at, kind_walk}
 use Rattle.wf_fits.specs.WalkSeen.{walked}
@@ -28,7 +28,11 @@ use Rattle.wf_fits.specs.WaysSeen as seen
 use Rattle.wf_fits.specs.WaysSeen.{AreWays, placed_at}
 use Rattle.wf_fits.specs.Sorts.{all_initials, is_named, sort_by}
 use Rattle.wf_fits.specs.SortsSeen.{sort_in, typed_tree}
+use Rattle.wf_catalog.specs.declared.named.Named.{Named}
 use Rattle.wf_fits.specs.declared.sorts.Typed.{Typed}
+use Rattle.wf_fits.specs.NamedSeen.{named_in, named_tree}
+use Rattle.wf_meant.specs.Points.{has_action_name}
+use Rattle.std.specs.Prelude.{bytes_eq}
 use Rattle.wf_fits.specs.declared.walk.Placed.{Placed}
 use Rattle.wf_def.specs.ActionSeen.{action_tree}
 use Rattle.wf_def.specs.ActionTree.{InitialTree}
@@ -246,11 +250,21 @@ pub actions_walked : (ps : List Placed) → map (λ (p : Placed). action_tree p.
 actions_walked [] = refl
 actions_walked (p ∷ ps) = ap (λ as'. action_tree p.action.now ∷ as') (actions_walked ps)
 
-pub are_ways : (d : DefTree) (table : List Placed) (types : List Typed) (ps : List Placed) → map walked ps ≡ graph_walk [] d.top
+pub named_found : (ns : List Named) (as' : List ActionTree) → map named_tree ns ≡ as' → (k : List ℕ)
+    → named_in (all_put bytes_cmp (λ (n : Named). (out-Action n.action.now).name) ns) k ≡ find (has_action_name k) as'
+named_found ns as' is k =
+    ap (option_map named_tree) (find-all_put bytes_cmp (λ (n : Named). (out-Action n.action.now).name) nat_list_cmp_total k ns)
+    ∙ (find-as named_tree (λ (n : Named). is_eq (bytes_cmp k (out-Action n.action.now).name)) (has_action_name k)
+    (λ n. is_eq-slice_cmp k (out-Action n.action.now).name ∙ ap (bytes_eq k) (name_is n.action.now)) ns
+    ∙ ap (find (has_action_name k)) is)
+
+pub are_ways : (d : DefTree) (table : List Placed) (named : List Named) (types : List Typed) (ps : List Placed)
+    → map walked ps ≡ graph_walk [] d.top
     → ((n : ℕ) → placed_at table n ≡ find (is_at n) (map walked ps))
+    → ((k : List ℕ) → named_in named k ≡ find (has_action_name k) (map (λ (p : Placed). action_tree p.action.now) ps))
     → ((k : List ℕ) → sort_in types k ≡ sort_by (all_initials (map (λ (p : Placed). action_tree p.action.now) ps)) k)
-    → AreWays d table types
-are_ways d table types ps walk found typed =
+    → AreWays d table named types
+are_ways d table named types ps walk found by_name typed =
     let ws = map walked ps in
     let all = ap actions_of walk ∙ actions-graph [] d.top in
     record {
@@ -258,6 +272,7 @@ are_ways d table types ps walk found typed =
           ∙ (find-as (λ (w : Walked). w.action) (is_at n) (has_number n) (λ w. refl) ws ∙ ap (find (has_number n)) all);
       ways = λ n. ap seen.way_in (found n) ∙ (way_of (find (is_at n) ws)
           ∙ (ap (λ (vs : List Walked). way_or_none (way_found n vs)) walk ∙ walk_way n d.top));
+      names = λ k. by_name k ∙ ap (find (has_action_name k)) (actions_walked ps ∙ all);
       sorts = λ k. typed k ∙ ap (λ as'. sort_by (all_initials as') k) (actions_walked ps ∙ all);
     }
   where

@@ -8,12 +8,13 @@
 //! Which of the rows fail, and which are missing, it doesn't say.
 #![tactic(auto)]
 
+mod named;
 mod sorts;
 mod standing;
 mod step;
 mod walk;
 mod ways;
 
-pub use standing::{Standing, stands};
+pub use standing::{Standing, may_be, stands};
 pub use step::{Into, Step};
 pub use ways::Ways;

@@ -107,6 +107,16 @@ fn row_of<'a>(
     Ok(log.row(&address))
 }
 
+/// Whether a row may be one of the action of a number, where it has to be Skipped or not.
+pub fn may_be(ways: &Ways<'_>, number: u32, skipped: bool, row: &Row) -> bool
+    ensures { result ≡ fits_in (def_tree ways.now) number skipped (row_tree row.now).row }
+{
+    match ways.action(number) {
+        Some(action) => fits(ways.sort(number), kind_of(action), skipped, row),
+        None => false,
+    }
+}
+
 // The row of an instance, where it fits.
 fn row_fitting<'a>(
     alloc: Global,

@@ -7,19 +7,21 @@ ghost use Rattle.wf_fits.specs.Sorts.{sort_at, sort_changed};
 ghost use Rattle.wf_fits.specs.Walk.{is_at};
 ghost use Rattle.wf_fits.specs.WalkSeen.{step_tree, walked};
 ghost use Rattle.wf_fits.specs.WaysSeen.{placed_at};
-ghost use Rattle.wf_meant.specs.Points.{graph_of};
+ghost use Rattle.wf_meant.specs.Points.{action_named, graph_of};
 ghost use Rattle.wf_reading.specs.ReadSeen.{def_tree};
 ghost use Rattle.wf_ways.specs.Way.{way};
 
+use crate::named::by_name;
 use crate::sorts::{Typed, changes, sort_in, sorts_of};
 use crate::step::Step;
 use crate::walk::{Placed, all_placed};
 use std::alloc::{AllocError, Global};
 use std::marker::Model;
-use wf_catalog::{by_keys, kind_of};
+use wf_catalog::{Named, by_keys, kind_of};
 use wf_def::{Action, Sort};
 use wf_lists::{Keyed, Sorted};
 use wf_reading::Def;
+use wf_val::Name;
 
 impl<'a> Keyed for Placed<'a> {
     type Key = u32;
@@ -33,11 +35,12 @@ impl<'a> Keyed for Placed<'a> {
     }
 }
 
-/// The actions of a definition by their numbers, each with the way to it. It is seen as the definition.
+/// The actions of a definition, by their numbers and by their names, each with the way to it. It is seen as the definition.
 #[derive(Drop)]
 pub struct Ways<'a> {
     def: &'a Def,
     by_number: Sorted<Placed<'a>>,
+    by_name: Sorted<Named<'a>>,
     sorts: Sorted<Typed<'a>>,
 }
 
@@ -54,7 +57,7 @@ impl<'a> Model for Ways<'a> {
 
     ghost view = { λ w. w.def.now };
 
-    ghost invariant = { λ w. AreWays (def_tree w.def.now) w.by_number w.sorts };
+    ghost invariant = { λ w. AreWays (def_tree w.def.now) w.by_number w.by_name w.sorts };
 }
 
 fn by_number<'a>(alloc: Global, actions: Vec<Placed<'a>>) -> Result<Sorted<Placed<'a>>, AllocError>
@@ -71,10 +74,12 @@ impl<'a> Ways<'a> {
     {
         let actions = all_placed(alloc, &def.top)?;
         let sorts = sorts_of(alloc, &actions)?;
+        let by_name = by_name(alloc, &actions)?;
         let by_number = by_number(alloc, actions)?;
         Ok(Ways {
             def,
             by_number,
+            by_name,
             sorts,
         })
     }
@@ -85,6 +90,16 @@ impl<'a> Ways<'a> {
     {
         match self.by_number.get(&number) {
             Some(placed) => Some(placed.action),
+            None => None,
+        }
+    }
+
+    /// The action of a name.
+    pub fn named(&self, name: &Name) -> Option<&Action>
+        ensures { option_map (λ a. action_tree a.now) result ≡ action_named (def_tree self.now) name.now }
+    {
+        match self.by_name.get(name) {
+            Some(found) => Some(found.action),
             None => None,
         }
     }

@@ -12,11 +12,15 @@
 //! It has no code: each public function has an empty body but for the laws that it calls, and its contract is a law.
 #![tactic(auto)]
 
-ghost use Rattle.std.specs.Prelude.{◌*◌, ◌+◌, ◌≤◌, ◌≡◌, suc, ℕ, Bool, None, length};
+ghost use Rattle.std.specs.Prelude.{◌*◌, ◌+◌, ◌≤◌, ◌≡◌, suc, ℕ, Bool, None, length, option_map};
+ghost use Rattle.wf_def.specs.ActionTree.{ActionTrees, action_kind};
+ghost use Rattle.wf_def.specs.AllActions.{numbered};
 ghost use Rattle.wf_def.specs.DefTree.{DefTree};
+ghost use Rattle.wf_def.specs.Layered.{layered, layered_kind};
 ghost use Rattle.wf_done.specs.Leaf.{BegunTree};
 ghost use Rattle.wf_layers.specs.Address.{Address, Table};
 ghost use Rattle.wf_layers.specs.Bound.{TellsTurns};
+ghost use Rattle.wf_layers.specs.Definition.{kind_of};
 ghost use Rattle.wf_layers.specs.Resubmission.{pin};
 ghost use Rattle.wf_layers.specs.Shape.{HasShape, ReadsBack};
 ghost use Rattle.wf_meaning.specs.Environment.{Environment, facts_of};
@@ -31,6 +35,13 @@ ghost use Rattle.wf_record.specs.Record.{Row, RowTree};
 ghost use Rattle.wf_rules.specs.Broken.{broken_of};
 ghost use Rattle.wf_turns.specs.Reading.{RecallsWithin, reading};
 ghost use Rattle.wf_turns.specs.Turns.{turns};
+
+/// Which kind a number has in the graph of a definition is told by the first action of all that has it; a number that no action has is of
+/// none.
+pub fn numbers_have_the_kinds_of_their_actions()
+    ensures { (graph : ActionTrees) (n : ℕ)
+        → kind_of (layered graph) n ≡ option_map (λ a. layered_kind (action_kind a)) (numbered n graph) }
+{}
 
 /// The row of a leaf that ran tells its attempts, that of a Foreach its items, and that of an Until how often it went round.
 pub fn rows_tell_their_turns()
