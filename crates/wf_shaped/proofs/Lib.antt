@@ -1,0 +1,7 @@
+mod ListLemmas
+mod LeastLemmas
+mod MissingLemmas
+mod HeldLemmas
+mod ExactLemmas
+mod KnownLemmas
+mod WorkedShape
