@@ -41,7 +41,7 @@ fn turns_told(ways: &Ways<'_>, kind: &Kind, row: &Row) -> Option<u64>
     }
 }
 
-#[tactic(auto, using(wf_sight::proofs::PlaceLemmas::kind_is))]
+#[tactic(auto, using(wf_catalog::proofs::PlaceLemmas::kind_is))]
 fn kind_of(action: &Action) -> &Kind
     ensures { kind_tree result.now ≡ action_kind (action_tree action.now) }
 {

@@ -5,7 +5,7 @@ use Rattle.wf_reading.specs.ReadSeen.{def_tree}
 use Rattle.wf_record.specs.Seen.{record_tree, row_tree}
 use Rattle.wf_shape.specs.Standing.{Standing}
 use Rattle.wf_fits.specs.Fits.{fits_in, stands_in}
-use Rattle.wf_sight.proofs.PlaceLemmas.{number_is}
+use Rattle.wf_catalog.proofs.PlaceLemmas.{number_is}
 use Rattle.wf_shaped.specs.Told.{judged_as}
 use Rattle.wf_shaped.proofs.judged.judge.Goals as goal
 
