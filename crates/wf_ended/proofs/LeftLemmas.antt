@@ -1,0 +1,28 @@
+-- What is left is what the definition means.
+use Rattle.std.proofs.Common.{◌≡◌, List, ap, sym, ◌∙◌}
+use Rattle.wf_val.specs.ValueTree.{ValueTree}
+use Rattle.wf_layers.specs.Address.{Address, Table}
+use Rattle.wf_def.specs.DefTree.{DefTree}
+use Rattle.wf_answers.specs.Inputs.{InputsTree}
+use Rattle.wf_trigger.specs.Starts.{StartTree}
+use Rattle.wf_record.specs.Record.{Row, RowTree}
+use Rattle.wf_meaning.specs.Ending.{Ending}
+use Rattle.wf_meaning.specs.Environment.{Environment, fresh}
+use Rattle.wf_meant.specs.Record.{ending_of, first_succeeded, is_response, meaning, record_of_table, responded, rows_of}
+use Rattle.wf_ended.specs.Left.{LeftTree, left_by, recorded}
+
+abbrev left_as : Ending → ValueTree → List RowTree → LeftTree
+left_as ending response rows = record { ending = ending; response = response; rows = rows }
+
+pub left_is : (d : DefTree) (e : Environment) (known : Table Row) (l : LeftTree) → l.ending ≡ ending_of d e known
+    → l.response ≡ responded (first_succeeded d is_response known) → l.rows ≡ rows_of d known → l ≡ left_by d e known
+left_is d e known l ending response rows =
+    ap (λ (x : Ending). left_as x l.response l.rows) ending
+    ∙ ap (λ (v : ValueTree). left_as (ending_of d e known) v l.rows) response
+    ∙ ap (λ (rs : List RowTree). left_as (ending_of d e known) (responded (first_succeeded d is_response known)) rs) rows
+
+pub left_is_meant : (d : DefTree) (s : StartTree) (i : InputsTree) (known t : Table Row) (l : LeftTree) → l ≡ left_by d (fresh s i) known
+    → ((y : Address) → known y ≡ t y) → meaning d (fresh s i) ≡ record_of_table d (fresh s i) t
+    → recorded d.digest s l ≡ meaning d (fresh s i)
+left_is_meant d s i known t l is same meant =
+    ap (recorded d.digest s) is ∙ ap (record_of_table d (fresh s i)) (λ k y. same y k) ∙ sym meant

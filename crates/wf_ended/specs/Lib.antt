@@ -1,0 +1,4 @@
+pub mod First
+pub mod Left
+pub mod LeftSeen
+pub mod Found
