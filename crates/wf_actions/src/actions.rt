@@ -20,7 +20,7 @@ use wf_trigger::Start;
 #[derive(Drop)]
 pub struct Ready<'a> {
     pub checked: &'a Checked,
-    pub(crate) places: Places<'a>,
+    pub places: Places<'a>,
     pub(crate) terminates: Vec<Instance>,
     pub(crate) insides: Sorted<Numbered>,
     ghost placed: { places ≡ checked.now.def },

@@ -34,7 +34,7 @@ use Rattle.wf_meant.specs.Record.{rows_of}
 use Rattle.wf_meant_laws.specs.Listed.{StandFor, told_as}
 use Rattle.wf_meant_laws.specs.Tables.{StandAtInstances}
 use Rattle.wf_meant_laws.proofs.RangeLemmas.{some_found}
-use Rattle.wf_sight.specs.Seen.{row_content, rows_seen}
+use Rattle.wf_views.specs.Seen.{row_content, rows_seen}
 use Rattle.wf_ended.specs.Found.{as_row, cost_of, own_address}
 use Rattle.wf_ended.proofs.ListedLemmas.{among_found}
 use Rattle.wf_ended.proofs.TableLemmas.{entries_are, entry_of}

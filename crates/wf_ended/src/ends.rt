@@ -14,10 +14,10 @@ ghost use Rattle.wf_ended.specs.First.{places_of};
 
 use std::alloc::{AllocError, Global};
 use wf_asks::Instance;
+use wf_catalog::Places;
 use wf_closing::Judged;
 use wf_def::{Action, Graph, Kind, all_actions};
 use wf_rules::Checked;
-use wf_sight::Places;
 use wf_val::Indexes;
 
 /// Of a definition that breaks no rule the graph at the top, as it is judged, and where its Terminates and Responses stand.

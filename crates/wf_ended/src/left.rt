@@ -18,7 +18,7 @@ ghost use Rattle.wf_record.specs.Cost.{cost, row_cost};
 ghost use Rattle.wf_record.specs.Seen.{record_tree, row_tree};
 ghost use Rattle.wf_meant_laws.specs.Tables.{AreWhole};
 ghost use Rattle.wf_sight.specs.Laws.{run_of};
-ghost use Rattle.wf_sight.specs.Seen.{row_content, rows_seen};
+ghost use Rattle.wf_views.specs.Seen.{row_content, rows_seen};
 ghost use Rattle.wf_sight.specs.SightSeen.{run_tree};
 ghost use Rattle.wf_sight_laws.specs.Writes.{writes};
 ghost use Rattle.wf_trigger.specs.StartsSeen.{start_tree};

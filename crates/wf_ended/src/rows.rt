@@ -11,13 +11,13 @@ ghost use Rattle.wf_ended.specs.Found.{as_row, own_address};
 
 use std::alloc::{AllocError, Global};
 use wf_asks::RowAt;
+use wf_catalog::Places;
 use wf_lists::TryCopy;
 use wf_record::{Row, Rows};
-use wf_sight::Places;
 use wf_val::{Address, Name, Text};
 
 // The name of the action of a number.
-#[tactic(auto, using(wf_sight::proofs::PlaceLemmas::name_is))]
+#[tactic(auto, using(wf_catalog::proofs::PlaceLemmas::name_is))]
 fn name_of(alloc: Global, places: &Places<'_>, number: u32) -> Result<Name, AllocError>
     ensures { IfOk result (λ n. n ≡ name_of (def_tree places.now) number) }
 {

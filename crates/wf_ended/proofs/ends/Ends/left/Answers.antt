@@ -7,7 +7,7 @@ use Rattle.wf_meant.specs.Source.{table_of}
 use Rattle.wf_meant_laws.specs.Tables.{AreWhole}
 use Rattle.wf_reading.specs.ReadSeen.{def_tree}
 use Rattle.wf_record.specs.Record as record_of
-use Rattle.wf_sight.specs.Seen.{rows_seen}
+use Rattle.wf_views.specs.Seen.{rows_seen}
 use Rattle.wf_trigger.specs.StartsSeen.{start_tree}
 use Rattle.wf_ended.specs.LeftSeen.{left_tree}
 use Rattle.wf_ended.proofs.LeftLemmas.{left_is, left_is_meant}

@@ -9,7 +9,8 @@ use Rattle.wf_meaning.specs.Ending.{output_runs}
 use Rattle.wf_meaning.specs.Environment.{Environment, fresh}
 use Rattle.wf_meant.specs.Look.{told_to_outputs}
 use Rattle.wf_reading.specs.ReadSeen.{def_tree}
-use Rattle.wf_sight.specs.Seen.{known_tree, rows_seen}
+use Rattle.wf_views.specs.Seen.{rows_seen}
+use Rattle.wf_sight.specs.Seen.{known_tree}
 use Rattle.wf_sight.specs.Sight.{KnownTree, RunTree, seen_by_outputs}
 use Rattle.wf_sight.specs.SightSeen.{run_tree, sight_drawn, sight_told}
 use Rattle.wf_trigger.specs.StartsSeen.{start_tree}

@@ -8,7 +8,7 @@ use Rattle.wf_reading.specs.declared.definition.Def.{Def}
 use Rattle.wf_record.specs.Cost.{row_cost}
 use Rattle.wf_record.specs.Record.{RowTree, address_of}
 use Rattle.wf_record.specs.declared.row.Row.{Row}
-use Rattle.wf_sight.specs.Seen.{rows_seen}
+use Rattle.wf_views.specs.Seen.{rows_seen}
 use Rattle.wf_ended.specs.Found.{as_row}
 use Rattle.wf_ended.proofs.NameLemmas.{names_ascend}
 use Rattle.wf_ended.proofs.RowLemmas.{costs_are, have_actions, rows_are, rows_ascend}
