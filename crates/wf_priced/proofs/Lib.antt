@@ -1,0 +1,7 @@
+pub mod ListedLemmas
+pub mod BegunLemmas
+pub mod TellsLemmas
+pub mod OverLemmas
+pub mod PaidLemmas
+pub mod WithinLemmas
+pub mod PricedRows
