@@ -3,6 +3,7 @@ ghost use Rattle.std.specs.Prelude.{◌≡◌, ◌≢◌, ◌+◌, ◌*◌, ◌<
 ghost use Rattle.std.specs.Prelude.{cond, false, slice_index_or, true};
 ghost use Rattle.wf_layers.specs.Machine as layers;
 ghost use Rattle.wf_layers.specs.Machine.{IsOver, Run, State, Step};
+ghost use Rattle.wf_kept.specs.Reached.{IsReached};
 ghost use Rattle.wf_scheduled.specs.Counts.{HasNotBegun, number_of};
 ghost use Rattle.wf_scheduled.specs.Turns.{Turn};
 ghost use Rattle.wf_drive.specs.Driven.{IsDriven, IsFirst};
@@ -80,6 +81,7 @@ fn note<M: Machine>(
 ) -> Result<(), AllocError>
     ensures { OnOk result ((first before : State M.Row M.Begun M.Decision M.Verdict) (es : List layers.Event) → HasNotBegun first
         → Run (M.graph (M.origin machine.now)) (M.source (M.origin machine.now)) first es before
+        → IsReached (M.graph (M.origin machine.now)) (M.depth (M.origin machine.now)) (M.source (M.origin machine.now)) before
         → Step (M.graph (M.origin machine.now)) (M.source (M.origin machine.now)) before (M.event_tree event.now) (M.state machine.now)
         → trace.new.items ≡ trace.old.items ++ cond traced
         (event_line number (M.told (M.origin machine.now) (M.event_tree event.now) (number_of es (M.event_tree event.now)))) []) }

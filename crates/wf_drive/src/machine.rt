@@ -73,6 +73,7 @@ pub trait Machine {
     fn tell(&self, alloc: Global, event: &Self::Event) -> Result<Vec<u8>, AllocError>
         ensures { IfOk result (λ line. (first before : State Row Begun Decision Verdict) (es : List machine.Event) → HasNotBegun first
             → Run (graph (origin self.now)) (source (origin self.now)) first es before
+            → IsReached (graph (origin self.now)) (depth (origin self.now)) (source (origin self.now)) before
             → Step (graph (origin self.now)) (source (origin self.now)) before (event_tree event.now) (state self.now)
             → line.items ≡ told (origin self.now) (event_tree event.now) (number_of es (event_tree event.now))) };
 

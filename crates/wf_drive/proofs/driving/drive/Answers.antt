@@ -56,7 +56,7 @@ loop-alloc-preserved g c =
     c.in_ok-event.ensures.turn in
     let same = c.in_ok-event.ensures.same ∙ l.invariant.same in
     let noted = subst (λ q. (first before : State a.Row a.Begun a.Decision a.Verdict) (es : List Event) → HasNotBegun first
-    → Run (a.graph q) (a.source q) first es before → Step (a.graph q) (a.source q) before e (a.state new)
+    → Run (a.graph q) (a.source q) first es before → IsReached (a.graph q) (a.depth q) (a.source q) before → Step (a.graph q) (a.source q) before e (a.state new)
     → c.note.new.trace.items ≡ l.trace.items ++ cond c.args.traced (event_line (l.steps + 1) (a.told q e (number_of es e))) [])
     same c.in_ok-note.ensures in
     let comes = l.invariant.comes in
@@ -68,7 +68,7 @@ loop-alloc-preserved g c =
       comes = goes_on (a.graph o) (a.source o) (a.told o) c.args.schedule.now (a.state c.args.machine) (a.state l.machine) (a.state new)
           l.steps l.peak c.args.traced l.trace.items e comes turn c.requires.first.not_begun (l.steps + 1) c.max-peak.result
           c.running.result c.note.new.trace.items refl c.running.ensures c.max-peak.ensures
-          (noted (a.state c.args.machine) (a.state l.machine) comes.events c.requires.first.not_begun run turn.goes);
+          (noted (a.state c.args.machine) (a.state l.machine) comes.events c.requires.first.not_begun run reached turn.goes);
       taken = subst (HasTaken (a.graph o) (a.depth o) (a.source o) (a.state new)) more
           (one_more_taken (a.graph o) (a.depth o) (a.source o) (a.state l.machine) reached l.steps l.invariant.taken e (a.state new)
           turn.goes);
