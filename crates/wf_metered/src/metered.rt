@@ -13,7 +13,7 @@ ghost use Rattle.wf_steps.specs.Shown.{shown};
 
 use std::alloc::{AllocError, Global};
 use std::marker::Model;
-use wf_asks::{Acts, Instance};
+use wf_asks::{Acts, Instance, Rows};
 use wf_meter::{block, block_part, leaf_part, open_part, total};
 use wf_plan::Plan;
 use wf_steps::State;
@@ -112,6 +112,13 @@ impl<'a, A: Acts> Metered<'a, A> {
         ensures { result.now ≡ self.now }
     {
         &self.state
+    }
+
+    /// The rows, and the state is given up.
+    pub fn into_rows(self) -> Rows<A::Row>
+        ensures { result.0 ≡ self.entry.1.0 }
+    {
+        self.state.into_rows()
     }
 
     /// What the state costs: its rows, running leaves and open containers; cut to the greatest u64.
