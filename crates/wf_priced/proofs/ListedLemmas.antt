@@ -1,5 +1,5 @@
 -- Lists as tables: a list of which each entry is found in another one, and costs no more there, costs no more than that one.
-use Rattle.std.proofs.Common.{◌≡◌, ◌≤◌, ℕ, ◌+◌, false, List, [], ◌∷◌, Option, Some, None, cond, option_map, is_eq, nat_eq, ⊎_elim, refl, sym, ap, ◌∙◌, subst, arith}
+use Rattle.std.proofs.Common.{◌≡◌, ◌≤◌, ℕ, ◌+◌, true, false, List, [], ◌∷◌, Option, Some, None, cond, option_map, is_eq, nat_eq, ⊎_elim, refl, sym, ap, ◌∙◌, subst, arith}
 use Rattle.std.specs.Cmp.Lexicographic.{slice_cmp}
 use Rattle.std.specs.Ordering.{nat_cmp}
 use Rattle.std.proofs.lemmas.Cmp.{tied_itself}
@@ -43,6 +43,13 @@ pub by_keys : {E : Type 0} (at : E → Instance) (xs : List E) → IsInKeyOrder 
     → IsInKeyOrder (slice_cmp nat_cmp) (λ e. key (address_of (at e))) xs
 by_keys at [] o = tt
 by_keys at (x ∷ xs) o = (o.0, by_keys at xs o.1)
+
+-- a table without one entry
+at_own : {A : Type 0} (n : ℕ) (i : List ℕ) (t u : Table A) → t ≡ without n i u → (x : Address) → is_own n i x ≡ true → t x ≡ None
+at_own n i t u e x own = ap (λ z. z x) e ∙ when (is_own n i x) None (u x) own
+
+at_other : {A : Type 0} (n : ℕ) (i : List ℕ) (t u : Table A) → t ≡ without n i u → (x : Address) → is_own n i x ≡ false → t x ≡ u x
+at_other n i t u e x other = ap (λ z. z x) e ∙ unless (is_own n i x) None (u x) other
 
 module _ {Z B : Type 0} (key_of : Z → Instance) (row : Z → B) (v : B → ℕ) where
   abbrev rest : Instance → List Z → List Z
@@ -88,37 +95,50 @@ module _ {Z B : Type 0} (key_of : Z → Instance) (row : Z → B) (v : B → ℕ
       pub fits : sum_of part xs + all_of us ≤ all_of zs
       pub else_same : (x : Address) → table xs x ≡ None → there us x ≡ there zs x
 
+    -- of a list that begins with an entry
+    module _ (x : X) (xs : List X) (ox : IsInKeyOrder instance_cmp at (x ∷ xs)) (zs : List Z) (oz : IsInKeyOrder instance_cmp key_of zs)
+        (all : IsCovered (x ∷ xs) zs) where
+      own : table (x ∷ xs) (address_of (at x)) ≡ Some (see x)
+      own = ap (λ o. option_map see (cond (is_eq o) (Some x) (find_key instance_cmp at (at x) xs))) (tied_itself instance_total (at x))
+
+      gone : without_key instance_cmp at (at x) (x ∷ xs) ≡ xs
+      gone = ap (λ o. cond (is_eq o) xs (x ∷ without_key instance_cmp at (at x) xs)) (tied_itself instance_total (at x))
+
+      others_found : table xs ≡ without (at x).action (at x).at (table (x ∷ xs))
+      others_found = ap (λ ys. table ys) (sym gone) ∙ table_take at see (at x) (x ∷ xs) ox
+
+      others_there : there (rest (at x) zs) ≡ without (at x).action (at x).at (there zs)
+      others_there = table_take key_of row (at x) zs oz
+
+      others_covered : IsCovered xs (rest (at x) zs)
+      others_covered y a e =
+          ⊎_elim
+          (λ t. absurd (none-some a (sym (at_own (at x).action (at x).at (table xs) (table (x ∷ xs)) others_found y t) ∙ e)))
+          (λ f. let hit = all y a (sym (at_other (at x).action (at x).at (table xs) (table (x ∷ xs)) others_found y f) ∙ e) in
+          (hit.0, at_other (at x).action (at x).at (there (rest (at x) zs)) (there zs) others_there y f ∙ hit.1, hit.2))
+          (two (is_own (at x).action (at x).at y))
+
+      left_of_all : (us : List Z) → IsLeft xs (rest (at x) zs) us → IsLeft (x ∷ xs) zs us
+      left_of_all us more = record {
+        ordered = more.ordered;
+        fits =
+            let hit = all (address_of (at x)) (see x) own in
+            let less = less_one (at x) zs oz hit.0 hit.1 in
+            let fits = more.fits in
+            let cheap = hit.2 in
+            omega (arith, less, fits, cheap);
+        else_same = λ y e. ⊎_elim
+            (λ t. absurd (none-some (see x)
+            (sym (subst (λ z. table (x ∷ xs) z ≡ None) (sym (own_is (at x).action (at x).at y t)) e) ∙ own)))
+            (λ f. more.else_same y (at_other (at x).action (at x).at (table xs) (table (x ∷ xs)) others_found y f ∙ e)
+            ∙ at_other (at x).action (at x).at (there (rest (at x) zs)) (there zs) others_there y f)
+            (two (is_own (at x).action (at x).at y));
+      }
+
     pub covered : (xs : List X) → IsInKeyOrder instance_cmp at xs → (zs : List Z) → IsInKeyOrder instance_cmp key_of zs
         → IsCovered xs zs → (us : List Z) × IsLeft xs zs us
     covered [] ox zs oz all = (zs, record { ordered = oz; fits = omega arith; else_same = λ x e. refl })
     covered (x ∷ xs) ox zs oz all =
-        let k = at x in
-        let own : table (x ∷ xs) (address_of k) ≡ Some (see x) =
-        ap (λ o. option_map see (cond (is_eq o) (Some x) (find_key instance_cmp at k xs))) (tied_itself instance_total k) in
-        let gone : without_key instance_cmp at k (x ∷ xs) ≡ xs =
-        ap (λ o. cond (is_eq o) xs (x ∷ without_key instance_cmp at k xs)) (tied_itself instance_total k) in
-        let tx : table xs ≡ without k.action k.at (table (x ∷ xs)) = ap (λ ys. table ys) (sym gone) ∙ table_take at see k (x ∷ xs) ox in
-        let tz : there (rest k zs) ≡ without k.action k.at (there zs) = table_take key_of row k zs oz in
-        let hit = all (address_of k) (see x) own in
-        let less = less_one k zs oz hit.0 hit.1 in
-        let more = covered xs ox.1 (rest k zs) (in_order-without instance_total key_of k zs oz)
-        (λ y a e. ⊎_elim {C = (b : B) × (there (rest k zs) y ≡ Some b) × (w y a ≤ v b)}
-        (λ t. absurd {A = (b : B) × (there (rest k zs) y ≡ Some b) × (w y a ≤ v b)}
-        (none-some a (sym (ap (λ u. u y) tx ∙ when (is_own k.action k.at y) None (table (x ∷ xs) y) t) ∙ e)))
-        (λ f. let h = all y a (sym (ap (λ u. u y) tx ∙ unless (is_own k.action k.at y) None (table (x ∷ xs) y) f) ∙ e) in
-        (h.0, ap (λ u. u y) tz ∙ unless (is_own k.action k.at y) None (there zs y) f ∙ h.1, h.2))
-        (two (is_own k.action k.at y))) in
-        let fits = more.1.fits in
-        let cheap = hit.2 in (
-          more.0,
-          record {
-            ordered = more.1.ordered;
-            fits = omega (arith, less, fits, cheap);
-            else_same = λ y e. ⊎_elim {C = there more.0 y ≡ there zs y}
-                (λ t. absurd {A = there more.0 y ≡ there zs y} (none-some (see x)
-                (sym (subst (λ z. table (x ∷ xs) z ≡ None) (sym (own_is k.action k.at y t)) e) ∙ own)))
-                (λ f. more.1.else_same y (ap (λ u. u y) tx ∙ unless (is_own k.action k.at y) None (table (x ∷ xs) y) f ∙ e)
-                ∙ ap (λ u. u y) tz ∙ unless (is_own k.action k.at y) None (there zs y) f)
-                (two (is_own k.action k.at y));
-          },
-        )
+        let more = covered xs ox.1 (rest (at x) zs) (in_order-without instance_total key_of (at x) zs oz)
+        (others_covered x xs ox zs oz all) in
+        (more.0, left_of_all x xs ox zs oz all more.0 more.1)

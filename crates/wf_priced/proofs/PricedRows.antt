@@ -1,6 +1,6 @@
--- What rows cost at least, of one source: its leaves keep inputs that weigh 5 and make two attempts, its loops have three iterations, and an
--- Until ends with the second one.
-use Rattle.std.proofs.Common.{◌≡◌, ◌≤◌, ℕ, ◌+◌, ◌*◌, ◌-◌, false, cond, [], ◌∷◌, Option, Some, None, nat_eq, inl, ⊎_elim, refl, sym, ap, ◌∙◌, arith}
+-- What rows cost at least, of one source: its leaves keep inputs that weigh 5 and make two attempts, a Foreach has three iterations, and
+-- an Until ends with the second one.
+use Rattle.std.proofs.Common.{◌≡◌, ◌≤◌, ℕ, ◌+◌, ◌*◌, false, cond, [], ◌∷◌, Option, Some, None, nat_eq, inl, ⊎_elim, refl, sym, ap, ◌∙◌, arith}
 use Rattle.std.proofs.lemmas.Option.{none-some}
 use Rattle.wf_layers.specs.Address.{Address, Table, address, is_own}
 use Rattle.wf_layers.specs.Definition.{Succeeded, Kind, Leaf, Scope, Choice, Foreach, InTurn, Until, no_branch, Graph, done, add}

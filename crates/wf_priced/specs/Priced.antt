@@ -23,7 +23,8 @@ module _ {Row Begun Decision Verdict : Type 0} (m : Source Row Begun Decision Ve
       m.close x (m.decide x f) (iterations m (Until most g) x f) (last (iterations m (Until most g) x f) (λ j. m.test x j f)) f
 
   -- THE PREMISE, of the rows f: the row of a leaf that ran costs at least 64 for the leaf and for each of its attempts, and what it kept of
-  -- its inputs; the row of a container that ran at least 64 for the container and for each iteration, and what it kept of what it decided by.
+  -- its inputs; the row of a container that ran at least 64 for the container and for each of its iterations, and what it kept of what it
+  -- decided by.
   pub record PaysItsParts (d : Graph) (f : Table Row) (cost : Row → ℕ) (begun_weight : Begun → ℕ) (weight : Decision → ℕ) : Type 0 where
     pub of_leaf : (x : Address) → kind_of d x.name ≡ Some Leaf → f x ≡ Some (leaf m x f)
         → 64 * (1 + m.tries x (m.start x f)) + begun_weight (m.start x f) ≤ cost (leaf m x f)

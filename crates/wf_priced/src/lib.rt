@@ -1,8 +1,8 @@
 //! No state of a run costs more than the rows that its definition means.
 //!
 //! A state of the event machine costs what its rows, its running leaves and its open containers cost (`wf_meter`). Each leaf that runs and
-//! each container that is open comes to a row of the meaning, whatever else happens; so where such a row costs at least what the leaf or the
-//! container had cost before (`specs/Priced`), the rows of the meaning are a bound of what any state of a run costs, and a run that is over
+//! each container that is open comes to a row of the meaning, whatever else happens. So where such a row costs at least what the leaf or
+//! the container cost before (`specs/Priced`), the rows of the meaning are a bound of what any state of a run costs, and a run that is over
 //! has come to exactly that. Who bounds what a definition costs so bounds each moment of its runs, and none has to be cut off halfway.
 //!
 //! It has no code. Each public function has an empty body, and its contract is a law. What rows cost, and that they cost enough, is what an
@@ -16,6 +16,7 @@ ghost use Rattle.wf_layers.specs.Definition.{Graph, Turns};
 ghost use Rattle.wf_layers.specs.Listed.{sum_of};
 ghost use Rattle.wf_layers.specs.Machine.{IsOver};
 ghost use Rattle.wf_layers.specs.Meaning.{meaning};
+ghost use Rattle.wf_layers.specs.Record.{HasRecord};
 ghost use Rattle.wf_layers.specs.Source.{Source};
 ghost use Rattle.wf_kept.specs.Reached.{IsReached};
 ghost use Rattle.wf_asks.specs.Instances.{address_of, instance_cmp};
@@ -86,4 +87,10 @@ pub fn rows_of_one_table_cost_the_same<Row, Entry, Other>()
     ensures { (f : Table Row) (cost : (Row → ℕ)) (at : (Entry → Address)) (row : (Entry → Row)) (entries : List Entry)
         → TellsRows at row f entries → (other_at : (Other → Address)) (other_row : (Other → Row)) (others : List Other)
         → TellsRows other_at other_row f others → sum_of (λ e. cost (row e)) entries ≡ sum_of (λ o. cost (other_row o)) others }
+{}
+
+/// A table that has a record is told by a list; so is each meaning (`wf_layers`), and that of each resubmission of an old record.
+pub fn a_record_tells_its_table<Row>()
+    ensures { (f : Table Row) → HasRecord f
+        → (rows : List (Address × Row)) × TellsRows (λ (e : Address × Row). e.0) (λ (e : Address × Row). e.1) f rows }
 {}
