@@ -1,3 +1,2 @@
 mod DoneLemmas
 mod CountLemmas
-mod InsideLemmas

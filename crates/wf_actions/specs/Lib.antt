@@ -1,3 +1,1 @@
-pub mod Insides
-pub mod InsidesSeen
 pub mod Meant

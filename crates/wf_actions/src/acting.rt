@@ -1,5 +1,5 @@
 //! What the actions of a run do, as the machine asks for it.
-ghost use Rattle.std.specs.Prelude.{◌≡◌, ◌<◌, ◌^◌, ℕ, IfOk, None, Some, nat_lt, option_map};
+ghost use Rattle.std.specs.Prelude.{◌≡◌, ◌<◌, ◌^◌, ℕ, IfOk, Some, nat_lt, option_map};
 ghost use Rattle.wf_val.specs.Cut.{cut_u64};
 ghost use Rattle.wf_layers.specs.Definition.{Graph, Kind, Leaf, Until, kind_of};
 ghost use Rattle.wf_layers.specs.Machine.{IsContainer};
@@ -9,7 +9,10 @@ ghost use Rattle.wf_asks.specs.Statuses.{status_tree};
 ghost use Rattle.wf_done.specs.DoneSeen.{begun_tree};
 ghost use Rattle.wf_opening.specs.DecisionSeen.{decision_tree, verdict_tree};
 ghost use Rattle.wf_views.specs.Seen.{row_content};
+ghost use Rattle.wf_closing.specs.Inside.{inside_of};
 ghost use Rattle.wf_closing.specs.InsideSeen.{inside_tree};
+ghost use Rattle.wf_def.specs.ActionSeen.{action_tree};
+ghost use Rattle.wf_def.specs.ActionTree.{action_kind};
 ghost use Rattle.wf_def.specs.AllActions.{numbered};
 ghost use Rattle.wf_reading.specs.ReadSeen.{def_tree};
 ghost use Rattle.wf_actions.specs.Meant.{inside_by};
@@ -17,11 +20,13 @@ ghost use Rattle.wf_actions.specs.Meant.{cost_of_row, depth, graph, source, writ
 ghost use Rattle.wf_doing.specs.Seen as setting;
 ghost use Rattle.wf_actions.specs.Meant.{definition_of, environment_of};
 
-use crate::actions::{Actions, Ready};
+use crate::actions::Actions;
 use crate::opened::was_read;
 use std::alloc::{AllocError, Global};
 use wf_asks::{Instance, Known};
+use wf_catalog::Places;
 use wf_closing::Inside;
+use wf_def::Action;
 use wf_doing::Setting;
 use wf_done::Begun;
 use wf_opening::{Decision, Verdict};
@@ -147,15 +152,24 @@ pub(crate) fn test(
     wf_doing::test_until(alloc, &setting(actions), place, index, known)
 }
 
-// What closing asks of the action of a number; of a number that no action has, nothing.
-fn inside<'s>(ready: &'s Ready<'_>, number: u32, nothing: &'s Inside) -> &'s Inside
-    requires { inside_tree nothing.now ≡ inside_by None }
-    ensures { inside_tree result.now ≡ inside_by (numbered number (def_tree ready.now.checked.now.def).top) }
+// What closing asks of a container.
+fn inside(alloc: Global, places: &Places<'_>, number: u32) -> Result<Inside, AllocError>
+    ensures { IfOk result (λ i. inside_tree i ≡ inside_by (numbered number (def_tree places.now).top)) }
 {
-    match ready.insides.get(&number) {
-        Some(kept) => &kept.inside,
-        None => nothing,
+    match places.action(number) {
+        Some(action) => inside_action(alloc, action),
+        None => Ok(Inside {
+            graphs: Vec::new(alloc),
+            terminates: Vec::new(alloc),
+        }),
     }
+}
+
+#[tactic(auto, using(wf_catalog::proofs::PlaceLemmas::kind_is))]
+fn inside_action(alloc: Global, action: &Action) -> Result<Inside, AllocError>
+    ensures { IfOk result (λ i. inside_tree i ≡ inside_of (action_kind (action_tree action.now))) }
+{
+    Inside::of(alloc, &action.kind)
 }
 
 /// The row with which a container closes.
@@ -181,14 +195,11 @@ pub(crate) fn close(
     wf_sight_laws::what_is_done_in_a_sight_is_meant();
     wf_doing::what_is_done_is_the_source();
     wf_doing::containers_are_judged();
-    let nothing = Inside {
-        graphs: Vec::new(alloc),
-        terminates: Vec::new(alloc),
-    };
+    let inside = inside(alloc, &actions.ready.places, place.action)?;
     wf_doing::close(
         alloc,
         &setting(actions),
-        inside(actions.ready, place.action, &nothing),
+        &inside,
         place,
         decision,
         count,

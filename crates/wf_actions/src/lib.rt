@@ -11,7 +11,6 @@
 mod acting;
 mod actions;
 mod asked;
-mod insides;
 mod laws;
 mod opened;
 mod ready;

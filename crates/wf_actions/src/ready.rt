@@ -2,7 +2,6 @@
 ghost use Rattle.std.specs.Prelude.{◌≡◌, IfOk};
 
 use crate::actions::Ready;
-use crate::insides::insides_of;
 use std::alloc::{AllocError, Global};
 use wf_catalog::Places;
 use wf_doing::terminates;
@@ -15,12 +14,10 @@ impl<'a> Ready<'a> {
     {
         let places = Places::of(alloc, &checked.def)?;
         let terminates = terminates(alloc, &checked.def.top)?;
-        let insides = insides_of(alloc, &checked.def.top)?;
         Ok(Ready {
             checked,
             places,
             terminates,
-            insides,
         })
     }
 }
