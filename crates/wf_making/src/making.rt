@@ -1,0 +1,165 @@
+//! A run that is being made.
+ghost use Rattle.std.specs.Prelude.{◌≡◌, ◌+◌, IfOk};
+ghost use Rattle.wf_val.specs.Cut.{cut_u64};
+ghost use Rattle.wf_plan.specs.PlanSeen.{plan_tree};
+ghost use Rattle.wf_tables.specs.Tables.{event_tree};
+ghost use Rattle.wf_steps.specs.Kept.{IsPlanned};
+ghost use Rattle.wf_steps.specs.Shown.{shown};
+ghost use Rattle.wf_drive.specs.Driven.{IsFirst};
+ghost use Rattle.wf_making.specs.Priced.{lists_cost};
+
+use crate::pays::Pays;
+use crate::tells::Tells;
+use std::alloc::{AllocError, Global};
+use std::marker::Model;
+use wf_asks::{Acts, Rows};
+use wf_drive::Machine;
+use wf_metered::Metered;
+use wf_plan::Plan;
+use wf_steps::State as Kept;
+use wf_tables::EventAt;
+
+/// A state of a run with its cost, to be driven on.
+#[derive(Drop)]
+pub struct Making<'a, A: Acts> {
+    metered: Metered<'a, A>,
+}
+
+impl<'a, A: Acts> Model for Making<'a, A> {
+    ghost use Rattle.std.specs.Prelude.{List};
+    ghost use Rattle.wf_asks.specs.declared.known.OpenAt.{OpenAt};
+    ghost use Rattle.wf_asks.specs.declared.known.RowAt.{RowAt};
+    ghost use Rattle.wf_asks.specs.declared.known.WriterAt.{WriterAt};
+    ghost use Rattle.wf_tables.specs.declared.entries.LeafAt.{LeafAt};
+
+    ghost Value = { A × (List (RowAt A.Row) × (List (LeafAt A.Begun) × (List (OpenAt A.Decision A.Verdict) × List WriterAt))) };
+
+    ghost view = { λ s. s.metered };
+}
+
+impl<'a, A: Acts> Making<'a, A> {
+    /// A run that begins.
+    pub fn fresh(alloc: Global, acts: &'a A, plan: &'a Plan) -> Result<Making<'a, A>, AllocError>
+        requires { IsPlanned (A.graph acts.now) (plan_tree plan.now) }
+        ensures acts { IfOk result (λ s. s.0 ≡ acts.now) }
+        ensures first { IfOk result (λ s. IsFirst (A.graph acts.now) (A.source acts.now) (A.depth acts.now)
+            (shown A.row_tree A.begun_tree A.decision_tree A.verdict_tree s.1)) }
+    {
+        acts.is_instance();
+        let metered = Metered::fresh(alloc, acts, plan)?;
+        Ok(Making { metered })
+    }
+
+    /// The state itself.
+    pub fn state(&self) -> &Kept<'a, A>
+        ensures { result.now ≡ self.now }
+    {
+        self.metered.state()
+    }
+
+    // What its rows, running leaves and open containers cost.
+    fn so_far(&self) -> u64
+        ensures { result ≡ cut_u64 (lists_cost A.row_tree A.begun_tree A.decision_tree A.verdict_tree (A.graph self.now.0)
+            (A.depth self.now.0) (A.source self.now.0) (A.cost_of_row self.now.0) (A.weight_of_begun self.now.0)
+            (A.weight_of_decision self.now.0) self.now.1.0 self.now.1.1.0 self.now.1.1.1.0) }
+    {
+        self.metered.cost()
+    }
+
+    /// The rows, and the run is given up.
+    pub fn into_rows(self) -> Rows<A::Row>
+        ensures { result.0 ≡ self.entry.1.0 }
+    {
+        self.metered.into_rows()
+    }
+}
+
+impl<'a, A: Tells + Pays> Machine for Making<'a, A> {
+    type Event = EventAt;
+
+    ghost Row = { A.RowTree };
+
+    ghost Begun = { A.BegunTree };
+
+    ghost Decision = { A.DecisionTree };
+
+    ghost Verdict = { A.VerdictTree };
+
+    ghost Origin = { A };
+
+    ghost graph = { A.graph };
+
+    ghost depth = { A.depth };
+
+    ghost source = { A.source };
+
+    ghost told = { A.told };
+
+    ghost meant_cost = { λ a. A.fee a + A.rows_meant a };
+
+    ghost event_tree = { event_tree };
+
+    ghost origin = { λ s. s.0 };
+
+    ghost state = { λ s. shown A.row_tree A.begun_tree A.decision_tree A.verdict_tree s.1 };
+
+    ghost cost = { λ s. A.fee s.0 + lists_cost A.row_tree A.begun_tree A.decision_tree A.verdict_tree (A.graph s.0) (A.depth s.0)
+        (A.source s.0) (A.cost_of_row s.0) (A.weight_of_begun s.0) (A.weight_of_decision s.0) s.1.0 s.1.1.0 s.1.1.1.0 };
+
+    fn is_over(&self) -> bool {
+        self.state().is_over()
+    }
+
+    fn pick(&self, alloc: Global, place: u64) -> Result<EventAt, AllocError> {
+        let kept = self.state();
+        kept.is_reached();
+        let found = kept.pick(place);
+        let instance = found.instance.copy(alloc)?;
+        Ok(EventAt {
+            instance,
+            kind: found.kind,
+        })
+    }
+
+    fn step(&mut self, alloc: Global, event: &EventAt) -> Result<(), AllocError> {
+        self.metered.step(alloc, event)
+    }
+
+    fn tell(&self, alloc: Global, event: &EventAt) -> Result<Vec<u8>, AllocError> {
+        let kept = self.state();
+        let place = &event.instance;
+        let line = kept.acts().tell(
+            alloc,
+            event,
+            kept.row(place),
+            kept.leaf(place),
+            kept.open_at(place),
+        )?;
+        Ok(line)
+    }
+
+    fn running(&self) -> u64 {
+        let kept = self.state();
+        kept.is_listed();
+        kept.running()
+    }
+
+    fn cost(&self) -> u64 {
+        let kept = self.state();
+        let first = kept.acts().first_cost();
+        first.saturating_add(self.so_far())
+    }
+
+    fn is_reached(&self) {
+        self.state().is_reached();
+    }
+
+    fn is_priced(&self) {
+        let kept = self.state();
+        kept.is_reached();
+        kept.is_listed();
+        let acts = kept.acts();
+        acts.is_instance();
+        acts.is_paid();
+    }
+}
