@@ -9,7 +9,7 @@ use Rattle.wf_done.specs.Leaf.{BegunTree, tries_in}
 use Rattle.wf_done.specs.Tracked.{tracked_value, with_own}
 use Rattle.wf_layers.specs.Address.{Address, Table}
 use Rattle.wf_look.specs.Told.{Told}
-use Rattle.wf_meaning.specs.Environment.{Environment}
+use Rattle.wf_environment.specs.Environment.{Environment}
 use Rattle.wf_meant.specs.Containers.{closed, tested}
 use Rattle.wf_meant.specs.Look.{decided_by}
 use Rattle.wf_meant.specs.Rows.{row_of, view_of}

@@ -16,8 +16,9 @@ ghost use Rattle.wf_def.specs.ActionTree.{action_kind};
 ghost use Rattle.wf_def.specs.AllActions.{numbered};
 ghost use Rattle.wf_reading.specs.ReadSeen.{def_tree};
 ghost use Rattle.wf_actions.specs.Meant.{inside_by};
-ghost use Rattle.wf_actions.specs.Meant.{cost_of_row, depth, graph, source, writes};
+ghost use Rattle.wf_actions.specs.Meant.{depth, graph, source, writes};
 ghost use Rattle.wf_doing.specs.Seen as setting;
+ghost use Rattle.wf_paying.specs.Paying.{cost_of_row};
 ghost use Rattle.wf_actions.specs.Meant.{definition_of, environment_of};
 
 use crate::actions::Actions;
@@ -33,7 +34,8 @@ use wf_opening::{Decision, Verdict};
 use wf_record::{Row, Status};
 use wf_val::Text;
 
-fn setting<'a>(actions: &Actions<'a>) -> Setting<'a>
+/// What a run of them goes by.
+pub(crate) fn setting<'a>(actions: &Actions<'a>) -> Setting<'a>
     ensures definition { setting.definition_of result ≡ definition_of actions.now }
     ensures environment { setting.environment_of result ≡ environment_of actions.now }
 {

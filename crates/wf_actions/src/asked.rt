@@ -21,6 +21,7 @@ impl<'a> Acts for Actions<'a> {
     ghost use Rattle.wf_opening.specs.DecisionSeen.{decision_tree, verdict_tree};
     ghost use Rattle.wf_opening.specs.Decisions.{DecisionTree};
     ghost use Rattle.wf_opening.specs.Verdicts.{VerdictTree};
+    ghost use Rattle.wf_paying.specs.Paying as paying;
     ghost use Rattle.wf_record.specs.Record as recorded;
     ghost use Rattle.wf_views.specs.Seen.{row_content};
     ghost use Rattle.wf_turns.specs.Turns as told;
@@ -58,7 +59,7 @@ impl<'a> Acts for Actions<'a> {
 
     ghost writes = { meant.writes };
 
-    ghost cost_of_row = { λ a. meant.cost_of_row };
+    ghost cost_of_row = { λ a. paying.cost_of_row };
 
     ghost weight_of_begun = { λ a. weights.begun_weight };
 

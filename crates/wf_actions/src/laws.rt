@@ -9,7 +9,8 @@ ghost use Rattle.wf_layers.specs.Meaning.{meaning};
 ghost use Rattle.wf_layers.specs.Variables.{OneOrder};
 ghost use Rattle.wf_record.specs.Record.{Row};
 ghost use Rattle.wf_turns.specs.Turns.{turns};
-ghost use Rattle.wf_actions.specs.Meant.{cost_of_row, depth, graph, source, writes};
+ghost use Rattle.wf_paying.specs.Paying.{cost_of_row};
+ghost use Rattle.wf_actions.specs.Meant.{depth, graph, source, writes};
 
 use crate::actions::Actions;
 use crate::opened::was_read;

@@ -7,7 +7,7 @@ use Rattle.wf_def.specs.DefTree.{DefTree}
 use Rattle.wf_done.specs.Leaf as leaf
 use Rattle.wf_done.specs.Leaf.{BegunTree, tries_in}
 use Rattle.wf_layers.specs.Address.{Address, Table}
-use Rattle.wf_meaning.specs.Environment.{Environment, fresh}
+use Rattle.wf_environment.specs.Environment.{Environment, fresh}
 use Rattle.wf_meant.specs.Look.{name_in, told_at, told_in_test}
 use Rattle.wf_meant.specs.Source.{begun, close_of, finished, test_of, tries_of}
 use Rattle.wf_opening.specs.Decisions.{DecisionTree}

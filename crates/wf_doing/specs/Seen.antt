@@ -4,7 +4,7 @@ use Rattle.wf_answers.specs.InputsSeen.{inputs_tree}
 use Rattle.wf_def.specs.DefTree.{DefTree}
 use Rattle.wf_layers.specs.Address.{Address}
 use Rattle.wf_look.specs.Told.{Told}
-use Rattle.wf_meaning.specs.Environment.{Environment, first_facts, fresh}
+use Rattle.wf_environment.specs.Environment.{Environment, first_facts, fresh}
 use Rattle.wf_reading.specs.ReadSeen.{def_tree}
 use Rattle.wf_sight.specs.Laws.{run_of}
 use Rattle.wf_sight.specs.Sight.{KnownTree, seen_at, seen_in_test}

@@ -14,7 +14,7 @@ ghost use Rattle.wf_layers.specs.Seen.{Once};
 ghost use Rattle.wf_sight.specs.Laws.{run_of};
 ghost use Rattle.wf_sight.specs.Sight.{KnownTree, seen_at, seen_in_test};
 ghost use Rattle.wf_sight.specs.Variables.{variable_in};
-ghost use Rattle.wf_meaning.specs.Environment.{Environment, facts_of, fresh};
+ghost use Rattle.wf_environment.specs.Environment.{Environment, facts_of, fresh};
 ghost use Rattle.wf_meant.specs.Look.{decided_by, name_of, told_at, told_in_test};
 ghost use Rattle.wf_meant.specs.Points.{graph_of};
 ghost use Rattle.wf_meant.specs.Source.{is_halted, source};

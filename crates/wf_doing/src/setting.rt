@@ -2,7 +2,7 @@
 ghost use Rattle.std.specs.Prelude.{◌≡◌, IfOk, map};
 ghost use Rattle.wf_asks.specs.Instances.{address_of};
 ghost use Rattle.wf_def.specs.ActionSeen.{action_tree};
-ghost use Rattle.wf_meaning.specs.Environment.{first_facts};
+ghost use Rattle.wf_environment.specs.Environment.{first_facts};
 ghost use Rattle.wf_meant.specs.Source.{tracked_of};
 ghost use Rattle.wf_sight.specs.Laws.{run_of};
 ghost use Rattle.wf_sight.specs.Seen.{known_tree};

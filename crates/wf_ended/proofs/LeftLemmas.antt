@@ -6,8 +6,8 @@ use Rattle.wf_def.specs.DefTree.{DefTree}
 use Rattle.wf_answers.specs.Inputs.{InputsTree}
 use Rattle.wf_trigger.specs.Starts.{StartTree}
 use Rattle.wf_record.specs.Record.{Row, RowTree}
-use Rattle.wf_meaning.specs.Ending.{Ending}
-use Rattle.wf_meaning.specs.Environment.{Environment, fresh}
+use Rattle.wf_environment.specs.Ending.{Ending}
+use Rattle.wf_environment.specs.Environment.{Environment, fresh}
 use Rattle.wf_meant.specs.Record.{ending_of, first_succeeded, is_response, meaning, record_of_table, responded, rows_of}
 use Rattle.wf_ended.specs.Left.{LeftTree, left_by, recorded}
 

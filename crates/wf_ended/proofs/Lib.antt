@@ -1,4 +1,3 @@
-pub mod TakenLemmas
 pub mod ListedLemmas
 pub mod TableLemmas
 pub mod NameLemmas

@@ -5,8 +5,8 @@ ghost use Rattle.wf_asks.specs.Known.{store_in, writer};
 ghost use Rattle.wf_def.specs.ActionTree.{actions_in};
 ghost use Rattle.wf_layers.specs.Address.{Address};
 ghost use Rattle.wf_layers.specs.Variables.{IsLastWritten};
-ghost use Rattle.wf_meaning.specs.Ending.{section};
-ghost use Rattle.wf_meaning.specs.Environment.{fresh, last_facts};
+ghost use Rattle.wf_environment.specs.Ending.{section};
+ghost use Rattle.wf_environment.specs.Environment.{fresh, last_facts};
 ghost use Rattle.wf_meant.specs.Containers.{is_terminate};
 ghost use Rattle.wf_meant.specs.Look.{told_to_outputs};
 ghost use Rattle.wf_meant.specs.Points.{graph_of};
@@ -34,7 +34,6 @@ use crate::first::first_succeeded;
 use crate::opened::was_read;
 use crate::outputs::values_in;
 use crate::rows::rows_of;
-use crate::taken::items;
 use std::alloc::{AllocError, Global};
 use wf_answers::Inputs;
 use wf_asks::{Known, Opens, Rows, Store};
@@ -232,7 +231,7 @@ impl<'a> Ends<'a> {
         wf_reading::numbers_are_places();
         wf_known_laws::numbers_are_had();
         let _count = rows.len();
-        let items = items(alloc, rows)?;
+        let items = rows.into_items()?;
         let there = rows_of(alloc, self.places, items)?;
         Ok(there)
     }

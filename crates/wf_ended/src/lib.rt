@@ -19,7 +19,6 @@ mod left;
 mod opened;
 mod outputs;
 mod rows;
-mod taken;
 
 pub use ending::Ending;
 pub use ends::Ends;

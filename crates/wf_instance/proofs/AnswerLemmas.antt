@@ -23,7 +23,7 @@ use Rattle.wf_done.specs.Done.{DoneTree}
 use Rattle.wf_done.specs.Leaf.{BegunTree, begun_from, ended}
 use Rattle.wf_done.specs.Tracked.{tracked_from, tracked_value}
 use Rattle.wf_done.specs.Uses.{kind_uses}
-use Rattle.wf_meaning.specs.Environment.{Environment, facts_of}
+use Rattle.wf_environment.specs.Environment.{Environment, facts_of}
 use Rattle.wf_loops.specs.Loops.{loops_of}
 use Rattle.wf_meant.specs.Containers.{closed, has_succeeded, is_terminate}
 use Rattle.wf_meant.specs.Look.{decided_by, instance, told_at, told_ending}

@@ -12,7 +12,7 @@ use Rattle.wf_def.specs.DefTree.{DefTree}
 use Rattle.wf_opening.specs.Decisions.{DecisionTree, decided}
 use Rattle.wf_opening.specs.Uses.{opening_uses}
 use Rattle.wf_record.specs.Record.{Row}
-use Rattle.wf_meaning.specs.Environment.{Environment, facts_of}
+use Rattle.wf_environment.specs.Environment.{Environment, facts_of}
 use Rattle.wf_loops.specs.Loops.{loops_of, paces_round}
 use Rattle.wf_meant.specs.Look.{Item, decided_by, decided_within, instance, item_in, items_at, items_from, name_of, told_at, told_within}
 use Rattle.wf_meant.specs.Points.{graph_of, point_of, sees}

@@ -24,7 +24,7 @@ use Rattle.wf_layers.specs.Definition as layers
 use Rattle.wf_order.specs.Indexes.{HaveSameIndexes}
 use Rattle.wf_accepted_laws.specs.Instances.{Sees}
 use Rattle.wf_trigger.specs.Starts.{StartTree}
-use Rattle.wf_meaning.specs.Environment.{Facts}
+use Rattle.wf_environment.specs.Environment.{Facts}
 use Rattle.wf_loops.specs.Loops.{left_round, paces_round}
 use Rattle.wf_loops.proofs.InsideLemmas.{seen_inside}
 use Rattle.wf_loops.proofs.LeftLemmas.{left_seen, first_is, nothing_first}

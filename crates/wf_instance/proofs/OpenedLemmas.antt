@@ -5,7 +5,7 @@ use Rattle.wf_layers.specs.Source.{Agrees}
 use Rattle.wf_order.specs.Order.{Contains}
 use Rattle.wf_def.specs.DefTree.{DefTree}
 use Rattle.wf_record.specs.Record.{Row}
-use Rattle.wf_meaning.specs.Environment.{Environment}
+use Rattle.wf_environment.specs.Environment.{Environment}
 use Rattle.wf_loops.specs.Loops.{loops_of}
 use Rattle.wf_loops.proofs.PrefixLemmas.{starts_front}
 use Rattle.wf_loops.proofs.RoundLemmas.{split_of}

@@ -17,7 +17,7 @@ use Rattle.wf_def.specs.ActionTree.{case_then}
 use Rattle.wf_def.specs.AllActions.{all_actions, cases_actions, kind_actions, numbered}
 use Rattle.wf_def.specs.DefTree.{DefTree}
 use Rattle.wf_def.specs.Layered.{layered, layered_cases, layered_kind}
-use Rattle.wf_meaning.specs.Environment.{Environment}
+use Rattle.wf_environment.specs.Environment.{Environment}
 use Rattle.wf_loops.specs.Loops.{loops_any, loops_in, loops_of}
 use Rattle.wf_meant.specs.Points.{graph_of}
 use Rattle.wf_meant.specs.Source.{source}

@@ -15,7 +15,7 @@ use Rattle.wf_def.specs.Names.{graph_names}
 use Rattle.wf_uses.specs.UsesTree.{ordered}
 use Rattle.wf_standing.specs.Standing.{standings_of}
 use Rattle.wf_accepted_laws.specs.Instances.{InstancesAreSeen}
-use Rattle.wf_meaning.specs.Environment.{Environment}
+use Rattle.wf_environment.specs.Environment.{Environment}
 use Rattle.wf_loops.proofs.EarlierLemmas.{earlier_seen}
 use Rattle.wf_loops.proofs.FewLemmas.{few_of}
 use Rattle.wf_meant.specs.Containers.{is_terminate}

@@ -29,7 +29,7 @@ use Rattle.wf_meant.specs.Containers.{tested}
 use Rattle.wf_meant.specs.Source.{source, test_of}
 use Rattle.wf_instance.proofs.OpenedLemmas.{opened_loops}
 use Rattle.wf_accepted_laws.specs.Instances.{Sees}
-use Rattle.wf_meaning.specs.Environment.{Environment, facts_of}
+use Rattle.wf_environment.specs.Environment.{Environment, facts_of}
 use Rattle.wf_loops.specs.Loops.{is_earlier, is_in_turn, left_round, loops_of, paces_round}
 use Rattle.wf_loops.proofs.LeftLemmas.{first_is, loops_has, nothing_first}
 use Rattle.wf_meant.specs.Look.{Item, instance, items_at, name_of, told_by, told_in_test}

@@ -13,7 +13,7 @@ use Rattle.wf_def.specs.ActionTree.{no_cases, case_then}
 use Rattle.wf_def.specs.AllActions.{numbered}
 use Rattle.wf_def.specs.DefTree.{DefTree}
 use Rattle.wf_def.specs.Layered.{layered, layered_cases, layered_kind}
-use Rattle.wf_meaning.specs.Environment.{Environment}
+use Rattle.wf_environment.specs.Environment.{Environment}
 use Rattle.wf_loops.specs.Loops.{loops_of}
 use Rattle.wf_opening.specs.Decisions.{DecisionTree}
 use Rattle.wf_opening.specs.Verdicts.{VerdictTree}

@@ -1,7 +1,7 @@
 //! What is known of a definition that was read, in the words of the laws of order and meaning.
 //!
 //! A workflow definition (Workflow Definition Language, schema 2016-06-01) that breaks none of the rules on its form (`wf_form`) meets the
-//! premises of the laws of `wf_layers`, `wf_order` and `wf_meaning`: in the graph that it is to them, each action's number stands once, an
+//! premises of the laws of `wf_layers`, `wf_order` and `wf_instance`: in the graph that it is to them, each action's number stands once, an
 //! action waits only for actions of its own graph, no action is its own ancestor by `runAfter`, and the numbers are those below the count
 //! of actions. What the types of `wf_def` don't say of numbers and depths is said here too: how many iterations a loop has at most, how
 //! often a request is sent again, and how deep graphs stand in one another.

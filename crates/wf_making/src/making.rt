@@ -1,6 +1,7 @@
 //! A run that is being made.
 ghost use Rattle.std.specs.Prelude.{◌≡◌, ◌+◌, IfOk};
 ghost use Rattle.wf_val.specs.Cut.{cut_u64};
+ghost use Rattle.wf_layers.specs.Machine.{fresh};
 ghost use Rattle.wf_plan.specs.PlanSeen.{plan_tree};
 ghost use Rattle.wf_tables.specs.Tables.{event_tree};
 ghost use Rattle.wf_steps.specs.Kept.{IsPlanned};
@@ -12,7 +13,7 @@ use crate::pays::Pays;
 use crate::tells::Tells;
 use std::alloc::{AllocError, Global};
 use std::marker::Model;
-use wf_asks::{Acts, Rows};
+use wf_asks::{Acts, Rows, Store};
 use wf_drive::Machine;
 use wf_metered::Metered;
 use wf_plan::Plan;
@@ -42,6 +43,7 @@ impl<'a, A: Acts> Making<'a, A> {
     pub fn fresh(alloc: Global, acts: &'a A, plan: &'a Plan) -> Result<Making<'a, A>, AllocError>
         requires { IsPlanned (A.graph acts.now) (plan_tree plan.now) }
         ensures acts { IfOk result (λ s. s.0 ≡ acts.now) }
+        ensures begins { IfOk result (λ s. shown A.row_tree A.begun_tree A.decision_tree A.verdict_tree s.1 ≡ fresh) }
         ensures first { IfOk result (λ s. IsFirst (A.graph acts.now) (A.source acts.now) (A.depth acts.now)
             (shown A.row_tree A.begun_tree A.decision_tree A.verdict_tree s.1)) }
     {
@@ -66,11 +68,12 @@ impl<'a, A: Acts> Making<'a, A> {
         self.metered.cost()
     }
 
-    /// The rows, and the run is given up.
-    pub fn into_rows(self) -> Rows<A::Row>
-        ensures { result.0 ≡ self.entry.1.0 }
+    /// The rows and the last writers, and the run is given up.
+    pub fn into_parts(self) -> (Rows<A::Row>, Store)
+        ensures rows { result.0.0 ≡ self.entry.1.0 }
+        ensures store { result.1.0 ≡ self.entry.1.1.1.1 }
     {
-        self.metered.into_rows()
+        self.metered.into_parts()
     }
 }
 

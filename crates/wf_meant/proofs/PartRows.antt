@@ -24,7 +24,7 @@ use Rattle.wf_record.specs.declared.status.Status.TheVariants.{Succeeded, Failed
 use Rattle.wf_opening.specs.Decisions.{nothing, chosen, each, too_many, faulty}
 use Rattle.wf_opening.specs.Verdicts.{met, astray}
 use Rattle.wf_done.specs.Done as done
-use Rattle.wf_meaning.specs.Environment.{Environment}
+use Rattle.wf_environment.specs.Environment.{Environment}
 use Rattle.wf_meant.specs.Containers.{closed, closed_as, failed_by, iterations_value}
 use Rattle.wf_meant.specs.Look.{index_in, name_of, told_at, told_in_test, told_to_outputs}
 use Rattle.wf_meant.specs.Points.{point_of, point_of_outputs, point_of_test, sees}

@@ -20,7 +20,7 @@ use Rattle.wf_record.specs.declared.attempt.Try.{Try}
 use Rattle.wf_record.specs.declared.status.Status.{Status}
 use Rattle.wf_record.specs.declared.status.RunStatus.{RunStatus}
 use Rattle.wf_done.specs.Done as done
-use Rattle.wf_meaning.specs.Environment.{Environment, fresh}
+use Rattle.wf_environment.specs.Environment.{Environment, fresh}
 use Rattle.wf_meant.specs.Record.{depth_of, rows_of}
 use Rattle.wf_meant.specs.Rows as known
 use Rattle.wf_meant.specs.Source.{table_of}

@@ -14,7 +14,7 @@ use Rattle.wf_trigger.specs.Starts.{StartTree}
 use Rattle.wf_record.specs.Record.{Row}
 use Rattle.wf_opening.specs.Decisions.{DecisionTree, nothing, each, decided}
 use Rattle.wf_done.specs.Tracked.{with_own}
-use Rattle.wf_meaning.specs.Environment.{Environment, Facts, facts_of, last_facts}
+use Rattle.wf_environment.specs.Environment.{Environment, Facts, facts_of, last_facts}
 use Rattle.wf_meant.specs.Points.{Point, point_of, point_of_outputs, point_of_test}
 use Rattle.wf_meant.specs.References.{result_at, view_at}
 use Rattle.wf_meant.specs.Variables.{variable_at}

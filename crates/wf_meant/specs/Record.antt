@@ -12,8 +12,8 @@ use Rattle.wf_def.specs.Names.{graph_names}
 use Rattle.wf_record.specs.Record.{RecordTree, Row, RowTree}
 use Rattle.wf_record.specs.declared.status.RunStatus.{RunStatus}
 use Rattle.wf_data.specs.Simple.{run_status_of}
-use Rattle.wf_meaning.specs.Ending.{Ending, ending, section}
-use Rattle.wf_meaning.specs.Environment.{Environment, last_facts}
+use Rattle.wf_environment.specs.Ending.{Ending, ending, section}
+use Rattle.wf_environment.specs.Environment.{Environment, last_facts}
 use Rattle.wf_meant.specs.Containers.{has_succeeded, is_terminate}
 use Rattle.wf_meant.specs.Look.{instance, told_to_outputs}
 use Rattle.wf_meant.specs.Points.{is_before, point_of_outputs}

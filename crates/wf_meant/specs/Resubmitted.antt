@@ -14,7 +14,7 @@ use Rattle.wf_record.specs.Record.{RecordTree, Row, RowTree, find_row}
 use Rattle.wf_opening.specs.Decisions.{DecisionTree, nothing, chosen_as, held_as}
 use Rattle.wf_opening.specs.Verdicts.{VerdictTree}
 use Rattle.wf_done.specs.Leaf.{BegunTree}
-use Rattle.wf_meaning.specs.Environment.{Environment, fresh}
+use Rattle.wf_environment.specs.Environment.{Environment, fresh}
 use Rattle.wf_meant.specs.Look.{instance}
 use Rattle.wf_meant.specs.Points.{graph_of}
 use Rattle.wf_meant.specs.Record.{depth_of, record_of_table}

@@ -19,8 +19,8 @@ use Rattle.wf_done.specs.Done.{DoneTree}
 use Rattle.wf_done.specs.Leaf as leaf
 use Rattle.wf_done.specs.Leaf.{BegunTree, acted, tries_in}
 use Rattle.wf_done.specs.Tracked.{tracked_value}
-use Rattle.wf_meaning.specs.Environment.{Environment, facts_of}
-use Rattle.wf_meaning.specs.Statuses.{status_tree}
+use Rattle.wf_environment.specs.Environment.{Environment, facts_of}
+use Rattle.wf_environment.specs.Statuses.{status_tree}
 use Rattle.wf_meant.specs.Containers.{closed, has_succeeded, is_terminate, tested}
 use Rattle.wf_meant.specs.Look.{decided_by, instance, told_at, told_ending, told_in_test}
 use Rattle.wf_meant.specs.Points.{graph_of, is_before}

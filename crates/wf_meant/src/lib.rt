@@ -8,8 +8,8 @@
 //! `specs/Containers` which rows containers end with, and `specs/Record` reads the record of `wf_record` off the table of rows: the run's
 //! status and error, its response, the section `outputs`, and the rows in the order of their addresses.
 //!
-//! The environment of a run, the section `outputs` and how a run ends without a Terminate are those of `wf_meaning`, whose definitions are
-//! of flat definitions of Compose actions. The machine and the program stand on those still.
+//! The environment of a run, the section `outputs` and how a run ends without a Terminate are those of `wf_environment`. The runs that the
+//! program makes leave these records (`wf_run`).
 //!
 //! It has no code: each public function does nothing, and its contract is a law. Worked definitions of every kind, with the records that
 //! they mean, stand in `proofs/`.
@@ -17,7 +17,7 @@
 
 ghost use Rattle.std.specs.Prelude.{◌≡◌};
 ghost use Rattle.wf_def.specs.DefTree.{DefTree};
-ghost use Rattle.wf_meaning.specs.Environment.{Environment};
+ghost use Rattle.wf_environment.specs.Environment.{Environment};
 ghost use Rattle.wf_meant.specs.Record.{depth_of, meaning, record_of_table, rows_of};
 ghost use Rattle.wf_meant.specs.Source.{table_of};
 

@@ -20,8 +20,8 @@ use Rattle.wf_varorder.specs.Pairs.{writes_if}
 use Rattle.wf_accepted_laws.specs.Variables.{VariablesAreInOneOrder, WritesIt}
 use Rattle.wf_record.specs.Record.{Row}
 use Rattle.wf_record.specs.declared.status.Status.{Status}
-use Rattle.wf_meaning.specs.Environment.{Environment}
-use Rattle.wf_meaning.specs.Statuses.{status_tree}
+use Rattle.wf_environment.specs.Environment.{Environment}
+use Rattle.wf_environment.specs.Statuses.{status_tree}
 use Rattle.wf_meant.specs.Points.{graph_of}
 use Rattle.wf_meant.specs.Source.{source}
 use Rattle.wf_meant.specs.Variables.{given_as, given_by}

@@ -32,7 +32,7 @@ use Rattle.wf_record.specs.declared.status.Status.{Status}
 use Rattle.wf_layers.specs.Seen.{Once}
 use Rattle.wf_order.specs.Turns.{IsInstance}
 use Rattle.wf_loops.proofs.InsideLemmas.{kind_has}
-use Rattle.wf_meaning.specs.Environment.{Environment}
+use Rattle.wf_environment.specs.Environment.{Environment}
 use Rattle.wf_meant.specs.Containers.{close_foreach, close_until, iterations_value, last_status}
 use Rattle.wf_meant.specs.Points.{graph_of}
 use Rattle.wf_meant.specs.Rows.{iterations_of}

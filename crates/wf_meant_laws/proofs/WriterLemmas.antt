@@ -15,7 +15,7 @@ use Rattle.wf_def.specs.AllActions.{all_actions, has_number, numbered}
 use Rattle.wf_def.specs.DefTree.{DefTree}
 use Rattle.wf_loops.specs.Loops.{loops_of}
 use Rattle.wf_record.specs.Record.{Row}
-use Rattle.wf_meaning.specs.Environment.{Environment}
+use Rattle.wf_environment.specs.Environment.{Environment}
 use Rattle.wf_meant.specs.Points.{Point, graph_of, sees}
 use Rattle.wf_meant.specs.Source.{source}
 use Rattle.wf_meant.specs.Variables.{Written, given_by, indexes_from, instances_at, last_from, seen_by, variable_at, writes, written_at}

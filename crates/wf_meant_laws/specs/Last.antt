@@ -8,7 +8,7 @@ use Rattle.wf_def.specs.DefTree.{DefTree}
 use Rattle.wf_order.specs.Turns.{IsInstance}
 use Rattle.wf_accepted_laws.specs.Variables.{ReadsIt, WritesIt}
 use Rattle.wf_record.specs.Record.{Row}
-use Rattle.wf_meaning.specs.Environment.{Environment}
+use Rattle.wf_environment.specs.Environment.{Environment}
 use Rattle.wf_meant.specs.Points.{Point, graph_of, point_of, point_of_test}
 use Rattle.wf_meant.specs.Source.{source}
 use Rattle.wf_meant.specs.Variables.{variable_at}

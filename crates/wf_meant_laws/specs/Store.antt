@@ -11,7 +11,7 @@ use Rattle.wf_opening.specs.Decisions.{DecisionTree}
 use Rattle.wf_opening.specs.Verdicts.{VerdictTree}
 use Rattle.wf_done.specs.Leaf.{BegunTree}
 use Rattle.wf_record.specs.Record.{Row}
-use Rattle.wf_meaning.specs.Environment.{Environment}
+use Rattle.wf_environment.specs.Environment.{Environment}
 use Rattle.wf_meant.specs.Points.{Point, graph_of, point_of, point_of_test}
 use Rattle.wf_meant.specs.Source.{source}
 use Rattle.wf_meant.specs.Variables.{variable_at}

@@ -13,7 +13,7 @@ ghost use Rattle.wf_steps.specs.Shown.{shown};
 
 use std::alloc::{AllocError, Global};
 use std::marker::Model;
-use wf_asks::{Acts, Instance, Rows};
+use wf_asks::{Acts, Instance, Rows, Store};
 use wf_meter::{block, block_part, leaf_part, open_part, total};
 use wf_plan::Plan;
 use wf_steps::State;
@@ -114,11 +114,12 @@ impl<'a, A: Acts> Metered<'a, A> {
         &self.state
     }
 
-    /// The rows, and the state is given up.
-    pub fn into_rows(self) -> Rows<A::Row>
-        ensures { result.0 ≡ self.entry.1.0 }
+    /// The rows and the last writers, and the state is given up.
+    pub fn into_parts(self) -> (Rows<A::Row>, Store)
+        ensures rows { result.0.0 ≡ self.entry.1.0 }
+        ensures store { result.1.0 ≡ self.entry.1.1.1.1 }
     {
-        self.state.into_rows()
+        self.state.into_parts()
     }
 
     /// What the state costs: its rows, running leaves and open containers; cut to the greatest u64.

@@ -1,11 +1,11 @@
 //! The line below a record's, on how its run went.
 ghost use Rattle.std.specs.Prelude.{◌≡◌, IfOk};
-ghost use Rattle.wf_printed.specs.Summary.{summary_line};
+ghost use Rattle.wf_told.specs.Summary.{summary_line};
 
 use std::alloc::{AllocError, Global};
 
 /// The line on how a run went.
-#[tactic(auto, unfolding(crate::specs::Summary::summary_line))]
+#[tactic(auto, unfolding(wf_told::specs::Summary::summary_line))]
 pub(crate) fn summary_line(
     alloc: Global,
     run: &str,

@@ -2,8 +2,8 @@
 ghost use Rattle.std.specs.Prelude.{◌≡◌, ◌≤◌, ◌+◌, ◌++◌, [], IfOk};
 ghost use Rattle.wf_record.specs.Cost.{cost};
 ghost use Rattle.wf_record.specs.Seen.{record_tree};
-ghost use Rattle.wf_printed.specs.Seen.{told};
-ghost use Rattle.wf_printed.specs.Text.{run_text};
+ghost use Rattle.wf_run.specs.Seen.{told};
+ghost use Rattle.wf_told.specs.Text.{run_text};
 
 use crate::summary::summary_line;
 use std::alloc::{AllocError, Global};

@@ -5,9 +5,15 @@
 //! behind it can't fail. Its contract sees the items as a plain list in order, by the functions of `wf_lists`, and beside it for how many
 //! more items there is room: `put` asks for room for one, and takes room for one at most; no other edit takes any.
 //!
-//! It isn't a list to be read whole: items are asked for by key or by place. For that, and where an edit may fail, `wf_lists` has `Sorted`.
+//! Each item stands in a cell of its own on the heap, and the cells of the items to come are made by `make_room`: so an edit before many
+//! other items shifts their cells' addresses alone, whatever the size of an item.
+//!
+//! It isn't a list to be read whole before it is used up: items are asked for by key or by place. For that, and where an edit may fail,
+//! `wf_lists` has `Sorted`.
 #![tactic(auto)]
 
+mod full;
 mod roomy;
+mod still;
 
 pub use roomy::Roomy;

@@ -1,28 +1,27 @@
 //! A list in order, with room.
-ghost use Rattle.std.specs.Prelude.{◌≡◌, ◌<◌, ◌≤◌, ◌+◌, ◌^◌, [], length, IfOk, IfErr, OnOk, OnErr, Some, None, insert, option_map, slice_get, slice_index_or, slice_set, vec_capacity};
-ghost use Rattle.std.specs.List.Sorted.{IsSearchInRange};
-ghost use Rattle.wf_lists.specs.KeyOrder.{IsInKeyOrder, find_key, put_key, without_key, IsKeyPlace, IsKeyGap};
+ghost use Rattle.std.specs.Prelude.{◌≡◌, ◌<◌, ◌≤◌, ◌+◌, ◌^◌, [], length, IfOk, IfErr, OnOk, OnErr, Some, None, option_map, slice_get};
+ghost use Rattle.wf_lists.specs.KeyOrder.{IsInKeyOrder, find_key, put_key, without_key};
 
+use crate::still::Still;
 use std::alloc::{AllocError, Global};
 use std::marker::Model;
-use std::mem;
 use wf_lists::Keyed;
 
 /// Items in ascending order of their keys, each key once; seen as their list, and for how many more there is room.
 #[derive(Drop)]
 pub struct Roomy<T: Keyed> {
-    items: Vec<T>,
+    items: Still<T>,
 }
 
 impl<T: Keyed> Model for Roomy<T> {
-    ghost use Rattle.std.specs.Prelude.{List, ℕ, ◌-◌, length, vec_capacity};
+    ghost use Rattle.std.specs.Prelude.{List, ℕ};
     ghost use Rattle.wf_lists.specs.KeyOrder.{IsInKeyOrder};
 
     ghost Value = { List T × ℕ };
 
-    ghost view = { λ a. (a.items.items, vec_capacity a.items - length a.items.items) };
+    ghost view = { λ a. a.items };
 
-    ghost invariant = { λ a. IsInKeyOrder T.Key.cmp T.key_of a.items.items };
+    ghost invariant = { λ a. IsInKeyOrder T.Key.cmp T.key_of a.items.0 };
 }
 
 impl<T: Keyed> Roomy<T> {
@@ -31,7 +30,7 @@ impl<T: Keyed> Roomy<T> {
         ensures { result.0 ≡ [] }
     {
         Roomy {
-            items: Vec::new(alloc),
+            items: Still::new(alloc),
         }
     }
 
@@ -43,7 +42,7 @@ impl<T: Keyed> Roomy<T> {
         ensures room { OnOk result (more ≤ self.new.1) }
         ensures kept { self.old.1 ≤ self.new.1 }
     {
-        self.items.reserve(more)
+        self.items.make_room(more)
     }
 
     /// How many items there are.
@@ -52,7 +51,7 @@ impl<T: Keyed> Roomy<T> {
         ensures in_range { result < 2 ^ 63 }
         ensures in_order { IsInKeyOrder T.Key.cmp T.key_of self.now.0 }
     {
-        self.items.len() as u64
+        self.items.len()
     }
 
     /// The item at a place in the order of keys, counted from 0.
@@ -61,15 +60,15 @@ impl<T: Keyed> Roomy<T> {
         ensures item { slice_get self.now.0 place ≡ Some result.now }
         ensures in_order { IsInKeyOrder T.Key.cmp T.key_of self.now.0 }
     {
-        &self.items[place as usize]
+        self.items.at(place as usize)
     }
 
     /// The item of a key, by a binary search.
     pub fn get(&self, key: &T::Key) -> Option<&T>
         ensures { option_map (λ t. t.now) result ≡ find_key T.Key.cmp T.key_of key.now self.now.0 }
     {
-        match place_of(&self.items, key) {
-            Ok(place) => Some(&self.items[place]),
+        match self.items.place_of(key) {
+            Ok(place) => Some(self.items.at(place)),
             Err(_) => None,
         }
     }
@@ -82,12 +81,12 @@ impl<T: Keyed> Roomy<T> {
         ensures items { self.new.0 ≡ put_key T.Key.cmp T.key_of item self.old.0 }
         ensures room { self.old.1 ≤ self.new.1 + 1 }
     {
-        match place_of(&self.items, item.key()) {
+        match self.items.place_of(item.key()) {
             Ok(place) => {
-                self.items[place] = item;
+                let _ = self.items.replace(place, item);
             }
             Err(place) => {
-                insert_in_room(&mut self.items, place, item);
+                self.items.insert(place, item);
             }
         }
     }
@@ -102,8 +101,8 @@ impl<T: Keyed> Roomy<T> {
         ensures err { OnErr result (self.new.0 ≡ self.old.0) }
         ensures room { self.old.1 ≤ self.new.1 }
     {
-        match place_of(&self.items, item.key()) {
-            Ok(place) => Ok(replace_at(&mut self.items, place, item)),
+        match self.items.place_of(item.key()) {
+            Ok(place) => Ok(self.items.replace(place, item)),
             Err(_) => Err(item),
         }
     }
@@ -115,39 +114,18 @@ impl<T: Keyed> Roomy<T> {
         ensures room { self.old.1 ≤ self.new.1 }
         ensures in_order { IsInKeyOrder T.Key.cmp T.key_of self.old.0 }
     {
-        match place_of(&self.items, key) {
+        match self.items.place_of(key) {
             Ok(place) => Some(self.items.remove(place)),
             Err(_) => None,
         }
     }
-}
-
-// The place of the key among the items, or the place where an item of it would go.
-fn place_of<T: Keyed>(items: &[T], key: &T::Key) -> Result<usize, usize>
-    requires { IsInKeyOrder T.Key.cmp T.key_of items.now }
-    ensures in_range { IsSearchInRange result (length items.now) }
-    ensures place { IfOk result (IsKeyPlace T.Key.cmp T.key_of key.now items.now) }
-    ensures gap { IfErr result (IsKeyGap T.Key.cmp T.key_of key.now items.now) }
-{
-    items.binary_search_by(|item| item.key().cmp(key))
-}
-
-// Shifts the items from a place on up, and puts one there.
-fn insert_in_room<T: Drop>(items: &mut Vec<T>, place: usize, item: T)
-    requires place { place ≤ length items.old.items }
-    requires room { length items.old.items < vec_capacity items.old }
-    ensures items { items.new.items ≡ insert items.old.items place item }
-    ensures capacity { vec_capacity items.old ≤ vec_capacity items.new }
-{
-    let _ = items.insert(place, item);
-}
-
-// Puts an item in the place of another.
-fn replace_at<T>(items: &mut Vec<T>, place: usize, item: T) -> T
-    requires { place < length items.old.items }
-    ensures before { result ≡ slice_index_or items.old.items place result }
-    ensures items { items.new.items ≡ slice_set items.old.items place item }
-    ensures capacity { vec_capacity items.old ≡ vec_capacity items.new }
-{
-    mem::replace(&mut items[place], item)
+    /// The items, in order.
+    pub fn into_items(self) -> Result<Vec<T>, AllocError>
+    where
+        T: Drop,
+        ensures { IfOk result (λ items. items.items ≡ self.0) }
+    {
+        let Roomy { items } = self;
+        items.into_items()
+    }
 }

@@ -1,5 +1,1 @@
-pub mod Schedule
-pub mod Reading
-pub mod Turns
-pub mod Limit
-pub mod Scheduled
+pub mod Seen

@@ -1,25 +1,21 @@
-//! Runs under a schedule: which of the events that are enabled comes next, again and again, until none is enabled.
+//! Runs under a schedule: which of the events that may happen comes next, again and again, until none may.
 //!
-//! A schedule is a list of numbers, and turn k takes the enabled event at the place that its number k names, counted around; after the
-//! schedule's end each turn takes the first (`specs/Turns`). `read_schedule` reads one from a file that has a number on each line
-//! (`specs/Schedule`). `drive` runs a new state of `wf_machine` on to its end, counts its events, and how many actions were running at a
-//! time at most, and keeps a line for each event where that is asked for. It gives up where the run costs too much, and says so exactly
-//! then. `run_under` makes a run as a whole: its record, and how it went.
+//! `Runnable` is an accepted definition that was made ready for its runs; `run` makes one: it drives the event machine on under the
+//! schedule, counts its events and how many leaves were running at a time at most, keeps a line for each event where that is asked for, and
+//! makes the record that the run leaves. It gives up where the run costs too much, and says so exactly then.
 //!
-//! Which events come, how many they are, the peak and the lines are said once more without any state, as functions of what is run and of
-//! the schedule (`specs/Scheduled`). `a_schedule_leads_one_run` says that they are those of the machine, whatever it keeps.
+//! What a run is, without any state that the machine keeps, is said by `wf_told`: one list of events, by which all is told but the record,
+//! which is the definition's meaning whatever the events are.
 //!
-//! That the rows don't depend on the schedule is said by the machine below; this crate makes no row.
+//! What actions do is said below (`wf_actions`), and so is how the machine keeps what has happened (`wf_making`). What a `Runnable` is made of
+//! is handed on, so that who makes runs names no crate below this one for it.
 #![tactic(auto)]
 
-mod driving;
-mod fault;
-mod laws;
-mod reading;
+mod made;
 mod run;
+mod runnable;
 
-pub use driving::{DriveFault, Driven, drive};
-pub use fault::ScheduleFault;
-pub use laws::a_schedule_leads_one_run;
-pub use reading::read_schedule;
-pub use run::{Ended, run_under};
+pub use run::Ended;
+pub use runnable::Runnable;
+pub use wf_actions::Ready;
+pub use wf_ended::Ends;

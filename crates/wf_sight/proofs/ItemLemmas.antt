@@ -10,7 +10,7 @@ use Rattle.wf_def.specs.DefTree.{DefTree}
 use Rattle.wf_record.specs.Record.{Row}
 use Rattle.wf_opening.specs.Decisions.{DecisionTree, nothing, held, chosen, each, too_many, faulty}
 use Rattle.wf_opening.specs.Verdicts.{VerdictTree}
-use Rattle.wf_meaning.specs.Environment.{Environment}
+use Rattle.wf_environment.specs.Environment.{Environment}
 use Rattle.wf_loops.specs.Loops.{loops_of}
 use Rattle.wf_loops.proofs.RoundLemmas.{split_of}
 use Rattle.wf_meant.specs.Look.{Item, decided_within, item_as, item_in, items_from, name_of}

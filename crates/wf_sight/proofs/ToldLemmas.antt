@@ -11,7 +11,7 @@ use Rattle.wf_layers.specs.Seen.{Once}
 use Rattle.wf_asks.specs.Known.{IsInformed, IsInformedAtTest}
 use Rattle.wf_def.specs.DefTree.{DefTree}
 use Rattle.wf_loops.specs.Loops.{loops_of}
-use Rattle.wf_meaning.specs.Environment.{Environment, Facts, facts_of, last_facts}
+use Rattle.wf_environment.specs.Environment.{Environment, Facts, facts_of, last_facts}
 use Rattle.wf_meant.specs.Look.{Item, index_in, instance, items_at, name_of, told_at, told_in_test, told_to_outputs}
 use Rattle.wf_meant.specs.Points.{Point, graph_of, point_of, point_of_outputs, point_of_test}
 use Rattle.wf_meant.specs.References.{result_at, view_at}

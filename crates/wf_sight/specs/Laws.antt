@@ -3,7 +3,7 @@ use Rattle.std.specs.Prelude.{◌≡◌, ℕ, length}
 use Rattle.wf_look.specs.Told.{Told}
 use Rattle.wf_def.specs.DefTree.{DefTree}
 use Rattle.wf_loops.specs.Loops.{loops_of}
-use Rattle.wf_meaning.specs.Environment.{Environment, Facts}
+use Rattle.wf_environment.specs.Environment.{Environment, Facts}
 use Rattle.wf_meant.specs.Points.{Point, graph_of}
 use Rattle.wf_views.specs.Loops.{beyond, common}
 use Rattle.wf_sight.specs.Sight.{KnownTree, RunTree}

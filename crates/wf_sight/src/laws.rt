@@ -5,7 +5,7 @@ ghost use Rattle.wf_layers.specs.Address.{Address};
 ghost use Rattle.wf_layers.specs.Definition.{Graph, Kind};
 ghost use Rattle.wf_layers.specs.Seen.{Once};
 ghost use Rattle.wf_def.specs.DefTree.{DefTree};
-ghost use Rattle.wf_meaning.specs.Environment.{Environment, facts_of, last_facts};
+ghost use Rattle.wf_environment.specs.Environment.{Environment, facts_of, last_facts};
 ghost use Rattle.wf_meant.specs.Look.{name_of, told_at, told_in_test, told_to_outputs};
 ghost use Rattle.wf_meant.specs.Points.{graph_of};
 ghost use Rattle.wf_meant.specs.Source.{source};

@@ -20,7 +20,7 @@ use Rattle.wf_opening.specs.Verdicts.{VerdictTree, tested_from}
 use Rattle.wf_done.specs.Leaf.{begun, begun_from}
 use Rattle.wf_done.specs.Uses.{kind_uses}
 use Rattle.wf_record.specs.Record.{Row}
-use Rattle.wf_meaning.specs.Environment.{Environment}
+use Rattle.wf_environment.specs.Environment.{Environment}
 use Rattle.wf_meant.specs.Containers.{tested}
 use Rattle.wf_meant.specs.Look.{decided_by, told_at, told_in_test}
 use Rattle.wf_meant.specs.Source as source_of

@@ -31,7 +31,7 @@ use Rattle.wf_done.specs.Done.{DoneTree, faulted, succeeded}
 use Rattle.wf_done.specs.Leaf.{begun_from, done_of, ended, made_by}
 use Rattle.wf_record.specs.Record.{Row}
 use Rattle.wf_record.specs.declared.status.Status.{Status}
-use Rattle.wf_meaning.specs.Environment.{Environment, facts_of}
+use Rattle.wf_environment.specs.Environment.{Environment, facts_of}
 use Rattle.wf_meant.specs.Look.{instance, told_at}
 use Rattle.wf_meant.specs.Source.{begun, finished}
 use Rattle.wf_meant.specs.Variables.{given_as, given_by}

@@ -10,7 +10,7 @@ use Rattle.wf_layers.proofs.Basics.{two, unless}
 use Rattle.wf_asks.specs.Known.{writer}
 use Rattle.wf_def.specs.DefTree.{DefTree}
 use Rattle.wf_record.specs.Record.{Row}
-use Rattle.wf_meaning.specs.Environment.{Environment}
+use Rattle.wf_environment.specs.Environment.{Environment}
 use Rattle.wf_meant.specs.Points.{Point, graph_of}
 use Rattle.wf_meant.specs.Source.{source}
 use Rattle.wf_meant.specs.Variables.{given_by, variable_at}

@@ -9,7 +9,7 @@ use Rattle.wf_def.specs.DefTree.{DefTree}
 use Rattle.wf_opening.specs.Decisions.{DecisionTree}
 use Rattle.wf_opening.specs.Verdicts.{VerdictTree}
 use Rattle.wf_accepted_laws.specs.Variables.{ReadsIt, WritesIt}
-use Rattle.wf_meaning.specs.Environment.{Environment}
+use Rattle.wf_environment.specs.Environment.{Environment}
 use Rattle.wf_meant.specs.Points.{graph_of}
 use Rattle.wf_meant.specs.Source.{source}
 use Rattle.wf_meant_laws.specs.Store.{Accesses}

@@ -7,7 +7,7 @@ use Rattle.wf_asks.specs.Known.{writer}
 use Rattle.wf_def.specs.DefTree.{DefTree}
 use Rattle.wf_loops.specs.Loops.{loops_of}
 use Rattle.wf_record.specs.Record.{Row}
-use Rattle.wf_meaning.specs.Environment.{Environment}
+use Rattle.wf_environment.specs.Environment.{Environment}
 use Rattle.wf_seen_laws.proofs.RoundLemmas.{none_split}
 use Rattle.wf_meant.specs.Look.{told_to_outputs}
 use Rattle.wf_meant.specs.Points.{graph_of, point_of_outputs}

@@ -20,7 +20,7 @@ use Rattle.wf_loops.specs.Loops.{loops_of}
 use Rattle.wf_refs.specs.Sites.{writes_of}
 use Rattle.wf_record.specs.Record.{Row}
 use Rattle.wf_record.specs.declared.status.Status.{Status}
-use Rattle.wf_meaning.specs.Environment.{Environment}
+use Rattle.wf_environment.specs.Environment.{Environment}
 use Rattle.wf_meant.specs.Points.{graph_of}
 use Rattle.wf_meant.specs.Rows.{skipped}
 use Rattle.wf_meant.specs.Source.{source}

@@ -14,7 +14,7 @@ use Rattle.wf_refs.specs.Sites.{test_uses}
 use Rattle.wf_asks.specs.Known.{HoldsLast, HoldsLastAtTest, IsInformed, IsInformedAtTest}
 use Rattle.wf_opening.specs.Uses.{opening_uses}
 use Rattle.wf_done.specs.Uses.{kind_uses}
-use Rattle.wf_meaning.specs.Environment.{Environment}
+use Rattle.wf_environment.specs.Environment.{Environment}
 use Rattle.wf_meant.specs.Look.{told_at, told_in_test}
 use Rattle.wf_meant.specs.Points.{graph_of}
 use Rattle.wf_meant.specs.Record.{depth_of}

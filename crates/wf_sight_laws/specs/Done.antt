@@ -12,7 +12,7 @@ use Rattle.wf_asks.specs.Known.{HoldsLast, HoldsLastAtTest, IsInformed, IsInform
 use Rattle.wf_opening.specs.Decisions.{decided}
 use Rattle.wf_done.specs.Leaf.{begun}
 use Rattle.wf_done.specs.Tracked.{tracked_value, with_own}
-use Rattle.wf_meaning.specs.Environment.{Environment, facts_of, last_facts}
+use Rattle.wf_environment.specs.Environment.{Environment, facts_of, last_facts}
 use Rattle.wf_meant.specs.Containers.{tested}
 use Rattle.wf_meant.specs.Look.{name_of, told_ending, told_to_outputs}
 use Rattle.wf_meant.specs.Points.{graph_of}

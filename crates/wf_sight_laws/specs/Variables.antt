@@ -6,7 +6,7 @@ use Rattle.wf_def.specs.DefTree.{DefTree}
 use Rattle.wf_accepted_laws.specs.Variables.{ReadsIt, WritesIt}
 use Rattle.wf_asks.specs.Known.{HoldsLast, HoldsLastAtTest, IsInformed, IsInformedAtTest, MayRead, writer}
 use Rattle.wf_record.specs.Record.{Row}
-use Rattle.wf_meaning.specs.Environment.{Environment}
+use Rattle.wf_environment.specs.Environment.{Environment}
 use Rattle.wf_meant.specs.Points.{graph_of, point_of, point_of_test}
 use Rattle.wf_meant.specs.Record.{depth_of}
 use Rattle.wf_meant.specs.Source.{source, table_of}

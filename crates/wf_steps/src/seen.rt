@@ -1,18 +1,19 @@
 //! What is asked of a state.
-ghost use Rattle.std.specs.Prelude.{◌≡◌, ◌<◌, ◌^◌, length, option_map};
+ghost use Rattle.std.specs.Prelude.{◌≡◌, ◌<◌, ◌^◌, ℕ, length, option_map};
 ghost use Rattle.wf_lists.specs.KeyOrder.{IsInKeyOrder};
 ghost use Rattle.wf_layers.specs.Address.{Address};
 ghost use Rattle.wf_layers.specs.Meaning.{meaning};
+ghost use Rattle.wf_layers.specs.Variables.{IsLastWritten};
 ghost use Rattle.wf_kept.specs.Reached.{IsReached};
 ghost use Rattle.wf_asks.specs.Instances.{address_of, instance_cmp};
-ghost use Rattle.wf_asks.specs.Known.{open_tree};
+ghost use Rattle.wf_asks.specs.Known.{open_tree, store_in, writer};
 ghost use Rattle.wf_plan.specs.PlanSeen.{plan_tree};
 ghost use Rattle.wf_tables.specs.Tables.{leaf_tree};
 ghost use Rattle.wf_steps.specs.Kept.{IsOver, IsPlanned};
 ghost use Rattle.wf_steps.specs.Shown.{shown};
 
 use crate::state::State;
-use wf_asks::{Acts, Instance, OpenAt, Opens, Rows};
+use wf_asks::{Acts, Instance, OpenAt, Opens, Rows, Store};
 use wf_plan::Plan;
 use wf_room::Roomy;
 use wf_tables::LeafAt;
@@ -73,11 +74,13 @@ impl<'a, A: Acts> State<'a, A> {
         &self.opens
     }
 
-    /// The rows, and the state is given up.
-    pub fn into_rows(self) -> Rows<A::Row>
-        ensures { result.0 ≡ self.entry.1.0 }
+    /// The rows and the last writers, and the state is given up.
+    pub fn into_parts(self) -> (Rows<A::Row>, Store)
+        ensures rows { result.0.0 ≡ self.entry.1.0 }
+        ensures store { result.1.0 ≡ self.entry.1.1.1.1 }
     {
-        self.rows
+        let State { rows, store, .. } = self;
+        (rows, store)
     }
 
     /// What the actions do.
@@ -122,6 +125,14 @@ impl<'a, A: Acts> State<'a, A> {
             (shown A.row_tree A.begun_tree A.decision_tree A.verdict_tree self.now.1) }
         ensures { (x : Address) → (shown A.row_tree A.begun_tree A.decision_tree A.verdict_tree self.now.1).rows x
             ≡ meaning (A.source self.now.0) (A.depth self.now.0) (A.graph self.now.0) x }
+    {
+        self.acts.is_instance();
+    }
+
+    /// The last writers are those of the rows that are there.
+    pub fn is_last(&self)
+        ensures { (v : ℕ) → IsLastWritten (A.graph self.now.0) (A.source self.now.0) (writer (A.writes self.now.0) v)
+            (shown A.row_tree A.begun_tree A.decision_tree A.verdict_tree self.now.1).rows (store_in self.now.1.1.1.1 v) }
     {
         self.acts.is_instance();
     }

@@ -8,7 +8,7 @@ use Rattle.std.proofs.lemmas.Grind.{common_steps}
 use Rattle.std.proofs.lemmas.List.Elements.{Contains-get_or}
 use Rattle.std.proofs.lemmas.Option.{get_or_from_slice_get, slice_get_within}
 use Rattle.wf_outside.specs.Outside.{Held}
-use Rattle.wf_top.specs.Plan.{Plan, Says, Reads, ComesTo, AsksAmong}
+use Rattle.wf_top.specs.Plan.{Plan, Says, Reads, Makes, ComesTo, AsksAmong}
 use Rattle.wf_answers.specs.Inputs.{InputsTree}
 use Rattle.wf_def.specs.DefTree.{DefTree}
 use Rattle.wf_history.specs.History.{ListedTree}
@@ -19,14 +19,13 @@ use Rattle.wf_val.specs.ValueTree.{ValueTree}
 use Rattle.wf_top.specs.Fires.{trigger_in}
 use Rattle.wf_top.specs.Form.{definition_form, inputs_form, listing_form, schedule_form, value_form}
 use Rattle.wf_top.specs.Commands.{plan, plan_of, accepted, defined, judged_definition, judged_history, judged_inputs, judged_schedule}
-use Rattle.wf_top.specs.Commands.{judged_value, made_runs, recurs, run, scheduled, text_of_runs, triggered}
+use Rattle.wf_top.specs.Commands.{judged_value, recurs, run, scheduled, triggered}
 use Rattle.wf_top.specs.Served.{FailedAt}
 use Rattle.wf_top.proofs.FiresLemmas.{fires_length}
 use Rattle.wf_top.specs.Words.{command_of, is_traced, makes_runs, schedule_word, word}
 use Rattle.wf_top.specs.declared.words.Command.{Command}
 use Rattle.wf_top.specs.declared.words.Command.TheVariants.{Check, Run, Trace, Fires}
 use Rattle.wf_top.specs.declared.fault.FormFault.{FormFault}
-use Rattle.wf_printed.specs.declared.fault.RunsFault.{RunsFault}
 
 asked : (held : Held) (words : List (List ℕ)) (plan : Plan) (name : List ℕ) → AsksAmong words plan → ComesTo held plan name →
     Contains words name
@@ -36,16 +35,11 @@ asked held words (Reads first limit next) name among comes =
       | inl is ↦ subst (λ n. Contains words n) (sym is) among.0
       | inr later ↦ asked held words (next later.0) name (among.1 later.0) later.2
     ]
-
-runs_ask : (words : List (List ℕ)) (made : Result (List ℕ) RunsFault) → AsksAmong words (made_runs made)
-runs_ask words (Ok text) = tt
-runs_ask words (Err (RunsFault.Trigger fault)) = tt
-runs_ask words (Err RunsFault.TooLarge) = tt
-runs_ask words (Err RunsFault.Memory) = tt
+asked held words (Makes traced d inputs schedule) name among comes = absurd comes
 
 schedule_asks : (words : List (List ℕ)) (traced : Bool) (d : DefTree) (inputs : InputsTree) (form : Result (List ℕ) FormFault) →
     AsksAmong words (judged_schedule traced d inputs form)
-schedule_asks words traced d inputs (Ok schedule) = runs_ask words (text_of_runs traced d inputs schedule)
+schedule_asks words traced d inputs (Ok schedule) = tt
 schedule_asks words traced d inputs (Err fault) = tt
 
 -- the word SCHEDULE, where there is one, is one of the words
@@ -61,7 +55,7 @@ word_among words = among (schedule_word words) refl
 module _ (words : List (List ℕ)) (traced : Bool) (d : DefTree) where
   under_asks : (schedule : Option (List ℕ)) → IfSome schedule (λ name. Contains words name) → (inputs : InputsTree) →
       AsksAmong words (scheduled traced schedule d inputs)
-  under_asks None among inputs = runs_ask words (text_of_runs traced d inputs [])
+  under_asks None among inputs = tt
   under_asks (Some name) among inputs = (among, λ file. schedule_asks words traced d inputs (schedule_form file))
 
   inputs_ask : (schedule : Option (List ℕ)) → IfSome schedule (λ name. Contains words name) → (form : Result InputsTree FormFault) →
@@ -126,7 +120,7 @@ defined_asks : (command : Command) (words : List (List ℕ)) → command_of word
     AsksAmong words (defined (word words 1) command words)
 defined_asks command words is = (
   Contains-get_or words 1 [] (some_length command words is),
-  λ file. definition_asks command words (definition_form command file) is,
+  λ file. definition_asks command words (definition_form file) is,
 )
 
 recurrence_asks : (words : List (List ℕ)) (from count : ℕ) (found : Result Recurrence RecurrenceFault) →
@@ -150,7 +144,7 @@ plan_asks Run words is = defined_asks Run words is
 plan_asks Trace words is = defined_asks Trace words is
 plan_asks (Fires from count) words is = (
   Contains-get_or words 1 [] (some_length (Fires from count) words is),
-  λ file. value_asks words (word words 2) from count (value_form (Fires from count) file),
+  λ file. value_asks words (word words 2) from count (value_form file),
 )
 plan_asks Command.List words is = (
   Contains-get_or words 1 [] (list_length words is),

@@ -2,15 +2,14 @@
 use Rattle.std.proofs.Common.{◌≡◌, ◌⊎◌, ℕ, List, [], Bool, true, Option, None, Some, Result, Ok, Err, inl, inr, refl, ap, subst, sym, ◌∙◌}
 use Rattle.std.proofs.Common.{arith}
 use Rattle.std.specs.Prelude.{codes}
-use Rattle.std.specs.Option.{IfSome, option_map, option_and_then}
+use Rattle.std.specs.Option.{IfSome, option_map}
 use Rattle.std.specs.Io.KnownBytes.{Appends}
 use Rattle.wf_answers.specs.Inputs.{InputsTree}
 use Rattle.wf_def.specs.DefTree.{DefTree}
 use Rattle.wf_outside.specs.Outside.{Held, IsCalm}
 use Rattle.wf_history.specs.History.{ListedTree}
 use Rattle.wf_top.specs.Commands.{accepted, accepted_line, defined, judged_definition, judged_history, judged_inputs, judged_schedule}
-use Rattle.wf_top.specs.Commands.{judged_value, listing_text, made_runs, plan, plan_of, recurs, run, scheduled, text_of_runs, too_large}
-use Rattle.wf_top.specs.Commands.{triggered}
+use Rattle.wf_top.specs.Commands.{judged_value, listing_text, plan, plan_of, recurs, run, scheduled, triggered}
 use Rattle.wf_top.specs.Fault.{fault_line, json_fault}
 use Rattle.wf_json.specs.Read.{read_value}
 use Rattle.wf_json.specs.declared.fault.JsonFault.{JsonFault}
@@ -21,24 +20,26 @@ use Rattle.wf_recur.specs.declared.fault.RecurrenceFault.{RecurrenceFault}
 use Rattle.wf_recur.specs.declared.recurrence.Recurrence.{Recurrence}
 use Rattle.wf_val.specs.ValueTree.{ValueTree}
 use Rattle.wf_top.specs.Fires.{moments_text, recurrence_line, recurrence_words, trigger_in}
-use Rattle.wf_top.specs.Form.{definition_form, definition_of, found, inputs_form, kept, listing_form, schedule_form, value_form}
-use Rattle.wf_plain.specs.Plain.{plain_of}
-use Rattle.wf_printed.proofs.RunLemmas.{never_memory}
+use Rattle.wf_top.specs.Form.{Form, definition_form, definition_of, found, inputs_form, kept, listing_form, schedule_form, value_form}
+use Rattle.wf_told.specs.Records.{runs_records}
+use Rattle.wf_told.specs.Runs.{TellsRuns}
+use Rattle.wf_record.specs.Record.{RecordTree}
 use Rattle.wf_top.specs.Limits.{definition_bytes, history_bytes, inputs_bytes, schedule_bytes}
-use Rattle.wf_top.specs.Plan.{Plan, Reads, MaySay, MayGive, said_by, within}
+use Rattle.wf_top.specs.Plan.{Plan, Reads, MaySay, MayGive, within}
 use Rattle.wf_top.specs.Ran.{Checked, Fired, GivesDefinition, GivesHistory, GivesInputs, GivesNumbers, GivesSchedule, GivesValue, Holds}
-use Rattle.wf_top.specs.Ran.{HoldsDefinition, HoldsHistory, HoldsSchedule, IsGiven, IsWhole, Listed, PassesAll, PassesFires, Ran}
+use Rattle.wf_top.specs.Ran.{HoldsDefinition, HoldsHistory, HoldsSchedule, IsGiven, IsToldWhole, IsWhole, Listed, PassesAll}
+use Rattle.wf_top.specs.Ran.{PassesFires, Ran}
 use Rattle.wf_top.specs.Ran.{RefusedCost, RefusedDefinition, RefusedHistory, RefusedInputs, RefusedName, RefusedRecurrence}
 use Rattle.wf_top.specs.Ran.{RefusedSchedule, RefusedTrigger}
 use Rattle.wf_top.proofs.Outcomes.{misused_at}
-use Rattle.wf_top.specs.Served.{Comes, Outcome, IsSaid, Misused, Serves, Speaks, Spent, Unread, Writes, number, said_of, say, status_of}
+use Rattle.wf_top.specs.Served.{Comes, Outcome, IsSaid, Misused, PlanSays, Say, Serves, Speaks, Spent, Unread, Writes, number, status_of}
 use Rattle.wf_top.specs.Served.{text_of}
+use Rattle.wf_top.specs.Told.{MayTell, SaysFault, SaysRuns, too_large}
 use Rattle.wf_top.specs.Trigger.{trigger_line}
 use Rattle.wf_top.specs.Words.{command_of, is_traced, makes_runs, schedule_word, word}
 use Rattle.wf_top.specs.declared.fault.FormFault.{FormFault}
-use Rattle.wf_printed.specs.declared.fault.RunsFault.{RunsFault}
+use Rattle.wf_told.specs.declared.fault.RunsFault.{RunsFault}
 use Rattle.wf_top.specs.declared.said.Verdict.{Verdict}
-use Rattle.wf_top.specs.declared.said.Verdict.TheVariants.{Done}
 use Rattle.wf_top.specs.declared.words.Command.{Command}
 use Rattle.wf_top.specs.declared.words.Command.TheVariants.{Check, Run, Trace, Fires}
 use Rattle.wf_trigger.specs.declared.fault.TriggerFault.{TriggerFault}
@@ -56,15 +57,14 @@ data CommandOutcome (held : Held) (words : List (List ℕ)) (status : ℕ) (text
       GivesSchedule held words (Err fault) → status ≡ 6 → text ≡ fault_line (codes "schedule ") fault →
       CommandOutcome held words status text
   runs : (command : Command) (d : DefTree) (inputs : InputsTree) (schedule : List ℕ) → IsGiven held words command d inputs →
-      GivesSchedule held words (Ok schedule) → status ≡ 0 → text_of_runs (is_traced command) d inputs schedule ≡ Ok text →
+      GivesSchedule held words (Ok schedule) → status ≡ 0 → TellsRuns d inputs schedule (is_traced command) text →
       CommandOutcome held words status text
   no_run : (command : Command) (d : DefTree) (inputs : InputsTree) (schedule : List ℕ) (fault : TriggerFault) →
       IsGiven held words command d inputs → GivesSchedule held words (Ok schedule) → status ≡ 6 →
-      text_of_runs (is_traced command) d inputs schedule ≡ Err (RunsFault.Trigger fault) → text ≡ trigger_line fault →
+      runs_records d inputs ≡ Err (RunsFault.Trigger fault) → text ≡ trigger_line fault →
       CommandOutcome held words status text
   costs : (command : Command) (d : DefTree) (inputs : InputsTree) (schedule : List ℕ) → IsGiven held words command d inputs →
-      GivesSchedule held words (Ok schedule) → status ≡ 8 →
-      text_of_runs (is_traced command) d inputs schedule ≡ Err RunsFault.TooLarge → text ≡ too_large →
+      GivesSchedule held words (Ok schedule) → status ≡ 8 → runs_records d inputs ≡ Err RunsFault.TooLarge → text ≡ too_large →
       CommandOutcome held words status text
   no_history : (fault : FormFault) → GivesHistory held words (Err fault) → status ≡ 7 → text ≡ fault_line (codes "history ") fault →
       CommandOutcome held words status text
@@ -79,47 +79,43 @@ data CommandOutcome (held : Held) (words : List (List ℕ)) (status : ℕ) (text
       trigger_in (word words 2) file ≡ Some trigger → recurrence_of trigger ≡ Err fault → status ≡ 6 →
       text ≡ recurrence_line (recurrence_words fault) → CommandOutcome held words status text
 
--- want of memory is no fault of runs
-no_memory : (traced : Bool) (d : DefTree) (inputs : InputsTree) (schedule : List ℕ) →
-    text_of_runs traced d inputs schedule ≡ Err RunsFault.Memory → ⊥
-unfolding text_of_runs
-no_memory traced d inputs schedule is = never_memory (plain_of d) inputs schedule traced is
-
--- what is no definition to a command has no value that is kept
+-- what is no accepted definition has no value that is kept
 kept_fault : (value : ValueTree) (d : Result DefTree FormFault) (fault : FormFault) → kept value d ≡ Err fault → d ≡ Err fault
 kept_fault value (Ok d) fault is = absurd cc
 kept_fault value (Err other) fault is = cc
 
-read_fault : (command : Command) (read : Result ValueTree JsonFault) (fault : FormFault) →
-    found (λ value. kept value (definition_of command value)) read ≡ Err fault → found (definition_of command) read ≡ Err fault
-read_fault command (Ok value) fault is = kept_fault value (definition_of command value) fault is
-read_fault command (Err other) fault is = let same : json_fault other ≡ fault = cc in ap Err same
+read_fault : (read : Result ValueTree JsonFault) (fault : FormFault) →
+    found (λ value. kept value (definition_of value)) read ≡ Err fault → found definition_of read ≡ Err fault
+read_fault (Ok value) fault is = kept_fault value (definition_of value) fault is
+read_fault (Err other) fault is = let same : json_fault other ≡ fault = cc in ap Err same
 
-value_fault : (command : Command) (file : Option (List ℕ)) (fault : FormFault) → value_form command file ≡ Err fault →
-    definition_form command file ≡ Err fault
-value_fault command None fault is = let same : FormFault.TooLong ≡ fault = cc in ap Err same
-value_fault command (Some bytes) fault is = read_fault command (read_value bytes) fault is
+value_fault : (file : Option (List ℕ)) (fault : FormFault) → value_form file ≡ Err fault → definition_form file ≡ Err fault
+value_fault None fault is = let same : FormFault.TooLong ≡ fault = cc in ap Err same
+value_fault (Some bytes) fault is = read_fault (read_value bytes) fault is
 
 module _ (held : Held) (words : List (List ℕ)) (verdict : Verdict) (text : List ℕ) where
   abbrev Ends : Type 0
   Ends = CommandOutcome held words (number verdict) text
 
   module _ (command : Command) (d : DefTree) where
-    after_runs : (inputs : InputsTree) (schedule : List ℕ) → IsGiven held words command d inputs → GivesSchedule held words (Ok schedule) →
-        (made : Result (List ℕ) RunsFault) → text_of_runs (is_traced command) d inputs schedule ≡ made →
-        MaySay held (made_runs made) verdict text → Ends
-    after_runs inputs schedule given timed (Ok t) is saying =
-        runs command d inputs schedule given timed (ap number saying.0) (rw saying.1 is)
-    after_runs inputs schedule given timed (Err (RunsFault.Trigger fault)) is saying =
+    after_fault : (inputs : InputsTree) (schedule : List ℕ) → IsGiven held words command d inputs → GivesSchedule held words (Ok schedule) →
+        (fault : RunsFault) → runs_records d inputs ≡ Err fault → SaysFault fault verdict text → Ends
+    after_fault inputs schedule given timed (RunsFault.Trigger fault) is saying =
         no_run command d inputs schedule fault given timed (ap number saying.0) is saying.1
-    after_runs inputs schedule given timed (Err RunsFault.TooLarge) is saying =
+    after_fault inputs schedule given timed RunsFault.TooLarge is saying =
         costs command d inputs schedule given timed (ap number saying.0) is saying.1
-    after_runs inputs schedule given timed (Err RunsFault.Memory) is saying = absurd (no_memory (is_traced command) d inputs schedule is)
+    after_fault inputs schedule given timed RunsFault.Memory is saying = absurd saying
+
+    after_runs : (inputs : InputsTree) (schedule : List ℕ) → IsGiven held words command d inputs → GivesSchedule held words (Ok schedule) →
+        MayTell (is_traced command) d inputs schedule verdict text → Ends
+    after_runs inputs schedule given timed saying = elim saying [
+      | inl told ↦ runs command d inputs schedule given timed (ap number told.0) told.1
+      | inr none ↦ after_fault inputs schedule given timed none.0 none.1 none.2
+    ]
 
     after_schedule : (inputs : InputsTree) → IsGiven held words command d inputs → (form : Result (List ℕ) FormFault) →
         GivesSchedule held words form → MaySay held (judged_schedule (is_traced command) d inputs form) verdict text → Ends
-    after_schedule inputs given (Ok schedule) timed saying =
-        after_runs inputs schedule given timed (text_of_runs (is_traced command) d inputs schedule) refl saying
+    after_schedule inputs given (Ok schedule) timed saying = after_runs inputs schedule given timed saying
     after_schedule inputs given (Err fault) timed saying = no_schedule command d inputs fault given timed (ap number saying.0) saying.1
 
     -- the runs are made under the schedule of a file, or under the empty one
@@ -155,7 +151,7 @@ module _ (held : Held) (words : List (List ℕ)) (verdict : Verdict) (text : Lis
   after_accepted Trace d ends given saying = after_inputs Trace d refl given saying.0 saying.1 (inputs_form saying.0) refl saying.2
 
   after_definition : (command : Command) → IsDefined command → command_of words ≡ Some command → (file : Option (List ℕ)) →
-      MayGive held (word words 1) definition_bytes file → (form : Result DefTree FormFault) → definition_form command file ≡ form →
+      MayGive held (word words 1) definition_bytes file → (form : Result DefTree FormFault) → definition_form file ≡ form →
       MaySay held (judged_definition command words form) verdict text → Ends
   after_definition command ends names file may (Ok d) is saying = after_accepted command d ends (names, (file, may, is)) saying
   after_definition command ends names file may (Err fault) is saying =
@@ -164,7 +160,7 @@ module _ (held : Held) (words : List (List ℕ)) (verdict : Verdict) (text : Lis
   command_defined : (command : Command) → IsDefined command → command_of words ≡ Some command →
       MaySay held (defined (word words 1) command words) verdict text → Ends
   command_defined command ends names saying =
-      after_definition command ends names saying.0 saying.1 (definition_form command saying.0) refl saying.2
+      after_definition command ends names saying.0 saying.1 (definition_form saying.0) refl saying.2
 
   module _ (from count : ℕ) (file : ValueTree) (given : GivesValue held words from count (Ok file)) where
     after_read : (trigger : ValueTree) → trigger_in (word words 2) file ≡ Some trigger → (read : Result Recurrence RecurrenceFault) →
@@ -178,13 +174,12 @@ module _ (held : Held) (words : List (List ℕ)) (verdict : Verdict) (text : Lis
     after_trigger None has saying = no_name from count file given has (ap number saying.0) saying.1
 
   after_value : (from count : ℕ) → command_of words ≡ Some (Fires from count) → (file : Option (List ℕ)) →
-      MayGive held (word words 1) definition_bytes file → (form : Result ValueTree FormFault) → value_form (Fires from count) file ≡ form →
+      MayGive held (word words 1) definition_bytes file → (form : Result ValueTree FormFault) → value_form file ≡ form →
       MaySay held (judged_value (word words 2) from count form) verdict text → Ends
   after_value from count names file may (Ok value) is saying =
       after_trigger from count value (names, (file, may, is)) (trigger_in (word words 2) value) refl saying
   after_value from count names file may (Err fault) is saying =
-      no_definition (Fires from count) fault (names, (file, may, value_fault (Fires from count) file fault is))
-      (ap number saying.0) saying.1
+      no_definition (Fires from count) fault (names, (file, may, value_fault file fault is)) (ap number saying.0) saying.1
 
   after_history : command_of words ≡ Some Command.List → (file : Option (List ℕ)) → MayGive held (word words 1) history_bytes file →
       (form : Result (List ListedTree) FormFault) → listing_form file ≡ form → MaySay held (judged_history form) verdict text → Ends
@@ -197,7 +192,7 @@ module _ (held : Held) (words : List (List ℕ)) (verdict : Verdict) (text : Lis
   command_comes Run names saying = command_defined Run tt names saying
   command_comes Trace names saying = command_defined Trace tt names saying
   command_comes (Fires from count) names saying =
-      after_value from count names saying.0 saying.1 (value_form (Fires from count) saying.0) refl saying.2
+      after_value from count names saying.0 saying.1 (value_form saying.0) refl saying.2
   command_comes Command.List names saying = after_history names saying.0 saying.1 (listing_form saying.0) refl saying.2
 
 -- What was said, and what it says of the files: its status was answered, and its text taken.
@@ -524,124 +519,133 @@ module _ (held : Held) (words : List (List ℕ)) (old new : List (List ℕ)) (be
 
 -- ---- completeness
 
--- a read of a file that is there
-read_on : (bytes_of : List ℕ → Option (List ℕ)) (name : List ℕ) (limit : ℕ) (next : Option (List ℕ) → Plan) (bytes : List ℕ) →
-    bytes_of name ≡ Some bytes →
-    said_by bytes_of (Reads name limit next) ≡ said_by bytes_of (next (within limit bytes))
-read_on bytes_of name limit next bytes is = ap (λ file. option_and_then (λ bs. said_by bytes_of (next (within limit bs))) file) is
+module _ (bytes_of : List ℕ → Option (List ℕ)) (words : List (List ℕ)) (verdict : Verdict) (text : List ℕ) where
+  abbrev pub MayBeSaid : Plan → Type 0
+  MayBeSaid plan = MaySay (Some bytes_of) plan verdict text
 
-module _ (bytes_of : List ℕ → Option (List ℕ)) (words : List (List ℕ)) where
+  -- a read of a file that is there
+  pub read_on : (name : List ℕ) (limit : ℕ) (next : Option (List ℕ) → Plan) (bytes : List ℕ) → bytes_of name ≡ Some bytes →
+      MayBeSaid (Reads name limit next) → MayBeSaid (next (within limit bytes))
+  read_on name limit next bytes there saying =
+      let given : Some (within limit bytes) ≡ Some saying.0 = sym (ap (option_map (within limit)) there) ∙ saying.1 in
+      let same : saying.0 ≡ within limit bytes = cc in
+      subst (λ file. MayBeSaid (next file)) same saying.2
+
+  -- and of one in which this is found
+  held_on : {T : Type 0} (form : Form T) (name : List ℕ) (limit : ℕ) (t : T) (next : Result T FormFault → Plan) →
+      Holds bytes_of name limit form t → MayBeSaid (Reads name limit (λ file. next (form file))) → MayBeSaid (next (Ok t))
+  held_on form name limit t next holds saying =
+      subst (λ found. MayBeSaid (next found)) holds.2 (read_on name limit (λ file. next (form file)) holds.0 holds.1 saying)
+
   -- a command goes on with the definition that DEF holds
-  defined_said : (command : Command) (d : DefTree) → HoldsDefinition bytes_of words command d →
-      said_by bytes_of (defined (word words 1) command words) ≡ said_by bytes_of (accepted command words d)
-  defined_said command d holds =
-      let file = holds.held in
-      read_on bytes_of (word words 1) definition_bytes (λ file. judged_definition command words (definition_form command file))
-      file.0 file.1
-      ∙ ap (λ found. said_by bytes_of (judged_definition command words found)) file.2
+  defined_on : (command : Command) (d : DefTree) → HoldsDefinition bytes_of words command d →
+      MayBeSaid (defined (word words 1) command words) → MayBeSaid (accepted command words d)
+  defined_on command d holds saying =
+      held_on definition_form (word words 1) definition_bytes d (judged_definition command words) holds.held saying
 
-  check_said : (d : DefTree) → HoldsDefinition bytes_of words Check d →
-      said_by bytes_of (plan Check words) ≡ said_by bytes_of (accepted Check words d)
+  check_on : (d : DefTree) → HoldsDefinition bytes_of words Check d → MayBeSaid (plan Check words) → MayBeSaid (accepted Check words d)
   unfolding plan
-  check_said d holds = defined_said Check d holds
+  check_on d holds saying = defined_on Check d holds saying
 
-  runs_said : (command : Command) (d : DefTree) → makes_runs command ≡ true → HoldsDefinition bytes_of words command d →
-      said_by bytes_of (plan command words) ≡ said_by bytes_of (accepted command words d)
+  runs_on : (command : Command) (d : DefTree) → makes_runs command ≡ true → HoldsDefinition bytes_of words command d →
+      MayBeSaid (plan command words) → MayBeSaid (run (is_traced command) (word words 2) (schedule_word words) d)
   unfolding plan
-  runs_said Check d makes holds = absurd cc
-  runs_said Run d makes holds = defined_said Run d holds
-  runs_said Trace d makes holds = defined_said Trace d holds
-  runs_said (Fires from count) d makes holds = absurd cc
-  runs_said Command.List d makes holds = absurd cc
+  runs_on Check d makes holds saying = absurd cc
+  runs_on Run d makes holds saying = defined_on Run d holds saying
+  runs_on Trace d makes holds saying = defined_on Trace d holds saying
+  runs_on (Fires from count) d makes holds saying = absurd cc
+  runs_on Command.List d makes holds saying = absurd cc
 
   -- `list` lists the records that HISTORY holds
-  list_said : (listing : List ListedTree) → HoldsHistory bytes_of words listing →
-      said_by bytes_of (plan Command.List words) ≡ Some (Done, listing_text listing)
+  list_on : (listing : List ListedTree) → HoldsHistory bytes_of words listing → MayBeSaid (plan Command.List words) →
+      MayBeSaid (judged_history (Ok listing))
   unfolding plan
-  list_said listing holds =
-      let file = holds.held in
-      read_on bytes_of (word words 1) history_bytes (λ file. judged_history (listing_form file)) file.0 file.1
-      ∙ ap (λ found. said_by bytes_of (judged_history found)) file.2
-
-  -- the runs are made under the schedule that SCHEDULE holds
-  schedule_said : (traced : Bool) (d : DefTree) (inputs : InputsTree) (named : Option (List ℕ)) (schedule : List ℕ) →
-      HoldsSchedule bytes_of named schedule →
-      said_by bytes_of (scheduled traced named d inputs) ≡ said_by bytes_of (made_runs (text_of_runs traced d inputs schedule))
-  schedule_said traced d inputs None schedule is = ap (λ s. said_by bytes_of (made_runs (text_of_runs traced d inputs s))) (sym is)
-  schedule_said traced d inputs (Some name) schedule (bytes, there, form) =
-      read_on bytes_of name schedule_bytes (λ file. judged_schedule traced d inputs (schedule_form file)) bytes there
-      ∙ ap (λ found. said_by bytes_of (judged_schedule traced d inputs found)) form
+  list_on listing holds saying = held_on listing_form (word words 1) history_bytes listing judged_history holds.held saying
 
   -- the inputs are those that INPUTS holds
-  run_said : (traced : Bool) (d : DefTree) (inputs : InputsTree) → Holds bytes_of (word words 2) inputs_bytes inputs_form inputs →
-      said_by bytes_of (run traced (word words 2) (schedule_word words) d)
-      ≡ said_by bytes_of (scheduled traced (schedule_word words) d inputs)
-  run_said traced d inputs (bytes, there, form) =
-      read_on bytes_of (word words 2) inputs_bytes (λ file. judged_inputs traced (schedule_word words) d (inputs_form file)) bytes there
-      ∙ ap (λ found. said_by bytes_of (judged_inputs traced (schedule_word words) d found)) form
+  inputs_on : (traced : Bool) (d : DefTree) (inputs : InputsTree) → Holds bytes_of (word words 2) inputs_bytes inputs_form inputs →
+      MayBeSaid (run traced (word words 2) (schedule_word words) d) → MayBeSaid (scheduled traced (schedule_word words) d inputs)
+  inputs_on traced d inputs holds saying =
+      held_on inputs_form (word words 2) inputs_bytes inputs (judged_inputs traced (schedule_word words) d) holds saying
 
-  -- what a command makes of an accepted definition that makes runs
-  accepted_said : (command : Command) (d : DefTree) → makes_runs command ≡ true →
-      accepted command words d ≡ run (is_traced command) (word words 2) (schedule_word words) d
-  accepted_said Check d makes = absurd (cc)
-  accepted_said (Fires from count) d makes = absurd (cc)
-  accepted_said Run d makes = refl
-  accepted_said Trace d makes = refl
-  accepted_said Command.List d makes = absurd (cc)
+  -- the runs are made under the schedule that SCHEDULE holds
+  schedule_on : (traced : Bool) (d : DefTree) (inputs : InputsTree) (named : Option (List ℕ)) (schedule : List ℕ) →
+      HoldsSchedule bytes_of named schedule → MayBeSaid (scheduled traced named d inputs) → MayTell traced d inputs schedule verdict text
+  schedule_on traced d inputs None schedule is saying = subst (λ s. MayTell traced d inputs s verdict text) (sym is) saying
+  schedule_on traced d inputs (Some name) schedule holds saying =
+      held_on schedule_form name schedule_bytes schedule (judged_schedule traced d inputs) holds saying
 
-  -- what the words say, by the plan of their command
-  say_by : (command : Command) (text : List ℕ) → command_of words ≡ Some command →
-      said_by bytes_of (plan command words) ≡ Some (Done, text) → say bytes_of words ≡ Some (0, text)
-  say_by command text names said =
-      ap (λ found. said_of bytes_of (option_map (λ c. plan c words) found)) names
-      ∙ ap (λ (outcome : Option (Verdict × List ℕ)). option_map (λ s. (number s.0, s.1)) outcome) said
+  -- runs that leave records are told
+  records_on : (traced : Bool) (d : DefTree) (inputs : InputsTree) (schedule : List ℕ) (records : List RecordTree) →
+      runs_records d inputs ≡ Ok records → MayTell traced d inputs schedule verdict text → SaysRuns traced d inputs schedule verdict text
+  records_on traced d inputs schedule records made saying = elim saying [
+    | inl told ↦ told
+    | inr none ↦ absurd (let e : Ok records ≡ Err none.0 = sym made ∙ none.1 in cc)
+  ]
 
-  says_accepted : (d : DefTree) → HoldsDefinition bytes_of words Check d → say bytes_of words ≡ Some (0, accepted_line d)
-  says_accepted d holds = say_by Check (accepted_line d) holds.names (check_said d holds)
-
-  says_listed : (listing : List ListedTree) → HoldsHistory bytes_of words listing → say bytes_of words ≡ Some (0, listing_text listing)
-  says_listed listing holds = say_by Command.List (listing_text listing) holds.names (list_said listing holds)
-
-  says_runs : (text : List ℕ) → PassesAll bytes_of words text → say bytes_of words ≡ Some (0, text)
-  says_runs text passes =
-      let command = passes.command in
-      let d = passes.definition in
+  passed_on : (command : Command) (d : DefTree) (inputs : InputsTree) (schedule : List ℕ) →
+      PassesAll bytes_of words command d inputs schedule → MayBeSaid (plan command words) →
+      SaysRuns (is_traced command) d inputs schedule verdict text
+  passed_on command d inputs schedule passes saying =
       let traced = is_traced command in
-      say_by command text passes.definition_held.names
-      (runs_said command d passes.makes passes.definition_held
-      ∙ ap (λ p. said_by bytes_of p) (accepted_said command d passes.makes)
-      ∙ run_said traced d passes.inputs passes.inputs_held
-      ∙ schedule_said traced d passes.inputs (schedule_word words) passes.schedule passes.schedule_held
-      ∙ ap (λ made. said_by bytes_of (made_runs made)) passes.runs_made)
+      records_on traced d inputs schedule passes.records passes.runs_made
+      (schedule_on traced d inputs (schedule_word words) schedule passes.schedule_held
+      (inputs_on traced d inputs passes.inputs_held
+      (runs_on command d passes.makes passes.definition_held saying)))
 
-  value_said : (from count : ℕ) (file : ValueTree) → Holds bytes_of (word words 1) definition_bytes (value_form (Fires from count)) file →
-      said_by bytes_of (plan (Fires from count) words) ≡ said_by bytes_of (triggered from count (trigger_in (word words 2) file))
+  -- `fires` goes on with the recurrence of the trigger that the definition has
+  fires_on : (from count : ℕ) (r : Recurrence) → PassesFires bytes_of words from count r → MayBeSaid (plan (Fires from count) words) →
+      MayBeSaid (recurs from count (Ok r))
   unfolding plan
-  value_said from count file (bytes, there, form) =
-      read_on bytes_of (word words 1) definition_bytes
-      (λ file. judged_value (word words 2) from count (value_form (Fires from count) file)) bytes there
-      ∙ ap (λ found. said_by bytes_of (judged_value (word words 2) from count found)) form
+  fires_on from count r passes saying =
+      subst (λ read. MayBeSaid (recurs from count read)) passes.recurs
+      (subst (λ trigger. MayBeSaid (triggered from count trigger)) passes.has_trigger
+      (held_on value_form (word words 1) definition_bytes passes.file (judged_value (word words 2) from count) passes.held saying))
 
-  says_fires : (from count : ℕ) (r : Recurrence) → PassesFires bytes_of words from count r →
-      say bytes_of words ≡ Some (0, moments_text (moments_due r from count))
-  says_fires from count r passes =
-      say_by (Fires from count) (moments_text (moments_due r from count)) passes.names
-      (value_said from count passes.file passes.held
-      ∙ ap (λ trigger. said_by bytes_of (triggered from count trigger)) passes.has_trigger
-      ∙ ap (λ read. said_by bytes_of (recurs from count read)) passes.recurs)
+module _ (bytes_of : List ℕ → Option (List ℕ)) (words : List (List ℕ)) (status : ℕ) (text : List ℕ) where
+  -- what the words say, by the plan of their command
+  say_by : (command : Command) → command_of words ≡ Some command → Say bytes_of words status text →
+      PlanSays bytes_of (Some (plan command words)) status text
+  say_by command names saying =
+      subst (λ found. PlanSays bytes_of (option_map (λ c. plan c words) found) status text) names saying
 
-whole_from : (said : Option (ℕ × List ℕ)) (before after : Option (List ℕ)) (text : List ℕ) (result : ℕ) → said ≡ Some (0, text) →
-    IsSaid said before after result → IsWhole before after text result
-whole_from None before after text result is saying = absurd (cc)
-whole_from (Some s) before after text result is saying =
-    let status : s.0 ≡ 0 = cc in
-    let same : s.1 ≡ text = cc in
-    elim saying [ inl all ↦ inl (all.0 ∙ status, rw same at all.1) | inr spent ↦ inr spent ]
+  says_accepted : (d : DefTree) → HoldsDefinition bytes_of words Check d → Say bytes_of words status text →
+      (status ≡ 0) × (text ≡ accepted_line d)
+  says_accepted d holds saying =
+      let s = say_by Check holds.names saying in
+      let said = check_on bytes_of words s.0 text d holds s.2 in (s.1 ∙ ap number said.0, said.1)
+
+  says_listed : (listing : List ListedTree) → HoldsHistory bytes_of words listing → Say bytes_of words status text →
+      (status ≡ 0) × (text ≡ listing_text listing)
+  says_listed listing holds saying =
+      let s = say_by Command.List holds.names saying in
+      let said = list_on bytes_of words s.0 text listing holds s.2 in (s.1 ∙ ap number said.0, said.1)
+
+  says_fires : (from count : ℕ) (r : Recurrence) → PassesFires bytes_of words from count r → Say bytes_of words status text →
+      (status ≡ 0) × (text ≡ moments_text (moments_due r from count))
+  says_fires from count r passes saying =
+      let s = say_by (Fires from count) passes.names saying in
+      let said = fires_on bytes_of words s.0 text from count r passes s.2 in (s.1 ∙ ap number said.0, said.1)
+
+  says_runs : (command : Command) (d : DefTree) (inputs : InputsTree) (schedule : List ℕ) →
+      PassesAll bytes_of words command d inputs schedule → Say bytes_of words status text →
+      (status ≡ 0) × TellsRuns d inputs schedule (is_traced command) text
+  says_runs command d inputs schedule passes saying =
+      let s = say_by command passes.definition_held.names saying in
+      let said = passed_on bytes_of words s.0 text command d inputs schedule passes s.2 in (s.1 ∙ ap number said.0, said.1)
+
+whole_from : (said : ℕ → List ℕ → Type 0) (before after : Option (List ℕ)) (line : List ℕ) (result : ℕ) →
+    ((text : List ℕ) → said result text → (result ≡ 0) × (text ≡ line)) → IsSaid said before after result →
+    IsWhole before after line result
+whole_from said before after line result only saying = elim saying [
+  | inl all ↦ let is = only all.0 all.1 in inl (is.0, rw is.1 at all.2)
+  | inr spent ↦ inr spent
+]
 
 module _ (held : Held) (words : List (List ℕ)) (old new : List (List ℕ)) (before after : Option (List ℕ)) (count later result : ℕ) where
   -- what is said where no count rose
   abbrev IsTold : Type 0
-  IsTold = IfSome held (λ bytes_of. new ≡ old → IsCalm count later → IsSaid (say bytes_of words) before after result)
+  IsTold = IfSome held (λ bytes_of. new ≡ old → IsCalm count later → IsSaid (Say bytes_of words) before after result)
 
 -- where all tests pass and no count rose, the whole text was taken, or memory ran out
 pub serves_accepted : (held : Held) (words : List (List ℕ)) (old new : List (List ℕ)) (before after : Option (List ℕ))
@@ -650,7 +654,8 @@ pub serves_accepted : (held : Held) (words : List (List ℕ)) (old new : List (L
     IsWhole before after (accepted_line d) result)
 serves_accepted None words old new before after count later result said = tt
 serves_accepted (Some bytes_of) words old new before after count later result said = λ d held same calm.
-    whole_from (say bytes_of words) before after (accepted_line d) result (says_accepted bytes_of words d held) (said same calm)
+    whole_from (Say bytes_of words) before after (accepted_line d) result
+    (λ text saying. says_accepted bytes_of words result text d held saying) (said same calm)
 
 pub serves_list : (held : Held) (words : List (List ℕ)) (old new : List (List ℕ)) (before after : Option (List ℕ))
     (count later result : ℕ) → IsTold held words old new before after count later result →
@@ -658,7 +663,8 @@ pub serves_list : (held : Held) (words : List (List ℕ)) (old new : List (List 
     IsWhole before after (listing_text listing) result)
 serves_list None words old new before after count later result said = tt
 serves_list (Some bytes_of) words old new before after count later result said = λ listing held same calm.
-    whole_from (say bytes_of words) before after (listing_text listing) result (says_listed bytes_of words listing held) (said same calm)
+    whole_from (Say bytes_of words) before after (listing_text listing) result
+    (λ text saying. says_listed bytes_of words result text listing held saying) (said same calm)
 
 pub serves_moments : (held : Held) (words : List (List ℕ)) (old new : List (List ℕ)) (before after : Option (List ℕ))
     (count later result : ℕ) → IsTold held words old new before after count later result →
@@ -666,13 +672,19 @@ pub serves_moments : (held : Held) (words : List (List ℕ)) (old new : List (Li
     IsWhole before after (moments_text (moments_due r from n)) result)
 serves_moments None words old new before after count later result said = tt
 serves_moments (Some bytes_of) words old new before after count later result said = λ from n r passes same calm.
-    whole_from (say bytes_of words) before after (moments_text (moments_due r from n)) result
-    (says_fires bytes_of words from n r passes) (said same calm)
+    whole_from (Say bytes_of words) before after (moments_text (moments_due r from n)) result
+    (λ text saying. says_fires bytes_of words result text from n r passes saying) (said same calm)
 
 pub serves_whole : (held : Held) (words : List (List ℕ)) (old new : List (List ℕ)) (before after : Option (List ℕ))
     (count later result : ℕ) → IsTold held words old new before after count later result →
-    IfSome held (λ bytes_of. (text : List ℕ) → PassesAll bytes_of words text → new ≡ old → IsCalm count later →
-    IsWhole before after text result)
+    IfSome held (λ bytes_of. (command : Command) (d : DefTree) (inputs : InputsTree) (schedule : List ℕ) →
+    PassesAll bytes_of words command d inputs schedule → new ≡ old → IsCalm count later →
+    IsToldWhole (is_traced command) d inputs schedule before after result)
 serves_whole None words old new before after count later result said = tt
-serves_whole (Some bytes_of) words old new before after count later result said = λ text passes same calm.
-    whole_from (say bytes_of words) before after text result (says_runs bytes_of words text passes) (said same calm)
+serves_whole (Some bytes_of) words old new before after count later result said = λ command d inputs schedule passes same calm.
+    elim (said same calm) [
+      | inl all ↦
+          let is = says_runs bytes_of words result all.0 command d inputs schedule passes all.1 in
+          inl (all.0, is.0, is.1, all.2)
+      | inr spent ↦ inr spent
+    ]

@@ -2,7 +2,7 @@
 use Rattle.std.proofs.Common.{◌≡◌, ℕ, List, Option, Result, Ok, Err, inl, inr, refl, subst}
 use Rattle.std.specs.Result.{IfOk, IfErr}
 use Rattle.wf_outside.specs.Outside.{Held}
-use Rattle.wf_top.specs.Plan.{Plan, Says, Reads, MayGive}
+use Rattle.wf_top.specs.Plan.{Plan, Says, Reads, MayGive, MaySay}
 use Rattle.wf_top.specs.Served.{Outcome, Misused, Speaks, Unread, Spent, Reaches, outcome_of}
 use Rattle.wf_top.specs.declared.load.Stop.{Stop}
 use Rattle.wf_top.specs.declared.load.Stop.TheVariants.{CannotRead, Memory}
@@ -39,7 +39,17 @@ reaches_fault held name limit next file old new P verdict line (Ok said) gives i
 reaches_fault held name limit next file old new P verdict line (Err (CannotRead failed)) gives is ok err = absurd (cc)
 reaches_fault held name limit next file old new P verdict line (Err Memory) gives is ok err = inl gives.1
 
--- What was said then of what was read is what the plan says, unless memory ran out.
+-- What was said then of what was read is what the plan may say, unless memory ran out.
+pub reaches_told : (held : Held) (name : List ℕ) (limit : ℕ) (next : Option (List ℕ) → Plan) (file : Option (List ℕ)) (plan : Plan)
+    (old new : List (List ℕ)) (result : Result Said Stop) →
+    MayGive held name limit file × (new ≡ old) → next file ≡ plan →
+    IfOk result (λ said. MaySay held plan said.verdict said.text.items) → IfErr result (λ stop. stop ≡ Memory) →
+    Reaches held (Reads name limit next) old new (outcome_of result)
+reaches_told held name limit next file plan old new (Ok said) gives is ok err = (gives.1, (file, gives.0, rw is ok))
+reaches_told held name limit next file plan old new (Err (CannotRead failed)) gives is ok err = absurd (cc)
+reaches_told held name limit next file plan old new (Err Memory) gives is ok err = inl gives.1
+
+-- And so where the plan says one thing.
 pub reaches_said : (held : Held) (name : List ℕ) (limit : ℕ) (next : Option (List ℕ) → Plan) (file : Option (List ℕ)) (plan : Plan)
     (old new : List (List ℕ)) (result : Result Said Stop) →
     MayGive held name limit file × (new ≡ old) → next file ≡ plan →

@@ -5,5 +5,6 @@ pub mod Following
 pub mod Listed
 pub mod Written
 pub mod CommandOutcomes
+pub mod Alike
 mod Worked
 mod WorkedList

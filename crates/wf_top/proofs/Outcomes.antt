@@ -1,14 +1,14 @@
 -- What follows from how a call ended.
 use Rattle.std.proofs.Common.{◌≡◌, ◌⊎◌, ◌≤◌, ℕ, List, [], ◌∷◌, ◌++◌, length, Option, None, Some, inl, inr, ap, sym, ◌∙◌, refl, arith}
 use Rattle.std.proofs.Common.{length-append}
-use Rattle.std.specs.Option.{option_map, option_and_then, IfSome}
+use Rattle.std.specs.Option.{option_map, IfSome}
 use Rattle.std.specs.Io.KnownBytes.{Appends}
 use Rattle.wf_outside.specs.Outside.{Held, Rose, IsCalm}
 use Rattle.wf_top.specs.declared.said.Verdict.{Verdict}
 use Rattle.wf_top.specs.declared.said.Verdict.TheVariants.{Done, Definition, History, Inputs, TooLarge}
-use Rattle.wf_top.specs.Plan.{Plan, Says, Reads, MaySay, said_by, within}
+use Rattle.wf_top.specs.Plan.{Plan}
 use Rattle.wf_top.specs.Served.{number, Outcome, Misused, Speaks, Unread, Spent, status_of, text_of, Comes, Writes, Serves, FailedAt}
-use Rattle.wf_top.specs.Served.{IsSaid, said_of, cannot_read}
+use Rattle.wf_top.specs.Served.{IsSaid, PlanSays, cannot_read, usage}
 
 -- no status of a command is 2, 3, 4 or 5
 pub number_le : (verdict : Verdict) → number verdict ≤ 8
@@ -29,35 +29,18 @@ number_apart TooLarge = (λ h. cc, λ h. cc)
 no_longer : (xs : List (List ℕ)) (ys : List (List ℕ)) (x : List ℕ) → ys ≡ xs ++ x ∷ [] → ys ≡ xs → ⊥
 no_longer xs ys x more same = omega (arith, ap length more, ap length same, length-append xs (x ∷ []))
 
--- one read, where the files tell
-read_says : (next : Option (List ℕ) → Option (Verdict × List ℕ)) (limit : ℕ) (found : Option (List ℕ)) (file : Option (List ℕ))
-    (outcome : Verdict × List ℕ) →
-    option_map (within limit) found ≡ Some file → next file ≡ Some outcome →
-    option_and_then (λ bytes. next (within limit bytes)) found ≡ Some outcome
-read_says next limit None file outcome gives saying = cc
-read_says next limit (Some bytes) file outcome gives saying =
-    let same : within limit bytes ≡ file = cc in rw same saying
-
--- where the files tell, a plan says one thing
-pub one_said : (bytes_of : List ℕ → Option (List ℕ)) (plan : Plan) (status : Verdict) (text : List ℕ) →
-    MaySay (Some bytes_of) plan status text → said_by bytes_of plan ≡ Some (status, text)
-one_said bytes_of (Says s t) status text saying = rw (saying.0, saying.1) refl
-one_said bytes_of (Reads name limit next) status text (file, gives, saying) =
-    read_says (λ f. said_by bytes_of (next f)) limit (bytes_of name) file (status, text) gives
-    (one_said bytes_of (next file) status text saying)
-
 said_at : (bytes_of : List ℕ → Option (List ℕ)) (plan : Option Plan) (old new : List (List ℕ)) (before after : Option (List ℕ))
     (result : ℕ) (outcome : Outcome) →
     Comes (Some bytes_of) plan old new outcome → new ≡ old → result ≡ status_of outcome → Appends before after (text_of outcome) →
-    IsSaid (said_of bytes_of plan) before after result
-said_at bytes_of None old new before after result Misused comes same is all = inl (is, all)
+    IsSaid (PlanSays bytes_of plan) before after result
+said_at bytes_of None old new before after result Misused comes same is all = inl (usage, (is, refl), all)
 said_at bytes_of None old new before after result (Speaks status text) comes same is all =
     absurd (let e : Speaks status text ≡ Misused = comes.0 in cc)
 said_at bytes_of None old new before after result (Unread name) comes same is all = absurd (let e : Unread name ≡ Misused = comes.0 in cc)
 said_at bytes_of None old new before after result Spent comes same is all = absurd (let e : Spent ≡ Misused = comes.0 in cc)
 said_at bytes_of (Some plan) old new before after result Misused comes same is all = absurd comes
 said_at bytes_of (Some plan) old new before after result (Speaks status text) comes same is all =
-    inl (rw (one_said bytes_of plan status text comes.1) (is, all))
+    inl (text, (status, is, comes.1), all)
 said_at bytes_of (Some plan) old new before after result (Unread name) comes same is all = absurd (no_longer old new name comes.1 same)
 said_at bytes_of (Some plan) old new before after result Spent comes same is all = inr (is, all)
 
@@ -65,7 +48,7 @@ said_at bytes_of (Some plan) old new before after result Spent comes same is all
 pub serves_said : (bytes_of : List ℕ → Option (List ℕ)) (plan : Option Plan) (old new : List (List ℕ)) (before after : Option (List ℕ))
     (result : ℕ) →
     Serves (Some bytes_of) plan old new before after result → new ≡ old → (result ≡ 4 → ⊥) →
-    IsSaid (said_of bytes_of plan) before after result
+    IsSaid (PlanSays bytes_of plan) before after result
 serves_said bytes_of plan old new before after result serves same no_four =
     elim serves.writes [
       | inl all ↦ said_at bytes_of plan old new before after result serves.outcome serves.comes same all.0 all.1
@@ -135,7 +118,7 @@ serves_le held plan old new before after result serves = le_at before after resu
 -- the same for any object, by whether it tells
 pub serves_told : (held : Held) (plan : Option Plan) (old new : List (List ℕ)) (before after : Option (List ℕ)) (count later result : ℕ) →
     Serves held plan old new before after result → (result ≡ 4 → Rose count later) →
-    IfSome held (λ bytes_of. new ≡ old → IsCalm count later → IsSaid (said_of bytes_of plan) before after result)
+    IfSome held (λ bytes_of. new ≡ old → IsCalm count later → IsSaid (PlanSays bytes_of plan) before after result)
 serves_told None plan old new before after count later result serves four = tt
 serves_told (Some bytes_of) plan old new before after count later result serves four = λ same calm.
     serves_said bytes_of plan old new before after result serves same (λ is. let rose : Rose count later = four is in omega arith)

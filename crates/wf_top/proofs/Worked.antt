@@ -1,32 +1,35 @@
 -- Worked values of the definitions of this crate: its limits, words, lines and statuses.
-use Rattle.std.proofs.Common.{◌≡◌, ℕ, List, [], ◌∷◌, ◌++◌, Bool, true, false, Option, None, Some, Ok, Err, replicate, refl}
+use Rattle.std.proofs.Common.{◌≡◌, ℕ, List, [], ◌∷◌, ◌++◌, Bool, true, false, Option, None, Some, Ok, Err, inl, inr, replicate, refl}
 use lib.Utf8.{encode}
 use Rattle.std.specs.Prelude.{codes}
 use Rattle.std.specs.Str.{chars}
 use Rattle.std.specs.Fmt.{digits}
 use Rattle.wf_answers.specs.Inputs.{InputsTree}
 use Rattle.wf_def.specs.ActionTree.{ActionTree, action, KindTree, compose, scope, ActionTrees, no_actions, action_then}
-use Rattle.wf_def.specs.DefTree.{DefTree}
+use Rattle.wf_def.specs.DefTree.{DefTree, TriggerTree}
 use Rattle.wf_json.specs.Json.{string}
 use Rattle.wf_reading.specs.declared.definition.RuleFault.{RuleFault}
+use Rattle.wf_outside.specs.Outside.{Held}
+use Rattle.wf_told.specs.Records.{runs_records}
+use Rattle.wf_told.specs.Runs.{TellsRuns}
 use Rattle.wf_template.specs.DataTree as data_
-use Rattle.wf_top.specs.Commands.{accepted, accepted_line, judged_definition, judged_inputs, judged_schedule, judged_value, made_runs}
-use Rattle.wf_top.specs.Commands.{plan, recurs, run}
-use Rattle.wf_top.specs.Commands.{scheduled, text_of_runs, triggered}
+use Rattle.wf_template.specs.ExprTree.{call, expr_trees}
+use Rattle.wf_template.specs.TemplateTree.{whole}
+use Rattle.wf_top.specs.Commands.{accepted, accepted_line, judged_definition, judged_inputs, judged_schedule, judged_value, plan, recurs}
+use Rattle.wf_top.specs.Commands.{run, scheduled, triggered}
 use Rattle.wf_top.specs.Fault.{fault_line, form_words}
-use Rattle.wf_plain.specs.Unbuilt.{not_yet}
-use Rattle.wf_top.specs.Form.{built, checked, definition_form, inputs_form, schedule_form, unbuilt_for}
-use Rattle.wf_top.specs.Plan.{Plan, Says, Reads, within}
+use Rattle.wf_top.specs.Form.{checked, definition_form, inputs_form, schedule_form}
+use Rattle.wf_top.specs.Plan.{Plan, Says, Reads, Makes, MaySay, within}
 use Rattle.wf_top.specs.Served as served
 use Rattle.wf_top.specs.Trigger.{trigger_line, trigger_words}
 use Rattle.jiff_core.specs.Calendar.{days_of_months}
 use Rattle.wf_fn_time.specs.Calendar.{day_at, days_of_first_years}
 use Rattle.wf_recur.specs.declared.fault.RecurrenceFault.{RecurrenceFault}
 use Rattle.wf_top.specs.Fires.{moments_text, recurrence_line, recurrence_words, trigger_in}
-use Rattle.wf_val.specs.ValueTree.{boolean, members, null, object}
+use Rattle.wf_val.specs.ValueTree.{ValueTree, boolean, list, members, null, object, trees}
 use Rattle.wf_top.specs.Words.{command_of, count_of, is_traced, makes_runs, schedule_word}
 use Rattle.wf_top.specs.declared.fault.FormFault.{FormFault}
-use Rattle.wf_printed.specs.declared.fault.RunsFault.{RunsFault}
+use Rattle.wf_told.specs.declared.fault.RunsFault.{RunsFault}
 use Rattle.wf_top.specs.declared.said.Verdict.TheVariants.{Done, Definition, Inputs, TooLarge}
 use Rattle.wf_top.specs.declared.words.Command.{Command}
 use Rattle.wf_top.specs.declared.words.Command.TheVariants.{Check, Run, Trace, Fires}
@@ -44,10 +47,12 @@ letters count = replicate count 97
 abbrev first_limit : Plan → ℕ
 first_limit (Says verdict said) = 0
 first_limit (Reads name limit next) = limit
+first_limit (Makes traced d inputs schedule) = 0
 
 abbrev first_name : Plan → List ℕ
 first_name (Says verdict said) = []
 first_name (Reads name limit next) = name
+first_name (Makes traced d inputs schedule) = []
 
 -- words of a command and its files
 abbrev words_of : List ℕ → ℕ → List (List ℕ)
@@ -79,7 +84,7 @@ within-limit = refl
 within-one_more : within 3 (letters 4) ≡ None
 within-one_more = refl
 
-too_long-definition : definition_form Check None ≡ Err FormFault.TooLong
+too_long-definition : definition_form None ≡ Err FormFault.TooLong
 too_long-definition = refl
 
 too_long-inputs : inputs_form None ≡ Err FormFault.TooLong
@@ -115,7 +120,7 @@ third-schedule : (traced : Bool) (d : DefTree) (inputs : InputsTree) →
 third-schedule traced d inputs = refl
 
 third-none : (d : DefTree) (inputs : InputsTree) →
-    judged_inputs false (schedule_word (two_files (codes "run"))) d (Ok inputs) ≡ made_runs (text_of_runs false d inputs [])
+    judged_inputs false (schedule_word (two_files (codes "run"))) d (Ok inputs) ≡ Makes false d inputs []
 third-none d inputs = refl
 
 -- `run` writes no events, also under a schedule, and `trace` does
@@ -253,9 +258,6 @@ words-last_rule : (pointer : List ℕ) → form_words (FormFault.Rule 21 pointer
 unfolding digits
 words-last_rule pointer = refl
 
-words-not_yet : (pointer : List ℕ) → form_words (FormFault.NotYet pointer) ≡ codes "NotYet " ++ string pointer
-words-not_yet pointer = refl
-
 words-form : (pointer : List ℕ) → form_words (FormFault.Form pointer) ≡ codes "Form " ++ string pointer
 words-form pointer = refl
 
@@ -367,28 +369,12 @@ definition-told : (command : Command) (words : List (List ℕ)) →
 unfolding fault_line
 definition-told command words = refl
 
--- a rule between parts is told before what isn't built, and `check` takes all that breaks none
-rule-broken : (command : Command) (d : DefTree) (pointer : List ℕ)
-    → checked command d (Some (RuleFault.Rule 9 pointer)) ≡ Err (FormFault.Rule 9 pointer)
-rule-broken command d pointer = refl
+-- a rule between parts is told, and a definition that breaks none is taken, by each command alike
+rule-broken : (d : DefTree) (pointer : List ℕ) → checked d (Some (RuleFault.Rule 9 pointer)) ≡ Err (FormFault.Rule 9 pointer)
+rule-broken d pointer = refl
 
-check-takes_all : (d : DefTree) → checked Check d None ≡ Ok d
-unfolding unbuilt_for
-check-takes_all d = refl
-
-run-lacks : (d : DefTree) → checked Run d None ≡ built d (not_yet d)
-unfolding unbuilt_for
-run-lacks d = refl
-
-trace-lacks : (d : DefTree) → checked Trace d None ≡ built d (not_yet d)
-unfolding unbuilt_for
-trace-lacks d = refl
-
-built-told : (d : DefTree) (pointer : List ℕ) → built d (Some pointer) ≡ Err (FormFault.NotYet pointer)
-built-told d pointer = refl
-
-built-none : (d : DefTree) → built d None ≡ Ok d
-built-none d = refl
+rules-kept : (d : DefTree) → checked d None ≡ Ok d
+rules-kept d = refl
 
 -- a fault of the inputs is told before anything of the schedule, and one of the schedule before anything of the runs
 inputs-told : (traced : Bool) (schedule : Option (List ℕ)) (d : DefTree) →
@@ -402,18 +388,17 @@ unfolding fault_line digits
 schedule-told traced d inputs = refl
 
 schedule-taken : (traced : Bool) (d : DefTree) (inputs : InputsTree) (numbers : List ℕ) →
-    judged_schedule traced d inputs (Ok numbers) ≡ made_runs (text_of_runs traced d inputs numbers)
+    judged_schedule traced d inputs (Ok numbers) ≡ Makes traced d inputs numbers
 schedule-taken traced d inputs numbers = refl
 
-runs-told : made_runs (Ok (codes "# no run\n")) ≡ Says Done (codes "# no run\n")
-runs-told = refl
+-- each text that is told of the runs may be said of them, whether the files tell or not
+runs-told : (held : Held) (traced : Bool) (d : DefTree) (inputs : InputsTree) (schedule text : List ℕ)
+    → TellsRuns d inputs schedule traced text → MaySay held (Makes traced d inputs schedule) Done text
+runs-told held traced d inputs schedule text told = inl (refl, told)
 
-trigger-told : made_runs (Err (RunsFault.Trigger TriggerFault.SplitNotList)) ≡ Says Inputs (codes "trigger SplitNotList\n")
-unfolding trigger_line
-trigger-told = refl
-
-cost-told : made_runs (Err RunsFault.TooLarge) ≡ Says TooLarge (codes "too large\n")
-cost-told = refl
+cost-told : (held : Held) (traced : Bool) (d : DefTree) (inputs : InputsTree) (schedule : List ℕ)
+    → runs_records d inputs ≡ Err RunsFault.TooLarge → MaySay held (Makes traced d inputs schedule) TooLarge (codes "too large\n")
+cost-told held traced d inputs schedule over = inr (RunsFault.TooLarge, over, (refl, refl))
 
 -- ---- accepted definitions
 
@@ -441,6 +426,44 @@ accepted-two = refl
 accepted-inner : accepted_line (definition_with (action_then (container (codes "S") (scope two_leaves)) two_leaves)) ≡ codes "accepted 5\n"
 unfolding accepted_line digits
 accepted-inner = refl
+
+-- ---- runs
+
+abbrev inputs_with : Option (List ℕ) → ValueTree → InputsTree
+inputs_with name body = record {
+  run = codes "r";
+  seed = codes "s";
+  moment = 0;
+  trigger = name;
+  outputs = object (members ((codes "body", body) ∷ []));
+  parameters = [];
+  answers = [];
+}
+
+-- a run for each item of the trigger's body
+abbrev split_body : TriggerTree
+split_body = record { name = codes "t"; split = Some (whole (call (codes "triggerBody") (expr_trees []))); conditions = [] }
+
+abbrev split_definition : DefTree
+split_definition = record { digest = []; parameters = []; given = []; triggers = split_body ∷ []; top = two_leaves; outputs = [] }
+
+-- inputs that name a trigger which the definition hasn't
+no_trigger-told : (held : Held) (traced : Bool) (schedule : List ℕ)
+    → MaySay held (Makes traced (definition_with two_leaves) (inputs_with (Some (letters 1)) null) schedule) Inputs
+    (codes "trigger NoTrigger\n")
+unfolding trigger_line
+no_trigger-told held traced schedule = inr (RunsFault.Trigger TriggerFault.NoTrigger, refl, (refl, refl))
+
+no_list-told : (held : Held) (traced : Bool) (schedule : List ℕ)
+    → MaySay held (Makes traced split_definition (inputs_with None null) schedule) Inputs (codes "trigger SplitNotList\n")
+unfolding trigger_line
+no_list-told held traced schedule = inr (RunsFault.Trigger TriggerFault.SplitNotList, refl, (refl, refl))
+
+-- a split of nothing starts no run, and that is said
+no_run-told : (held : Held) (traced : Bool) (schedule : List ℕ)
+    → MaySay held (Makes traced split_definition (inputs_with None (list (trees []))) schedule) Done (codes "# no run\n")
+no_run-told held traced schedule =
+    inl (refl, record { starts = []; runs = []; start = refl; told = tt; records = refl; text_is = refl })
 
 -- ---- statuses
 

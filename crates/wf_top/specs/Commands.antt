@@ -5,24 +5,20 @@ use Rattle.wf_answers.specs.Inputs.{InputsTree}
 use Rattle.wf_def.specs.DefTree.{DefTree}
 use Rattle.wf_def.specs.Names.{graph_names}
 use Rattle.wf_history.specs.History.{ListedTree}
-use Rattle.wf_plain.specs.Plain.{plain_of}
 use Rattle.wf_recur.specs.Moments.{moments_due}
 use Rattle.wf_recur.specs.Reading.{recurrence_of}
 use Rattle.wf_recur.specs.declared.fault.RecurrenceFault.{RecurrenceFault}
 use Rattle.wf_recur.specs.declared.recurrence.Recurrence.{Recurrence}
 use Rattle.wf_val.specs.ValueTree.{ValueTree}
-use Rattle.wf_printed.specs.Runs.{runs_text}
-use Rattle.wf_printed.specs.declared.fault.RunsFault.{RunsFault}
 use Rattle.wf_top.specs.Fault.{fault_line}
 use Rattle.wf_record.specs.Record.{run_status_name}
 use Rattle.wf_top.specs.Fires.{moments_text, recurrence_line, recurrence_words, trigger_in}
 use Rattle.wf_top.specs.Form.{definition_form, inputs_form, listing_form, schedule_form, value_form}
 use Rattle.wf_top.specs.Limits.{definition_bytes, history_bytes, inputs_bytes, schedule_bytes}
-use Rattle.wf_top.specs.Plan.{Plan, Says, Reads}
-use Rattle.wf_top.specs.Trigger.{trigger_line}
+use Rattle.wf_top.specs.Plan.{Plan, Says, Reads, Makes}
 use Rattle.wf_top.specs.Words.{command_of, is_traced, schedule_word, word}
 use Rattle.wf_top.specs.declared.fault.FormFault.{FormFault}
-use Rattle.wf_top.specs.declared.said.Verdict.TheVariants.{Done, Definition, History, Inputs, TooLarge}
+use Rattle.wf_top.specs.declared.said.Verdict.TheVariants.{Done, Definition, History, Inputs}
 use Rattle.wf_top.specs.declared.words.Command.{Command}
 use Rattle.wf_top.specs.declared.words.Command.TheVariants.{Check, Run, Trace, Fires}
 
@@ -30,29 +26,14 @@ use Rattle.wf_top.specs.declared.words.Command.TheVariants.{Check, Run, Trace, F
 unfoldable pub accepted_line : DefTree → List ℕ
 accepted_line d = codes "accepted " ++ (decimal (length (graph_names d.top)) ++ 10 ∷ [])
 
--- what is written of the runs that the inputs start, each under the schedule, with the events of each or without; or why there are none
-unfoldable pub text_of_runs : Bool → DefTree → InputsTree → List ℕ → Result (List ℕ) RunsFault
-text_of_runs traced d inputs schedule = runs_text (plain_of d) inputs schedule traced
-
-abbrev pub too_large : List ℕ
-too_large = codes "too large\n"
-
--- The runs are made, or refused for the fault of the trigger or for their cost.
-abbrev pub made_runs : Result (List ℕ) RunsFault → Plan
-made_runs (Ok text) = Says Done text
-made_runs (Err (RunsFault.Trigger fault)) = Says Inputs (trigger_line fault)
-made_runs (Err RunsFault.TooLarge) = Says TooLarge too_large
--- This is never met: that memory ran out isn't what runs come to (`runs_want_no_memory` of wf_printed).
-made_runs (Err RunsFault.Memory) = Says Done []
-
 -- SCHEDULE is read and judged: the runs are made, or refused for the fault of the schedule.
 abbrev pub judged_schedule : Bool → DefTree → InputsTree → Result (List ℕ) FormFault → Plan
 judged_schedule traced d inputs (Err fault) = Says Inputs (fault_line (codes "schedule ") fault)
-judged_schedule traced d inputs (Ok schedule) = made_runs (text_of_runs traced d inputs schedule)
+judged_schedule traced d inputs (Ok schedule) = Makes traced d inputs schedule
 
 -- The runs are made under the schedule of a file, or under the empty one where no file is named.
 abbrev pub scheduled : Bool → Option (List ℕ) → DefTree → InputsTree → Plan
-scheduled traced None d inputs = made_runs (text_of_runs traced d inputs [])
+scheduled traced None d inputs = Makes traced d inputs []
 scheduled traced (Some schedule) d inputs = Reads schedule schedule_bytes (λ file. judged_schedule traced d inputs (schedule_form file))
 
 -- INPUTS is read and judged: the runs are made, or refused for the fault of the inputs.
@@ -81,7 +62,7 @@ judged_definition command words (Ok d) = accepted command words d
 -- what a command says whose definition is the file of this name
 abbrev pub defined : List ℕ → Command → List (List ℕ) → Plan
 defined definition command words =
-    Reads definition definition_bytes (λ file. judged_definition command words (definition_form command file))
+    Reads definition definition_bytes (λ file. judged_definition command words (definition_form file))
 
 -- what `list` writes of a record: its run, how that ended, and how many rows it has
 abbrev pub listed_line : ListedTree → List ℕ
@@ -118,7 +99,7 @@ judged_value name from count (Err fault) = Says Definition (fault_line (codes "d
 -- what `fires` says
 abbrev pub fired : List ℕ → List ℕ → ℕ → ℕ → Plan
 fired definition name from count =
-    Reads definition definition_bytes (λ file. judged_value name from count (value_form (Fires from count) file))
+    Reads definition definition_bytes (λ file. judged_value name from count (value_form file))
 
 -- what a command with its words says
 unfoldable pub plan : Command → List (List ℕ) → Plan

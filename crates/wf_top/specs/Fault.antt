@@ -4,7 +4,7 @@ use Rattle.wf_answers.specs.declared.fault.InputsFault.{InputsFault}
 use Rattle.wf_json.specs.Json.{string}
 use Rattle.wf_json.specs.declared.fault.JsonFault.{JsonFault}
 use Rattle.wf_reading.specs.declared.definition.RuleFault.{RuleFault}
-use Rattle.wf_run.specs.declared.fault.ScheduleFault.{ScheduleFault}
+use Rattle.wf_schedule.specs.declared.fault.ScheduleFault.{ScheduleFault}
 use Rattle.wf_top.specs.declared.fault.FormFault.{FormFault}
 
 -- a fault of the JSON text, as a fault of the file
@@ -38,7 +38,6 @@ form_words FormFault.NotJson = codes "NotJson"
 form_words (FormFault.NotWhole pointer) = codes "NotWhole " ++ string pointer
 form_words (FormFault.TooDeep pointer) = codes "TooDeep " ++ string pointer
 form_words (FormFault.Rule rule pointer) = codes "V" ++ (decimal rule ++ (32 ∷ string pointer))
-form_words (FormFault.NotYet pointer) = codes "NotYet " ++ string pointer
 form_words (FormFault.Form pointer) = codes "Form " ++ string pointer
 form_words (FormFault.Twice address attempt) = codes "Twice " ++ (string address ++ (32 ∷ decimal attempt))
 form_words FormFault.Moment = codes "Moment"

@@ -6,17 +6,14 @@ use Rattle.wf_def.specs.DefTree.{DefTree}
 use Rattle.wf_history.specs.History.{Kept, ListedTree, listed, records_of}
 use Rattle.wf_json.specs.Read.{read_value}
 use Rattle.wf_json.specs.declared.fault.JsonFault.{JsonFault}
-use Rattle.wf_plain.specs.Unbuilt.{not_yet}
 use Rattle.wf_reading.specs.Meant as read
 use Rattle.wf_reading.specs.ReadSeen.{fault_in}
 use Rattle.wf_reading.specs.declared.definition.RuleFault.{RuleFault}
 use Rattle.wf_rules.specs.Broken.{broken_of}
-use Rattle.wf_run.specs.Schedule as schedules
-use Rattle.wf_run.specs.declared.fault.ScheduleFault.{ScheduleFault}
+use Rattle.wf_schedule.specs.Schedule as schedules
+use Rattle.wf_schedule.specs.declared.fault.ScheduleFault.{ScheduleFault}
 use Rattle.wf_top.specs.Fault.{inputs_fault, json_fault, rule_fault, schedule_fault}
 use Rattle.wf_top.specs.declared.fault.FormFault.{FormFault}
-use Rattle.wf_top.specs.declared.words.Command.{Command}
-use Rattle.wf_top.specs.declared.words.Command.TheVariants.{Check, Run, Trace, Fires}
 use Rattle.wf_val.specs.ValueTree.{ValueTree}
 
 -- A form says what a file holds of it, or which fault the file has: None stands for a file over its limit.
@@ -33,50 +30,36 @@ abbrev pub json_form : {T : Type 0} → (ValueTree → Result T FormFault) → F
 json_form of_value None = Err FormFault.TooLong
 json_form of_value (Some bytes) = found of_value (read_value bytes)
 
--- The least pointer of what isn't built for a command. `check` and `fires` make no run, so they lack nothing; and `list`, which reads no
--- definition, never asks.
-unfoldable pub unbuilt_for : Command → DefTree → Option (List ℕ)
-unbuilt_for Check d = None
-unbuilt_for Run d = not_yet d
-unbuilt_for Trace d = not_yet d
-unbuilt_for Command.List d = None
-unbuilt_for (Fires from count) d = None
-
 -- the first of the rules between its parts that a definition breaks
 unfoldable pub broken_in : DefTree → Option RuleFault
 broken_in d = broken_of d
 
--- a definition in which this isn't built, or nothing
-abbrev pub built : DefTree → Option (List ℕ) → Result DefTree FormFault
-built d (Some pointer) = Err (FormFault.NotYet pointer)
-built d None = Ok d
-
 -- a definition that breaks this rule between its parts, or none
-abbrev pub checked : Command → DefTree → Option RuleFault → Result DefTree FormFault
-checked command d (Some fault) = Err (rule_fault fault)
-checked command d None = built d (unbuilt_for command d)
+abbrev pub checked : DefTree → Option RuleFault → Result DefTree FormFault
+checked d (Some fault) = Err (rule_fault fault)
+checked d None = Ok d
 
 -- a value that breaks this rule on what stands where, or none
-abbrev pub formed : Command → ValueTree → Option RuleFault → Result DefTree FormFault
-formed command value (Some fault) = Err (rule_fault fault)
-formed command value None = checked command (read.definition_of value) (broken_in (read.definition_of value))
+abbrev pub formed : ValueTree → Option RuleFault → Result DefTree FormFault
+formed value (Some fault) = Err (rule_fault fault)
+formed value None = checked (read.definition_of value) (broken_in (read.definition_of value))
 
--- the definition that a value means to a command: it breaks no rule, and all that the command asks for is built
-abbrev pub definition_of : Command → ValueTree → Result DefTree FormFault
-definition_of command value = formed command value (fault_in value)
+-- the definition that a value means: it breaks no rule
+abbrev pub definition_of : ValueTree → Result DefTree FormFault
+definition_of value = formed value (fault_in value)
 
 -- the form of definitions
-abbrev pub definition_form : Command → Form DefTree
-definition_form command file = json_form (definition_of command) file
+abbrev pub definition_form : Form DefTree
+definition_form file = json_form definition_of file
 
--- the value of a definition that is taken
+-- the value of an accepted definition
 abbrev pub kept : ValueTree → Result DefTree FormFault → Result ValueTree FormFault
 kept value (Ok d) = Ok value
 kept value (Err fault) = Err fault
 
 -- the form of definitions, of which the value is kept
-abbrev pub value_form : Command → Form ValueTree
-value_form command file = json_form (λ value. kept value (definition_of command value)) file
+abbrev pub value_form : Form ValueTree
+value_form file = json_form (λ value. kept value (definition_of value)) file
 
 -- what inputs are read, or their fault
 abbrev pub or_inputs_fault : Result answers.InputsTree InputsFault → Result answers.InputsTree FormFault

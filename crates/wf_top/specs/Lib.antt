@@ -6,5 +6,6 @@ pub mod Limits
 pub mod Plan
 pub mod Ran
 pub mod Served
+pub mod Told
 pub mod Trigger
 pub mod Words

@@ -1,11 +1,11 @@
 -- How a command ends, in terms of what its files hold.
-use Rattle.std.specs.Prelude.{◌≡◌, ◌⊎◌, ℕ, List, [], true, Option, None, Some, Result, Ok, Err, codes}
+use Rattle.std.specs.Prelude.{◌≡◌, ◌⊎◌, ℕ, Bool, List, [], true, Option, None, Some, Result, Ok, Err, codes}
 use Rattle.std.specs.Io.KnownBytes.{Appends}
 use Rattle.wf_answers.specs.Inputs.{InputsTree}
 use Rattle.wf_def.specs.DefTree.{DefTree}
 use Rattle.wf_history.specs.History.{ListedTree}
 use Rattle.wf_outside.specs.Outside.{Held}
-use Rattle.wf_top.specs.Commands.{accepted_line, listing_text, text_of_runs, too_large}
+use Rattle.wf_top.specs.Commands.{accepted_line, listing_text}
 use Rattle.wf_top.specs.Fault.{fault_line}
 use Rattle.wf_recur.specs.Next.{AreNext}
 use Rattle.wf_recur.specs.Reading.{recurrence_of}
@@ -17,10 +17,14 @@ use Rattle.wf_top.specs.Form.{Form, definition_form, inputs_form, listing_form, 
 use Rattle.wf_top.specs.Limits.{definition_bytes, history_bytes, inputs_bytes, schedule_bytes}
 use Rattle.wf_top.specs.Plan.{MayGive, within}
 use Rattle.wf_top.specs.Served.{out_of_memory}
+use Rattle.wf_top.specs.Told.{too_large}
 use Rattle.wf_top.specs.Trigger.{trigger_line}
 use Rattle.wf_top.specs.Words.{command_of, is_traced, makes_runs, schedule_word, word}
 use Rattle.wf_top.specs.declared.fault.FormFault.{FormFault}
-use Rattle.wf_printed.specs.declared.fault.RunsFault.{RunsFault}
+use Rattle.wf_told.specs.Records.{runs_records}
+use Rattle.wf_told.specs.Runs.{TellsRuns}
+use Rattle.wf_told.specs.declared.fault.RunsFault.{RunsFault}
+use Rattle.wf_record.specs.Record.{RecordTree}
 use Rattle.wf_top.specs.declared.words.Command.{Command}
 use Rattle.wf_top.specs.declared.words.Command.TheVariants.{Check, Fires}
 use Rattle.wf_trigger.specs.declared.fault.TriggerFault.{TriggerFault}
@@ -32,7 +36,7 @@ Gives held name limit form found = (file : Option (List ℕ)) × MayGive held na
 -- what DEF gave to a command
 abbrev pub GivesDefinition : Held → List (List ℕ) → Command → Result DefTree FormFault → Type 0
 GivesDefinition held words command found =
-    (command_of words ≡ Some command) × Gives held (word words 1) definition_bytes (definition_form command) found
+    (command_of words ≡ Some command) × Gives held (word words 1) definition_bytes definition_form found
 
 -- what INPUTS gave to `run` or `trace`
 abbrev pub GivesInputs : Held → List (List ℕ) → Result InputsTree FormFault → Type 0
@@ -57,10 +61,10 @@ pub record Checked (held : Held) (words : List (List ℕ)) (before after : Optio
   pub definition_given : GivesDefinition held words Check (Ok definition)
   pub written : Appends before after (accepted_line definition)
 
--- what DEF gave to `fires`: the value of a definition that it takes
+-- what DEF gave to `fires`: the value of an accepted definition
 abbrev pub GivesValue : Held → List (List ℕ) → ℕ → ℕ → Result ValueTree FormFault → Type 0
 GivesValue held words from count found =
-    (command_of words ≡ Some (Fires from count)) × Gives held (word words 1) definition_bytes (value_form (Fires from count)) found
+    (command_of words ≡ Some (Fires from count)) × Gives held (word words 1) definition_bytes value_form found
 
 -- DEF gave a definition that has the trigger, whose recurrence was read, and its next moments were taken, and nothing else.
 pub record Fired (held : Held) (words : List (List ℕ)) (from count : ℕ) (before after : Option (List ℕ)) : Type 0 where
@@ -95,14 +99,14 @@ pub record RefusedRecurrence (held : Held) (words : List (List ℕ)) (before aft
   pub recurs_not : recurrence_of trigger ≡ Err fault
   pub written : Appends before after (recurrence_line (recurrence_words fault))
 
--- The words are `run` or `trace`, DEF gave a definition that it takes, and INPUTS gave inputs.
+-- The words are `run` or `trace`, DEF gave an accepted definition, and INPUTS gave inputs.
 pub record IsGiven (held : Held) (words : List (List ℕ)) (command : Command) (definition : DefTree) (inputs : InputsTree) : Type 0 where
   pub makes : makes_runs command ≡ true
   pub definition_given : GivesDefinition held words command (Ok definition)
   pub inputs_given : GivesInputs held words (Ok inputs)
 
--- The runs were made: DEF gave a definition, INPUTS inputs and SCHEDULE a schedule, and the text of the runs that the inputs start under
--- the schedule was taken, at `trace` with their events, and nothing else.
+-- The runs were made: DEF gave a definition, INPUTS inputs and SCHEDULE a schedule, and a text that is told of the runs that the inputs
+-- start, each under the schedule, at `trace` with their events, was taken, and nothing else.
 pub record Ran (held : Held) (words : List (List ℕ)) (command : Command) (before after : Option (List ℕ)) : Type 0 where
   pub definition : DefTree
   pub inputs : InputsTree
@@ -110,10 +114,10 @@ pub record Ran (held : Held) (words : List (List ℕ)) (command : Command) (befo
   pub text : List ℕ
   pub given : IsGiven held words command definition inputs
   pub schedule_given : GivesSchedule held words (Ok schedule)
-  pub runs_made : text_of_runs (is_traced command) definition inputs schedule ≡ Ok text
+  pub runs_made : TellsRuns definition inputs schedule (is_traced command) text
   pub written : Appends before after text
 
--- DEF gave no definition that the command takes, and its fault was taken.
+-- DEF gave no accepted definition, and its fault was taken.
 pub record RefusedDefinition (held : Held) (words : List (List ℕ)) (before after : Option (List ℕ)) : Type 0 where
   pub command : Command
   pub fault : FormFault
@@ -140,7 +144,7 @@ pub record RefusedSchedule (held : Held) (words : List (List ℕ)) (before after
   pub schedule_given : GivesSchedule held words (Err fault)
   pub written : Appends before after (fault_line (codes "schedule ") fault)
 
--- DEF gave a definition, INPUTS inputs and SCHEDULE a schedule, the runs can't be made for this fault, and its line was taken.
+-- DEF gave a definition, INPUTS inputs and SCHEDULE a schedule, there are no records of runs for this fault, and its line was taken.
 pub record RefusedRuns (held : Held) (words : List (List ℕ)) (before after : Option (List ℕ)) (fault : RunsFault)
     (line : List ℕ) : Type 0 where
   pub command : Command
@@ -149,7 +153,7 @@ pub record RefusedRuns (held : Held) (words : List (List ℕ)) (before after : O
   pub schedule : List ℕ
   pub given : IsGiven held words command definition inputs
   pub schedule_given : GivesSchedule held words (Ok schedule)
-  pub runs_refused : text_of_runs (is_traced command) definition inputs schedule ≡ Err fault
+  pub runs_refused : runs_records definition inputs ≡ Err fault
   pub written : Appends before after line
 
 -- No run could start, for a fault of the trigger, and it was taken.
@@ -177,17 +181,17 @@ pub record RefusedHistory (held : Held) (words : List (List ℕ)) (before after 
 abbrev pub Holds : {T : Type 0} → (List ℕ → Option (List ℕ)) → List ℕ → ℕ → Form T → T → Type 0
 Holds bytes_of name limit form t = (bytes : List ℕ) × (bytes_of name ≡ Some bytes) × (form (within limit bytes) ≡ Ok t)
 
--- The words are this command, and a file DEF is there and holds a definition that the command takes.
+-- The words are this command, and a file DEF is there and holds an accepted definition.
 pub record HoldsDefinition (bytes_of : List ℕ → Option (List ℕ)) (words : List (List ℕ)) (command : Command) (d : DefTree) : Type 0 where
   pub names : command_of words ≡ Some command
-  pub held : Holds bytes_of (word words 1) definition_bytes (definition_form command) d
+  pub held : Holds bytes_of (word words 1) definition_bytes definition_form d
 
 -- All tests of `fires` pass: a file DEF is there and holds a definition with the trigger, whose recurrence reads.
 pub record PassesFires (bytes_of : List ℕ → Option (List ℕ)) (words : List (List ℕ)) (from count : ℕ) (r : Recurrence) : Type 0 where
   pub names : command_of words ≡ Some (Fires from count)
   pub file : ValueTree
   pub trigger : ValueTree
-  pub held : Holds bytes_of (word words 1) definition_bytes (value_form (Fires from count)) file
+  pub held : Holds bytes_of (word words 1) definition_bytes value_form file
   pub has_trigger : trigger_in (word words 2) file ≡ Some trigger
   pub recurs : recurrence_of trigger ≡ Ok r
 
@@ -201,18 +205,22 @@ pub record HoldsHistory (bytes_of : List ℕ → Option (List ℕ)) (words : Lis
   pub names : command_of words ≡ Some Command.List
   pub held : Holds bytes_of (word words 1) history_bytes listing_form listing
 
--- All tests of `run` or `trace` pass: the words are that, the files hold a definition, inputs and a schedule, and the runs can be made.
-pub record PassesAll (bytes_of : List ℕ → Option (List ℕ)) (words : List (List ℕ)) (text : List ℕ) : Type 0 where
-  pub command : Command
-  pub definition : DefTree
-  pub inputs : InputsTree
-  pub schedule : List ℕ
+-- All tests of `run` or `trace` pass: the words are that, the files hold a definition, inputs and a schedule, and the runs leave records.
+pub record PassesAll (bytes_of : List ℕ → Option (List ℕ)) (words : List (List ℕ)) (command : Command) (definition : DefTree)
+    (inputs : InputsTree) (schedule : List ℕ) : Type 0 where
+  pub records : List RecordTree
   pub makes : makes_runs command ≡ true
   pub definition_held : HoldsDefinition bytes_of words command definition
   pub inputs_held : Holds bytes_of (word words 2) inputs_bytes inputs_form inputs
   pub schedule_held : HoldsSchedule bytes_of (schedule_word words) schedule
-  pub runs_made : text_of_runs (is_traced command) definition inputs schedule ≡ Ok text
+  pub runs_made : runs_records definition inputs ≡ Ok records
 
 -- The whole text was taken with its status; or memory ran out.
 abbrev pub IsWhole : Option (List ℕ) → Option (List ℕ) → List ℕ → ℕ → Type 0
 IsWhole before after text result = ((result ≡ 0) × Appends before after text) ⊎ ((result ≡ 5) × Appends before after out_of_memory)
+
+-- A text that is told of the runs was taken as a whole, with its status; or memory ran out.
+abbrev pub IsToldWhole : Bool → DefTree → InputsTree → List ℕ → Option (List ℕ) → Option (List ℕ) → ℕ → Type 0
+IsToldWhole traced definition inputs schedule before after result =
+    ((text : List ℕ) × (result ≡ 0) × TellsRuns definition inputs schedule traced text × Appends before after text)
+    ⊎ ((result ≡ 5) × Appends before after out_of_memory)

@@ -1,9 +1,8 @@
 -- How a call ends, and what it wrote.
-use Rattle.std.specs.Prelude.{◌≡◌, ◌⊎◌, ℕ, ◌≤◌, List, [], ◌∷◌, ◌++◌, length, take, Option, None, Some, Result, Ok, Err, IsSomeAnd, codes}
+use Rattle.std.specs.Prelude.{◌≡◌, ◌⊎◌, ℕ, ◌≤◌, List, [], ◌∷◌, ◌++◌, length, take, Option, None, Some, Result, Ok, Err, codes}
 use Rattle.std.specs.Io.KnownBytes.{Appends}
-use Rattle.std.specs.Option.{option_map}
 use Rattle.wf_outside.specs.Outside.{Held}
-use Rattle.wf_top.specs.Plan.{Plan, MaySay, ComesTo, said_by}
+use Rattle.wf_top.specs.Plan.{Plan, MaySay, ComesTo}
 use Rattle.wf_top.specs.Commands.{plan_of}
 use Rattle.wf_json.specs.Json.{string}
 use Rattle.wf_top.specs.declared.said.Verdict.{Verdict}
@@ -91,19 +90,20 @@ pub record Serves (held : Held) (plan : Option Plan) (old new : List (List ℕ))
   pub comes : Comes held plan old new outcome
   pub writes : Writes before after (status_of outcome) (text_of outcome) result
 
--- what a plan says over files that tell, with None for words that are no command
-abbrev pub said_of : (List ℕ → Option (List ℕ)) → Option Plan → Option (ℕ × List ℕ)
-said_of bytes_of None = Some (2, usage)
-said_of bytes_of (Some plan) = option_map (λ said. (number said.0, said.1)) (said_by bytes_of plan)
+-- A plan says this status and this whole text over files that tell, where all that it asks for are there. None is the
+-- plan of words that are no command.
+abbrev pub PlanSays : (List ℕ → Option (List ℕ)) → Option Plan → ℕ → List ℕ → Type 0
+PlanSays bytes_of None status text = (status ≡ 2) × (text ≡ usage)
+PlanSays bytes_of (Some plan) status text = (verdict : Verdict) × (status ≡ number verdict) × MaySay (Some bytes_of) plan verdict text
 
--- What the words say over files that tell: a status and a whole text, or None where one of the files isn't there.
-abbrev pub say : (List ℕ → Option (List ℕ)) → List (List ℕ) → Option (ℕ × List ℕ)
-say bytes_of words = said_of bytes_of (plan_of words)
+-- The words say this status and this whole text over files that tell.
+abbrev pub Say : (List ℕ → Option (List ℕ)) → List (List ℕ) → ℕ → List ℕ → Type 0
+Say bytes_of words status text = PlanSays bytes_of (plan_of words) status text
 
--- That was answered, and all of it written; or memory ran out.
-abbrev pub IsSaid : Option (ℕ × List ℕ) → Option (List ℕ) → Option (List ℕ) → ℕ → Type 0
+-- A status and a text that are said were answered and written, all of it; or memory ran out.
+abbrev pub IsSaid : (ℕ → List ℕ → Type 0) → Option (List ℕ) → Option (List ℕ) → ℕ → Type 0
 IsSaid said before after result =
-    IsSomeAnd said (λ s. (result ≡ s.0) × Appends before after s.1) ⊎ ((result ≡ 5) × Appends before after out_of_memory)
+    ((text : List ℕ) × said result text × Appends before after text) ⊎ ((result ≡ 5) × Appends before after out_of_memory)
 
 -- The read of this name failed, and its turn had come.
 abbrev pub FailedAt : Held → Option Plan → List (List ℕ) → List (List ℕ) → List ℕ → Type 0

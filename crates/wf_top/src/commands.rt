@@ -1,8 +1,7 @@
 // The commands: each function follows the plan of its name, and reads at most one file.
-ghost use Rattle.std.specs.Prelude.{◌≡◌, None, Some, IfOk, IfErr};
+ghost use Rattle.std.specs.Prelude.{◌≡◌, Some, IfOk, IfErr};
 ghost use Rattle.wf_reading.specs.ReadSeen.{def_tree};
 ghost use Rattle.wf_top.specs.Commands.{accepted, accepted_line, defined, plan};
-ghost use Rattle.wf_top.specs.Form.{unbuilt_for};
 ghost use Rattle.wf_top.specs.Plan.{Says};
 ghost use Rattle.wf_top.specs.Served.{Follows};
 ghost use Rattle.wf_top.specs.Words.{command_of};
@@ -19,11 +18,12 @@ use crate::words::{Command, schedule_word};
 use std::alloc::Global;
 use wf_outside::Files;
 use wf_rules::Checked;
+use wf_told::Engine;
 use wf_val::Text;
 
 // Says that a definition is accepted.
-fn say_accepted(alloc: Global, checked: Checked) -> Result<Said, Stop>
-    ensures said { IfOk result (λ said. Says Verdict.Done (accepted_line (def_tree checked.def)) ≡ Says said.verdict said.text.items) }
+fn say_accepted(alloc: Global, checked: &Checked) -> Result<Said, Stop>
+    ensures said { IfOk result (λ said. Says Verdict.Done (accepted_line (def_tree checked.now.def)) ≡ Says said.verdict said.text.items) }
     ensures stopped { IfErr result (λ stop. stop ≡ Stop.Memory) }
 {
     Ok(Said {
@@ -33,33 +33,34 @@ fn say_accepted(alloc: Global, checked: Checked) -> Result<Said, Stop>
 }
 
 // Does what a command does with an accepted definition.
-fn accepted<F: Files>(
+fn accepted<F: Files, E: Engine>(
     alloc: Global,
     words: &[Text],
     command: Command,
     files: &mut F,
-    checked: Checked,
+    engine: &E,
+    checked: &Checked,
 ) -> Result<Said, Stop>
-    requires command { command_of words.now ≡ Some command }
-    requires built { unbuilt_for command (def_tree checked.def) ≡ None }
-    ensures follows { Follows (F.held files.old) (accepted command words.now (def_tree checked.def)) (F.failed files.old)
+    requires { command_of words.now ≡ Some command }
+    ensures follows { Follows (F.held files.old) (accepted command words.now (def_tree checked.now.def)) (F.failed files.old)
         (F.failed files.new) result }
     ensures same { F.held files.new ≡ F.held files.old }
 {
     let schedule = schedule_word(words);
     match command {
         Command::Check | Command::List | Command::Fires { .. } => say_accepted(alloc, checked),
-        Command::Run => run(alloc, files, false, &words[2], schedule, checked),
-        Command::Trace => run(alloc, files, true, &words[2], schedule, checked),
+        Command::Run => run(alloc, files, engine, false, &words[2], schedule, checked),
+        Command::Trace => run(alloc, files, engine, true, &words[2], schedule, checked),
     }
 }
 
 // Reads and judges a definition, and does what a command does with it.
-fn defined<F: Files>(
+fn defined<F: Files, E: Engine>(
     alloc: Global,
     words: &[Text],
     command: Command,
     files: &mut F,
+    engine: &E,
     definition: &Text,
 ) -> Result<Said, Stop>
     requires { command_of words.now ≡ Some command }
@@ -68,19 +69,20 @@ fn defined<F: Files>(
     ensures same { F.held files.new ≡ F.held files.old }
 {
     let file = load(alloc, files, definition, DEFINITION_LIMIT)?;
-    match definition_form(alloc, command, file) {
+    match definition_form(alloc, file) {
         Err(fault) => say_fault(alloc, Verdict::Definition, b"definition ", fault),
-        Ok(checked) => accepted(alloc, words, command, files, checked),
+        Ok(checked) => accepted(alloc, words, command, files, engine, &checked),
     }
 }
 
 /// Follows the plan of the command that the words are.
 #[tactic(auto, unfolding(crate::specs::Commands::plan))]
-pub fn follow<F: Files>(
+pub fn follow<F: Files, E: Engine>(
     alloc: Global,
     words: &[Text],
     command: Command,
     files: &mut F,
+    engine: &E,
 ) -> Result<Said, Stop>
     requires { command_of words.now ≡ Some command }
     ensures follows { Follows (F.held files.old) (plan command words.now) (F.failed files.old) (F.failed files.new) result }
@@ -89,7 +91,7 @@ pub fn follow<F: Files>(
     match command {
         Command::List => list(alloc, files, &words[1]),
         Command::Check | Command::Run | Command::Trace => {
-            defined(alloc, words, command, files, &words[1])
+            defined(alloc, words, command, files, engine, &words[1])
         }
         Command::Fires { from, count } => fired(alloc, files, &words[1], &words[2], from, count),
     }

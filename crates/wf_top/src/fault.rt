@@ -9,7 +9,7 @@ use std::alloc::{AllocError, Global};
 use wf_answers::InputsFault;
 use wf_json::JsonFault;
 use wf_reading::RuleFault;
-use wf_run::ScheduleFault;
+use wf_schedule::ScheduleFault;
 use wf_val::Text;
 
 /// Why a file isn't of its form.
@@ -25,8 +25,6 @@ pub enum FormFault {
     TooDeep { pointer: Text },
     /// A definition breaks the rule of this number, 1 to 21, there.
     Rule { rule: u8, pointer: Text },
-    /// What stands there in a definition isn't built yet.
-    NotYet { pointer: Text },
     /// What inputs have there, or lack there, isn't of their form.
     Form { pointer: Text },
     /// Two answers of inputs are for this attempt at this address.
@@ -112,7 +110,6 @@ fn form_words(alloc: Global, fault: FormFault) -> Result<Vec<u8>, AllocError>
         FormFault::NotWhole { pointer } => with_text(alloc, b"NotWhole ", &pointer),
         FormFault::TooDeep { pointer } => with_text(alloc, b"TooDeep ", &pointer),
         FormFault::Rule { rule, pointer } => with_rule(alloc, rule, pointer),
-        FormFault::NotYet { pointer } => with_text(alloc, b"NotYet ", &pointer),
         FormFault::Form { pointer } => with_text(alloc, b"Form ", &pointer),
         FormFault::Twice { address, attempt } => with_pair(alloc, b"Twice ", &address, attempt),
         FormFault::Moment => Ok(b"Moment".to_vec(alloc)?),

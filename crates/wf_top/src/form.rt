@@ -3,31 +3,17 @@ ghost use Rattle.std.specs.Prelude.{◌≡◌, ◌≢◌, IfOk, IfErr, OnOk, Non
 ghost use Rattle.wf_answers.specs.InputsSeen.{inputs_tree};
 ghost use Rattle.wf_history.specs.Seen.{listed_tree};
 ghost use Rattle.wf_reading.specs.ReadSeen.{def_tree};
-ghost use Rattle.wf_top.specs.Form.{broken_in, definition_form, definition_of, inputs_form, listing_form, schedule_form, unbuilt_for};
-ghost use Rattle.wf_top.specs.Form.{value_form};
+ghost use Rattle.wf_top.specs.Form.{broken_in, definition_form, definition_of, inputs_form, listing_form, schedule_form, value_form};
 ghost use Rattle.wf_val.specs.Seen.{tree};
 
 use crate::fault::FormFault;
-use crate::words::Command;
-use std::alloc::{AllocError, Global};
+use std::alloc::Global;
 use wf_answers::{Inputs, read_inputs};
 use wf_history::{HistoryFault, Listing, list};
-use wf_plain::not_yet;
 use wf_reading::{Def, RuleFault, read_def};
 use wf_rules::{Checked, check};
-use wf_run::read_schedule;
-use wf_val::{Schedule, Text, Val};
-
-// The least pointer of what isn't built for a command.
-#[tactic(auto, unfolding(crate::specs::Form::unbuilt_for))]
-fn unbuilt_for(alloc: Global, command: Command, def: &Def) -> Result<Option<Text>, AllocError>
-    ensures { IfOk result (λ p. p ≡ unbuilt_for command (def_tree def.now)) }
-{
-    match command {
-        Command::Check | Command::List | Command::Fires { .. } => Ok(None),
-        Command::Run | Command::Trace => not_yet(alloc, def),
-    }
-}
+use wf_schedule::read_schedule;
+use wf_val::{Schedule, Val};
 
 // A definition that breaks no rule between its parts.
 #[tactic(auto, unfolding(crate::specs::Form::broken_in))]
@@ -39,46 +25,36 @@ fn checked(alloc: Global, def: Def) -> Result<Checked, RuleFault>
     check(alloc, def)
 }
 
-// The definition that a value means to a command.
-fn definition_in(alloc: Global, command: Command, value: &Val) -> Result<Checked, FormFault>
-    ensures form { IfOk result (λ checked. definition_of command (tree value.now) ≡ Ok (def_tree checked.def)) }
-    ensures built { IfOk result (λ checked. unbuilt_for command (def_tree checked.def) ≡ None) }
-    ensures fault { IfErr result (λ fault. fault ≢ FormFault.Memory → definition_of command (tree value.now) ≡ Err fault) }
+// The definition that a value means.
+fn definition_in(alloc: Global, value: &Val) -> Result<Checked, FormFault>
+    ensures form { IfOk result (λ checked. definition_of (tree value.now) ≡ Ok (def_tree checked.def)) }
+    ensures fault { IfErr result (λ fault. fault ≢ FormFault.Memory → definition_of (tree value.now) ≡ Err fault) }
 {
     let def = read_def(alloc, value)?;
     let checked = checked(alloc, def)?;
-    match unbuilt_for(alloc, command, &checked.def)? {
-        Some(pointer) => Err(FormFault::NotYet { pointer }),
-        None => Ok(checked),
-    }
-}
-
-/// The definition that a file holds, for a command; `None` stands for a file over its limit.
-pub fn definition_form(
-    alloc: Global,
-    command: Command,
-    file: Option<Vec<u8>>,
-) -> Result<Checked, FormFault>
-    ensures form { IfOk result (λ checked. definition_form command (option_map (λ bytes. bytes.items) file) ≡ Ok (def_tree checked.def)) }
-    ensures built { IfOk result (λ checked. unbuilt_for command (def_tree checked.def) ≡ None) }
-    ensures fault { IfErr result (λ fault. fault ≢ FormFault.Memory → definition_form command (option_map (λ bytes. bytes.items) file)
-        ≡ Err fault) }
-{
-    let bytes = file.ok_or(FormFault::TooLong)?;
-    let value = wf_json::read(alloc, &bytes)?;
-    let checked = definition_in(alloc, command, &value)?;
     Ok(checked)
 }
 
-/// The value of the definition that a file holds, for a command; `None` stands for a file over its limit.
-pub fn value_form(alloc: Global, command: Command, file: Option<Vec<u8>>) -> Result<Val, FormFault>
-    ensures form { IfOk result (λ value. value_form command (option_map (λ bytes. bytes.items) file) ≡ Ok (tree value)) }
-    ensures fault { IfErr result (λ fault. fault ≢ FormFault.Memory → value_form command (option_map (λ bytes. bytes.items) file)
+/// The definition that a file holds; `None` stands for a file over its limit.
+pub fn definition_form(alloc: Global, file: Option<Vec<u8>>) -> Result<Checked, FormFault>
+    ensures form { IfOk result (λ checked. definition_form (option_map (λ bytes. bytes.items) file) ≡ Ok (def_tree checked.def)) }
+    ensures fault { IfErr result (λ fault. fault ≢ FormFault.Memory → definition_form (option_map (λ bytes. bytes.items) file)
         ≡ Err fault) }
 {
     let bytes = file.ok_or(FormFault::TooLong)?;
     let value = wf_json::read(alloc, &bytes)?;
-    let _checked = definition_in(alloc, command, &value)?;
+    let checked = definition_in(alloc, &value)?;
+    Ok(checked)
+}
+
+/// The value of the definition that a file holds; `None` stands for a file over its limit.
+pub fn value_form(alloc: Global, file: Option<Vec<u8>>) -> Result<Val, FormFault>
+    ensures form { IfOk result (λ value. value_form (option_map (λ bytes. bytes.items) file) ≡ Ok (tree value)) }
+    ensures fault { IfErr result (λ fault. fault ≢ FormFault.Memory → value_form (option_map (λ bytes. bytes.items) file) ≡ Err fault) }
+{
+    let bytes = file.ok_or(FormFault::TooLong)?;
+    let value = wf_json::read(alloc, &bytes)?;
+    let _checked = definition_in(alloc, &value)?;
     Ok(value)
 }
 

@@ -14,7 +14,6 @@ use crate::form::value_form;
 use crate::load::{Stop, load};
 use crate::quoted::with_text;
 use crate::said::{Said, Verdict, say_fault};
-use crate::words::Command;
 use std::alloc::{AllocError, Global};
 use wf_fn_time::{Ticks, print_time};
 use wf_outside::Files;
@@ -152,7 +151,7 @@ pub fn fired<F: Files>(
     ensures same { F.held files.new ≡ F.held files.old }
 {
     let file = load(alloc, files, definition, DEFINITION_LIMIT)?;
-    match value_form(alloc, Command::Fires { from, count }, file) {
+    match value_form(alloc, file) {
         Err(fault) => say_fault(alloc, Verdict::Definition, b"definition ", fault),
         Ok(file) => triggered(alloc, trigger_in(&file, name.as_str()), from, count),
     }

@@ -2,17 +2,18 @@
 ghost use Rattle.std.specs.Prelude.{◌≡◌, ◌⊎◌, ◌<◌, ◌≤◌, ℕ, List, true, Some, None, Contains, IfOk, IfSome};
 ghost use Rattle.std.specs.Io.KnownBytes.{Appends};
 ghost use Rattle.wf_outside.specs.Outside.{IsCalm, Rose};
+ghost use Rattle.wf_answers.specs.Inputs.{InputsTree};
 ghost use Rattle.wf_def.specs.DefTree.{DefTree};
 ghost use Rattle.wf_history.specs.History.{ListedTree};
 ghost use Rattle.wf_recur.specs.Moments.{moments_due};
 ghost use Rattle.wf_recur.specs.declared.recurrence.Recurrence.{Recurrence};
 ghost use Rattle.wf_top.specs.Commands.{accepted_line, listing_text, plan_of};
 ghost use Rattle.wf_top.specs.Fires.{moments_text};
-ghost use Rattle.wf_top.specs.Ran.{Checked, Fired, HoldsDefinition, HoldsHistory, IsWhole, Listed, PassesAll, PassesFires, Ran};
-ghost use Rattle.wf_top.specs.Ran.{RefusedCost, RefusedDefinition, RefusedHistory, RefusedInputs, RefusedName, RefusedRecurrence};
-ghost use Rattle.wf_top.specs.Ran.{RefusedSchedule, RefusedTrigger};
-ghost use Rattle.wf_top.specs.Served.{FailedAt, IsSaid, Serves, cannot_read, say};
-ghost use Rattle.wf_top.specs.Words.{command_of, makes_runs};
+ghost use Rattle.wf_top.specs.Ran.{Checked, Fired, HoldsDefinition, HoldsHistory, IsToldWhole, IsWhole, Listed, PassesAll};
+ghost use Rattle.wf_top.specs.Ran.{PassesFires, Ran, RefusedCost, RefusedDefinition, RefusedHistory, RefusedInputs, RefusedName};
+ghost use Rattle.wf_top.specs.Ran.{RefusedRecurrence, RefusedSchedule, RefusedTrigger};
+ghost use Rattle.wf_top.specs.Served.{FailedAt, IsSaid, Say, Serves, cannot_read};
+ghost use Rattle.wf_top.specs.Words.{command_of, is_traced, makes_runs};
 
 use crate::commands::follow;
 use crate::load::Stop;
@@ -20,6 +21,7 @@ use crate::put::close;
 use crate::words::{Command, parse_words};
 use std::alloc::{AllocError, Global};
 use wf_outside::{Files, Sink, Source};
+use wf_told::Engine;
 use wf_val::Text;
 
 const USAGE: &[u8] =
@@ -36,7 +38,13 @@ fn unread_line(alloc: Global, name: Text) -> Result<Vec<u8>, AllocError>
     Ok(line)
 }
 
-fn serve<F: Files, O: Sink>(alloc: Global, words: &[Text], files: &mut F, out: &mut O) -> u8
+fn serve<F: Files, O: Sink, E: Engine>(
+    alloc: Global,
+    words: &[Text],
+    files: &mut F,
+    engine: &E,
+    out: &mut O,
+) -> u8
     ensures outcome { Serves (F.held files.old) (plan_of words.now) (F.failed files.old) (F.failed files.new) (O.taken out.old)
         (O.taken out.new) result }
     ensures only { result ≡ 4 → Rose (O.faults out.old) (O.faults out.new) }
@@ -46,7 +54,7 @@ fn serve<F: Files, O: Sink>(alloc: Global, words: &[Text], files: &mut F, out: &
     let Some(command) = parse_words(words) else {
         return close(out, 2, USAGE);
     };
-    match follow(alloc, words, command, files) {
+    match follow(alloc, words, command, files, engine) {
         Ok(said) => close(out, said.verdict.number(), &said.text),
         Err(Stop::CannotRead(name)) => match unread_line(alloc, name) {
             Ok(line) => close(out, 3, &line),
@@ -57,19 +65,20 @@ fn serve<F: Files, O: Sink>(alloc: Global, words: &[Text], files: &mut F, out: &
 }
 
 /// Does what the words after the program's name ask for, and answers the status that the program ends with.
-pub fn serve_words<F: Files, I: Source, O: Sink>(
+pub fn serve_words<F: Files, I: Source, O: Sink, E: Engine>(
     alloc: Global,
     words: &[Text],
     files: &mut F,
+    engine: &E,
     input: &mut I,
     out: &mut O,
 ) -> u8
     ensures status { result ≤ 8 }
 
-    // Where the files tell and no count rose, what the words say is answered and all of it written; or memory ran out.
+    // Where the files tell and no count rose, a status that the words say is answered, and all of its text written; or memory ran out.
     ensures said { IfSome (F.held files.old) (λ bytes_of.
         F.failed files.new ≡ F.failed files.old → IsCalm (O.faults out.old) (O.faults out.new) →
-        IsSaid (say bytes_of words.now) (O.taken out.old) (O.taken out.new) result) }
+        IsSaid (Say bytes_of words.now) (O.taken out.old) (O.taken out.new) result) }
 
     // In any case the words come to one outcome, and its status is answered and its text written; or with 4 a prefix of
     // the text.
@@ -82,7 +91,8 @@ pub fn serve_words<F: Files, I: Source, O: Sink>(
         → Checked (F.held files.old) words.now (O.taken out.old) (O.taken out.new) }
 
     // At `run DEF INPUTS [SCHEDULE]` and `trace DEF INPUTS SCHEDULE` 0 comes where a definition, inputs and a schedule were read, and the
-    // sink took exactly the text of the runs that they start, at `trace` with their events. A schedule that isn't named is the empty one.
+    // sink took exactly a text that is told of the runs that they start, at `trace` with their events. A schedule that isn't named is the
+    // empty one.
     ensures ran { (command : Command) → makes_runs command ≡ true → command_of words.now ≡ Some command → result ≡ 0
         → Ran (F.held files.old) words.now command (O.taken out.old) (O.taken out.new) }
 
@@ -96,10 +106,10 @@ pub fn serve_words<F: Files, I: Source, O: Sink>(
         HoldsDefinition bytes_of words.now Command.Check definition →
         F.failed files.new ≡ F.failed files.old → IsCalm (O.faults out.old) (O.faults out.new) →
         IsWhole (O.taken out.old) (O.taken out.new) (accepted_line definition) result) }
-    ensures complete { IfSome (F.held files.old) (λ bytes_of. (text : List ℕ) →
-        PassesAll bytes_of words.now text →
+    ensures complete { IfSome (F.held files.old) (λ bytes_of. (command : Command) (d : DefTree) (inputs : InputsTree) →
+        (schedule : List ℕ) → PassesAll bytes_of words.now command d inputs schedule →
         F.failed files.new ≡ F.failed files.old → IsCalm (O.faults out.old) (O.faults out.new) →
-        IsWhole (O.taken out.old) (O.taken out.new) text result) }
+        IsToldWhole (is_traced command) d inputs schedule (O.taken out.old) (O.taken out.new) result) }
 
     // At `list HISTORY` 0 comes where a history was read, and the sink took exactly a line for each of its records, in their order; and
     // where all its tests pass, that comes and nothing else, but for want of memory.
@@ -116,7 +126,7 @@ pub fn serve_words<F: Files, I: Source, O: Sink>(
         F.failed files.new ≡ F.failed files.old → IsCalm (O.faults out.old) (O.faults out.new) →
         IsWhole (O.taken out.old) (O.taken out.new) (moments_text (moments_due r from n)) result) }
 
-    // 1 comes where the first file gave no definition that the command takes.
+    // 1 comes where the first file gave no accepted definition.
     ensures refused_definition { result ≡ 1 → RefusedDefinition (F.held files.old) words.now (O.taken out.old) (O.taken out.new) }
 
     // 6 comes where it gave one, and the second gave no inputs; or gave inputs, and the third no schedule; or gave inputs by which the
@@ -161,5 +171,5 @@ pub fn serve_words<F: Files, I: Source, O: Sink>(
     ensures source_left { I.left input.new ≡ I.left input.old }
 {
     let _ = input;
-    serve(alloc, words, files, out)
+    serve(alloc, words, files, engine, out)
 }

@@ -2,7 +2,7 @@
 ghost use Rattle.std.specs.Prelude.{◌≡◌, ◌∷◌, ◌++◌, codes, decimal, IfOk, OnOk};
 ghost use Rattle.wf_opening.specs.DecisionSeen.{verdict_tree};
 ghost use Rattle.wf_trace.specs.Texts.{try_text, verdict_text};
-ghost use Rattle.wf_trace.specs.Told.{attempt_text, line_at, test_text};
+ghost use Rattle.wf_trace.specs.Told.{attempt_text, line_at, of_attempt, test_text};
 
 use crate::fault::add_fault;
 use crate::line::{add, front};
@@ -32,7 +32,7 @@ fn add_try(alloc: Global, line: &mut Vec<u8>, attempt: Try) -> Result<(), AllocE
     }
 }
 
-// Adds the number of an attempt, and what it came to.
+// Adds a blank, the number of an attempt, and what it came to.
 #[tactic(auto, using(std::proofs::Common::append_assoc))]
 fn add_attempt(
     alloc: Global,
@@ -40,27 +40,42 @@ fn add_attempt(
     number: u64,
     attempt: Try,
 ) -> Result<(), AllocError>
-    ensures { OnOk result (line.new.items ≡ line.old.items ++ attempt_text number attempt) }
+    ensures { OnOk result (line.new.items ≡ line.old.items ++ 32 ∷ attempt_text number attempt) }
 {
+    line.push(b' ')?;
     add_number(alloc, line, number)?;
     line.push(b' ')?;
     add_try(alloc, line, attempt)
 }
 
-/// A leaf has made an attempt, counted from 1, and this is what came of it.
-#[tactic(auto, using(crate::proofs::LineLemmas::spaced_line))]
+// The same, and nothing where it isn't known what the attempt came to.
+fn add_known_attempt(
+    alloc: Global,
+    line: &mut Vec<u8>,
+    number: u64,
+    attempt: Option<Try>,
+) -> Result<(), AllocError>
+    ensures { OnOk result (line.new.items ≡ line.old.items ++ of_attempt number attempt) }
+{
+    match attempt {
+        Some(attempt) => add_attempt(alloc, line, number, attempt),
+        None => add(line, ""),
+    }
+}
+
+/// A leaf has made an attempt, counted from 1, and this is what came of it. Where that isn't known, only that there was one is told.
+#[tactic(auto, using(crate::proofs::LineLemmas::line_is))]
 pub fn try_line(
     alloc: Global,
     name: &Name,
     at: &Indexes,
     number: u64,
-    attempt: Try,
+    attempt: Option<Try>,
 ) -> Result<Vec<u8>, AllocError>
-    ensures { IfOk result (λ line. line.items ≡ line_at (codes "Try") name.now at.now (32 ∷ attempt_text number attempt)) }
+    ensures { IfOk result (λ line. line.items ≡ line_at (codes "Try") name.now at.now (of_attempt number attempt)) }
 {
     let mut line = front(alloc, "Try", name, at)?;
-    line.push(b' ')?;
-    add_attempt(alloc, &mut line, number, attempt)?;
+    add_known_attempt(alloc, &mut line, number, attempt)?;
     Ok(line)
 }
 

@@ -17,7 +17,7 @@ use Rattle.wf_connect.specs.Last as calls
 use Rattle.wf_def.specs.ActionTree.{ActionTree, action_name}
 use Rattle.wf_def.specs.DefTree.{DefTree}
 use Rattle.wf_done.specs.Leaf.{BegunTree, acted, calling, tries_in}
-use Rattle.wf_meaning.specs.Environment.{Environment, facts_of}
+use Rattle.wf_environment.specs.Environment.{Environment, facts_of}
 use Rattle.wf_meant.specs.Look.{instance, name_in}
 use Rattle.wf_meant.specs.Source.{tries_of}
 

@@ -24,8 +24,8 @@ use Rattle.wf_eval.specs.Truth.{truth_of}
 use Rattle.wf_opening.specs.Decisions.{DecisionTree, decided, items_of, taken}
 use Rattle.wf_opening.specs.Verdicts.{VerdictTree}
 use Rattle.wf_done.specs.Leaf.{begun_from, ended}
-use Rattle.wf_meaning.specs.Environment.{Environment, facts_of}
-use Rattle.wf_meaning.specs.Statuses.{status_tree}
+use Rattle.wf_environment.specs.Environment.{Environment, facts_of}
+use Rattle.wf_environment.specs.Statuses.{status_tree}
 use Rattle.wf_meant.specs.Containers.{case_status, closed, last_status, status_of}
 use Rattle.wf_meant.specs.Look.{decided_by, instance, told_at}
 use Rattle.wf_meant.specs.Points.{graph_of}

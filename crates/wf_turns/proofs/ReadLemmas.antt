@@ -17,7 +17,7 @@ use Rattle.wf_record.specs.declared.status.Status.{Status}
 use Rattle.wf_opening.specs.Decisions.{DecisionTree, nothing, held, chosen, each, too_many, faulty, chosen_as, held_as, items_of, taken}
 use Rattle.wf_opening.specs.Decisions.{branch_from}
 use Rattle.wf_opening.specs.Verdicts.{VerdictTree, met, astray}
-use Rattle.wf_meaning.specs.Statuses.{status_tree}
+use Rattle.wf_environment.specs.Statuses.{status_tree}
 use Rattle.wf_meant.specs.Containers.{any_iteration_failed, any_terminated, case_status, close_branch, close_foreach, close_until, closed}
 use Rattle.wf_meant.specs.Containers.{closed_as, cut_short, iterations_value, last_status, status_of, unless_cut}
 use Rattle.wf_meant.specs.Status as judging

@@ -33,7 +33,7 @@ use Rattle.wf_connect.specs.Last as calls
 use Rattle.wf_opening.specs.Decisions.{DecisionTree, nothing, held, chosen, each, too_many, faulty, items_of}
 use Rattle.wf_opening.specs.Verdicts.{VerdictTree, met, astray, ends}
 use Rattle.wf_done.specs.Leaf.{BegunTree, begun_from, called_with, tries_in}
-use Rattle.wf_meaning.specs.Environment.{Environment, facts_of}
+use Rattle.wf_environment.specs.Environment.{Environment, facts_of}
 use Rattle.wf_meant.specs.Containers.{close_until, closed, iterations_value, last_status}
 use Rattle.wf_meant.specs.Look.{instance, told_at}
 use Rattle.wf_meant.specs.Points.{graph_of}

@@ -23,7 +23,7 @@ ghost use Rattle.wf_layers.specs.Bound.{TellsTurns};
 ghost use Rattle.wf_layers.specs.Definition.{kind_of};
 ghost use Rattle.wf_layers.specs.Resubmission.{pin};
 ghost use Rattle.wf_layers.specs.Shape.{HasShape, ReadsBack};
-ghost use Rattle.wf_meaning.specs.Environment.{Environment, facts_of};
+ghost use Rattle.wf_environment.specs.Environment.{Environment, facts_of};
 ghost use Rattle.wf_meant.specs.Look.{name_of};
 ghost use Rattle.wf_meant.specs.Points.{graph_of};
 ghost use Rattle.wf_meant.specs.Record.{depth_of};

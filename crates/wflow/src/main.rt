@@ -1,7 +1,7 @@
 //! The program: runs one command over the real files and the standard streams, and ends with its status.
 //!
-//! It hands the words after its own name to `wf_top::serve_words`, which is all that it does; what a command reads,
-//! writes and answers is said there. Where the words can't be had as texts nothing is written: the status is 5 for
+//! It hands the words after its own name to `wf_top::serve_words`, and lends it the engine of `wf_printed`, which is all that it does; what a
+//! command reads, writes and answers is said there. Where the words can't be had as texts nothing is written: the status is 5 for
 //! want of memory, and 2 for any other cause, as a word that isn't UTF-8.
 #![tactic(auto)]
 
@@ -13,6 +13,7 @@ use std::process::ExitCode;
 use std::rt::Files;
 use std::{env, io};
 use wf_outside::{DiskFiles, StdSink, StdSource};
+use wf_printed::Printer;
 use wf_top::serve_words;
 use wf_val::Text;
 
@@ -37,7 +38,14 @@ fn status_of<R: Env + Files + Input + Print + AllocGlobal>(rt: &R) -> u8
     let mut files = DiskFiles::new(rt);
     let mut input = StdSource::new(rt);
     let mut out = StdSink::new(rt);
-    serve_words(rt.alloc(), &words, &mut files, &mut input, &mut out)
+    serve_words(
+        rt.alloc(),
+        &words,
+        &mut files,
+        &Printer,
+        &mut input,
+        &mut out,
+    )
 }
 
 fn main(rt: HostRuntime) -> ExitCode {

@@ -7,7 +7,7 @@ use Rattle.wf_def.specs.Layered.{layered_kind}
 use Rattle.wf_instance.proofs.KindLemmas.{kinds}
 use Rattle.wf_opening.specs.DecisionSeen.{decision_tree, verdict_tree}
 use Rattle.wf_opening.specs.Verdicts.{VerdictTree}
-use Rattle.wf_meaning.specs.Environment.{Environment, first_facts}
+use Rattle.wf_environment.specs.Environment.{Environment, first_facts}
 use Rattle.wf_meant.specs.Look.{told_at}
 use Rattle.wf_record.specs.Record.{Row}
 use Rattle.wf_sight.specs.Laws.{run_of}

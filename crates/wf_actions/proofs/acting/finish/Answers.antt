@@ -5,7 +5,7 @@ use Rattle.wf_def.specs.AllActions.{numbered}
 use Rattle.wf_def.specs.DefTree.{DefTree}
 use Rattle.wf_done.specs.DoneSeen.{begun_tree}
 use Rattle.wf_layers.specs.Definition.{Leaf}
-use Rattle.wf_meaning.specs.Environment.{Environment, first_facts}
+use Rattle.wf_environment.specs.Environment.{Environment, first_facts}
 use Rattle.wf_meant.specs.Look.{told_at}
 use Rattle.wf_record.specs.Record.{Row}
 use Rattle.wf_sight.specs.Laws.{run_of}

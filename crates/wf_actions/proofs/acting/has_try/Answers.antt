@@ -4,7 +4,7 @@ use Rattle.wf_asks.specs.Instances.{address_of}
 use Rattle.wf_def.specs.AllActions.{numbered}
 use Rattle.wf_def.specs.DefTree.{DefTree}
 use Rattle.wf_done.specs.DoneSeen.{begun_tree}
-use Rattle.wf_meaning.specs.Environment.{Environment}
+use Rattle.wf_environment.specs.Environment.{Environment}
 use Rattle.wf_trigger.specs.StartsSeen.{start_tree}
 use Rattle.wf_doing.specs.Acting.{attempts_by}
 use Rattle.wf_doing.specs.Seen as setting

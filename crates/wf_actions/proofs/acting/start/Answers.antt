@@ -4,7 +4,7 @@ use Rattle.wf_def.specs.AllActions.{numbered}
 use Rattle.wf_def.specs.DefTree.{DefTree}
 use Rattle.wf_done.specs.DoneSeen.{begun_tree}
 use Rattle.wf_done.specs.Leaf.{BegunTree}
-use Rattle.wf_meaning.specs.Environment.{Environment, first_facts}
+use Rattle.wf_environment.specs.Environment.{Environment, first_facts}
 use Rattle.wf_sight.specs.Laws.{run_of}
 use Rattle.wf_sight.specs.Seen.{known_tree}
 use Rattle.wf_sight.specs.Sight.{KnownTree, seen_at}

@@ -1,7 +1,5 @@
-use Rattle.std.proofs.Common.{◌≡◌, ◌∙◌, [], None, Some, ap, refl, subst, sym}
+use Rattle.std.proofs.Common.{◌≡◌, ◌∙◌, [], Some, ap, refl, sym}
 use Rattle.std.proofs.lemmas.List.{get_or_default}
-use Rattle.wf_reading.specs.ReadSeen.{def_tree}
-use Rattle.wf_top.specs.Form.{unbuilt_for}
 use Rattle.wf_top.specs.Words.{command_of, word}
 use Rattle.wf_top.specs.declared.words.Command.TheVariants.{Run, Trace}
 use Rattle.wf_top.proofs.Asked.{second_length}
@@ -11,21 +9,15 @@ use Rattle.wf_top.proofs.commands.accepted.Goals as goal
 pub returns-in-Run-clause-follows : goal.returns-in-Run-clause-follows
 returns-in-Run-clause-follows g c =
     let words = c.args.words.now in
-    let names : command_of words ≡ Some Run = c.requires.command ∙ ap Some c.in-Run.is in
+    let names : command_of words ≡ Some Run = c.requires ∙ ap Some c.in-Run.is in
     let third : c.index-words-2.result ≡ word words 2 =
     c.index-words-2.is ∙ get_or_default words 2 c.index-words-2.result [] (second_length Run words refl names) in
     rw (c.in-Run.is, sym third, sym c.schedule_word-schedule.ensures) c.run.ensures.follows
 
--- what isn't built for `trace` is what isn't built for `run`
-pub run-requires-in-Trace : goal.run-requires-in-Trace
-unfolding unbuilt_for
-run-requires-in-Trace g c =
-    subst (λ command. unbuilt_for command (def_tree c.args.checked.def) ≡ None) c.in-Trace.is c.requires.built
-
 pub returns-in-Trace-clause-follows : goal.returns-in-Trace-clause-follows
 returns-in-Trace-clause-follows g c =
     let words = c.args.words.now in
-    let names : command_of words ≡ Some Trace = c.requires.command ∙ ap Some c.in-Trace.is in
+    let names : command_of words ≡ Some Trace = c.requires ∙ ap Some c.in-Trace.is in
     let third : c.index-words-2-in-Trace.result ≡ word words 2 =
     c.index-words-2-in-Trace.is ∙ get_or_default words 2 c.index-words-2-in-Trace.result [] (second_length Trace words refl names) in
     rw (c.in-Trace.is, sym third, sym c.schedule_word-schedule.ensures) c.run-in-Trace.ensures.follows

@@ -14,12 +14,12 @@ pub returns-in_err-file-clause-follows : goal.returns-in_err-file-clause-follows
 returns-in_err-file-clause-follows g c =
     let p = err_from_is_err_and c.from_residual.result c.from_residual.ensures.1 in
     rw (p.1, p.2) (c.in_err-file.ensures.stops
-    (λ file. judged_definition c.args.command c.args.words.now (definition_form c.args.command file)))
+    (λ file. judged_definition c.args.command c.args.words.now (definition_form file)))
 
 pub returns-in-Ok-clause-follows : goal.returns-in-Ok-clause-follows
 returns-in-Ok-clause-follows g c =
     let judged = judged_definition c.args.command c.args.words.now in
-    reaches_read _ _ _ _ (λ file. judged (definition_form c.args.command file)) _
+    reaches_read _ _ _ _ (λ file. judged (definition_form file)) _
     (judged (Ok (def_tree c.in-Ok.checked.def))) _ _ _ _
     c.load.ensures.same c.in_ok-file.ensures.gives (ap judged c.in-Ok.ensures.form)
     c.accepted.ensures.follows
@@ -28,7 +28,7 @@ pub returns-in-Err-clause-follows : goal.returns-in-Err-clause-follows
 returns-in-Err-clause-follows g c =
     let fault = c.in-Err.fault in
     let judged = judged_definition c.args.command c.args.words.now in
-    reaches_fault _ _ _ (λ file. judged (definition_form c.args.command file)) _ _ _ (fault ≢ FormFault.Memory)
+    reaches_fault _ _ _ (λ file. judged (definition_form file)) _ _ _ (fault ≢ FormFault.Memory)
     Definition (fault_line (codes "definition ") fault) _
     c.in_ok-file.ensures.gives (λ other. ap judged (c.in-Err.ensures.fault other))
     c.say_fault.ensures.said c.say_fault.ensures.stopped

@@ -1,4 +1,4 @@
-use Rattle.std.proofs.Common.{◌≡◌, ◌<◌, ◌∙◌, arith, sym}
+use Rattle.std.proofs.Common.{◌<◌, ◌∙◌, arith, sym}
 use Rattle.std.proofs.lemmas.Bool.Decides.{nat_tests}
 use Rattle.wf_fn_time.specs.Moments.{last_tick}
 use Rattle.wf_top.proofs.FiresLemmas.{none-behind}

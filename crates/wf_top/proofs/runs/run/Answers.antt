@@ -14,20 +14,20 @@ use Rattle.wf_top.proofs.runs.run.Goals as goal
 pub returns-in_err-file-clause-follows : goal.returns-in_err-file-clause-follows
 returns-in_err-file-clause-follows g c =
     let p = err_from_is_err_and c.from_residual.result c.from_residual.ensures.1 in
-    let judged = judged_inputs c.args.traced (option_copied c.args.schedule) (def_tree c.args.checked.def) in
+    let judged = judged_inputs c.args.traced (option_copied c.args.schedule) (def_tree c.args.checked.now.def) in
     rw (p.1, p.2) (c.in_err-file.ensures.stops (λ file. judged (inputs_form file)))
 
 pub returns-in-Err-clause-follows : goal.returns-in-Err-clause-follows
 returns-in-Err-clause-follows g c =
     let fault = c.in-Err.fault in
-    let judged = judged_inputs c.args.traced (option_copied c.args.schedule) (def_tree c.args.checked.def) in
+    let judged = judged_inputs c.args.traced (option_copied c.args.schedule) (def_tree c.args.checked.now.def) in
     reaches_fault _ _ _ (λ file. judged (inputs_form file)) _ _ _ (fault ≢ FormFault.Memory) Inputs (fault_line (codes "inputs ") fault) _
     c.in_ok-file.ensures.gives (λ other. ap judged (c.in-Err.ensures.fault other))
     c.say_fault.ensures.said c.say_fault.ensures.stopped
 
 pub returns-in-Ok-clause-follows : goal.returns-in-Ok-clause-follows
 returns-in-Ok-clause-follows g c =
-    let d = def_tree c.args.checked.def in
+    let d = def_tree c.args.checked.now.def in
     let named = option_copied c.args.schedule in
     let judged = judged_inputs c.args.traced named d in
     reaches_read _ _ _ _ (λ file. judged (inputs_form file)) _

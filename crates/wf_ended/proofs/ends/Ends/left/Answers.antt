@@ -1,7 +1,7 @@
 use Rattle.std.proofs.Common.{◌≡◌, sym, subst}
 use Rattle.wf_answers.specs.InputsSeen.{inputs_tree}
 use Rattle.wf_layers.specs.Address.{Table}
-use Rattle.wf_meaning.specs.Environment.{Environment, fresh}
+use Rattle.wf_environment.specs.Environment.{Environment, fresh}
 use Rattle.wf_meant.specs.Record.{depth_of}
 use Rattle.wf_meant.specs.Source.{table_of}
 use Rattle.wf_meant_laws.specs.Tables.{AreWhole}

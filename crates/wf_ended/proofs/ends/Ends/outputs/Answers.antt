@@ -5,8 +5,8 @@ use Rattle.wf_def.specs.DefTree.{DefTree, OutputTree}
 use Rattle.wf_def.specs.declared.section.Output.{Output}
 use Rattle.wf_eval.specs.TreeValue.{members_after}
 use Rattle.wf_look.specs.Told.{Told}
-use Rattle.wf_meaning.specs.Ending.{output_runs}
-use Rattle.wf_meaning.specs.Environment.{Environment, fresh}
+use Rattle.wf_environment.specs.Ending.{output_runs}
+use Rattle.wf_environment.specs.Environment.{Environment, fresh}
 use Rattle.wf_meant.specs.Look.{told_to_outputs}
 use Rattle.wf_reading.specs.ReadSeen.{def_tree}
 use Rattle.wf_views.specs.Seen.{rows_seen}

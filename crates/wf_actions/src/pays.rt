@@ -1,0 +1,54 @@
+//! What a run costs.
+ghost use Rattle.std.specs.Prelude.{◌≡◌, ◌≤◌};
+ghost use Rattle.wf_val.specs.Cut.{cut_u64};
+ghost use Rattle.wf_done.specs.DoneSeen.{begun_tree};
+ghost use Rattle.wf_doing.specs.Weights.{begun_weight, decision_weight};
+ghost use Rattle.wf_making.specs.Priced.{IsPriced};
+ghost use Rattle.wf_opening.specs.DecisionSeen.{decision_tree, verdict_tree};
+ghost use Rattle.wf_paying.specs.Paying.{cost_of_row, first_cost};
+ghost use Rattle.wf_trigger.specs.StartsSeen.{start_tree};
+ghost use Rattle.wf_views.specs.Seen.{row_content};
+ghost use Rattle.wf_actions.specs.Meant.{depth, fee, graph, rows_meant, source};
+
+use crate::actions::Actions;
+use crate::opened::was_read;
+use wf_making::Pays;
+use wf_trigger::Start;
+
+// What the run that starts so costs before its first event: 64, its trigger and its parameters.
+fn first_cost(start: &Start) -> u64
+    ensures { result ≡ cut_u64 (first_cost (start_tree start.now)) }
+{
+    start
+        .trigger
+        .weight()
+        .saturating_add(64)
+        .saturating_add(start.parameters.weight())
+}
+
+// A run of these actions costs what they mean.
+fn are_paid(actions: &Actions<'_>)
+    ensures least { 64 ≤ fee actions.now }
+    ensures priced { IsPriced row_content begun_tree decision_tree verdict_tree (graph actions.now) (depth actions.now)
+        (source actions.now) cost_of_row begun_weight decision_weight (rows_meant actions.now) }
+{
+    was_read(&actions.ready.checked.def);
+    actions.ready.checked.always_checked();
+    wf_paying::runs_cost_what_rows_are_meant();
+}
+
+impl<'a> Pays for Actions<'a> {
+    ghost use Rattle.wf_actions.specs.Meant as meant;
+
+    ghost fee = { meant.fee };
+
+    ghost rows_meant = { meant.rows_meant };
+
+    fn first_cost(&self) -> u64 {
+        first_cost(self.start)
+    }
+
+    fn is_paid(&self) {
+        are_paid(self);
+    }
+}

@@ -1,0 +1,28 @@
+//! What a trace tells of the actions of a run.
+use crate::acting::setting;
+use crate::actions::Actions;
+use std::alloc::{AllocError, Global};
+use wf_asks::OpenAt;
+use wf_done::Begun;
+use wf_making::Tells;
+use wf_opening::{Decision, Verdict};
+use wf_record::Row;
+use wf_tables::{EventAt, LeafAt};
+
+impl<'a> Tells for Actions<'a> {
+    ghost use Rattle.wf_actions.specs.Meant as meant;
+
+    ghost told = { meant.told };
+
+    fn tell(
+        &self,
+        alloc: Global,
+        event: &EventAt,
+        row: Option<&Row>,
+        leaf: Option<&LeafAt<Begun>>,
+        container: Option<&OpenAt<Decision, Verdict>>,
+    ) -> Result<Vec<u8>, AllocError> {
+        let line = wf_telling::tell(alloc, &setting(self), event, row, leaf, container)?;
+        Ok(line)
+    }
+}

@@ -1,4 +1,0 @@
-pub mod Seen
-pub mod Kept
-pub mod Failing
-pub mod EndingSeen

@@ -1,0 +1,4 @@
+mod KeptLemmas
+mod PartLemmas
+mod RowLemmas
+mod PayingRows

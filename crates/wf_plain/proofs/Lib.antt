@@ -1,9 +1,0 @@
-pub mod PlaceLemmas
-pub mod UnbuiltLemmas
-pub mod FlatLemmas
-pub mod EndLemmas
-pub mod AlikeLemmas
-pub mod NamesLemmas
-pub mod ReferenceLemmas
-pub mod KeptLemmas
-pub mod WorkedRows

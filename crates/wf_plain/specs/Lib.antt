@@ -1,4 +1,0 @@
-pub mod Flat
-pub mod Unbuilt
-pub mod Plain
-pub mod Seen

@@ -1,5 +1,0 @@
-use Rattle.wf_printed.proofs.RunLemmas.{no_run}
-use Rattle.wf_printed.proofs.laws.no_run_is_said_where_none_starts.Goals as goal
-
-pub returns : goal.returns
-returns c = no_run

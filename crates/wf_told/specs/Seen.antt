@@ -1,0 +1,13 @@
+-- A fault of the trigger or of a run as a fault of runs.
+use Rattle.wf_drive.specs.declared.fault.DriveFault.{DriveFault}
+use Rattle.wf_trigger.specs.declared.fault.TriggerFault.{TriggerFault}
+use Rattle.wf_trigger.specs.declared.fault.TriggerFault.TheVariants.{Memory}
+use Rattle.wf_told.specs.declared.fault.RunsFault.{RunsFault}
+
+abbrev pub runs_fault : TriggerFault → RunsFault
+runs_fault Memory = RunsFault.Memory
+runs_fault fault = RunsFault.Trigger fault
+
+abbrev pub drive_fault : DriveFault → RunsFault
+drive_fault DriveFault.TooLarge = RunsFault.TooLarge
+drive_fault DriveFault.Memory = RunsFault.Memory

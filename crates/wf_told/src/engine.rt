@@ -1,0 +1,30 @@
+//! What makes runs, as what prints their text or says why there is none.
+ghost use Rattle.std.specs.Prelude.{◌≡◌, ◌≢◌, Err, IfErr, IfOk};
+ghost use Rattle.wf_answers.specs.InputsSeen.{inputs_tree};
+ghost use Rattle.wf_reading.specs.ReadSeen.{def_tree};
+ghost use Rattle.wf_told.specs.Records.{runs_records};
+ghost use Rattle.wf_told.specs.Runs.{TellsRuns};
+ghost use Rattle.wf_told.specs.declared.fault.RunsFault.{RunsFault};
+
+use crate::fault::RunsFault;
+use std::alloc::Global;
+use wf_answers::Inputs;
+use wf_rules::Checked;
+use wf_val::Schedule;
+
+/// What makes the runs of accepted definitions.
+pub trait Engine {
+    /// The text of all runs that the inputs start, each under the schedule from its first number on: the lines of its events where it is
+    /// traced, its record's line and a summary line; or why there is none.
+    fn runs_text(
+        &self,
+        alloc: Global,
+        checked: &Checked,
+        inputs: &Inputs,
+        schedule: &Schedule,
+        traced: bool,
+    ) -> Result<Vec<u8>, RunsFault>
+        ensures text { IfOk result (λ text. TellsRuns (def_tree checked.now.def) (inputs_tree inputs.now) schedule.now traced text.items) }
+        ensures fault { IfErr result (λ f. f ≢ RunsFault.Memory
+            → runs_records (def_tree checked.now.def) (inputs_tree inputs.now) ≡ Err f) };
+}

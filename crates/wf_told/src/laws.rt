@@ -1,0 +1,59 @@
+//! What the definitions of this crate say, in other words. Each call tells a caller so, and does nothing.
+ghost use Rattle.std.specs.Prelude.{◌≡◌, ◌≢◌, ◌<◌, ◌++◌, ◌↔◌, ℕ, Bool, List, [], None, Ok, Err, codes};
+ghost use Rattle.wf_answers.specs.Inputs.{InputsTree};
+ghost use Rattle.wf_def.specs.DefTree.{DefTree};
+ghost use Rattle.wf_environment.specs.Environment.{Environment};
+ghost use Rattle.wf_reading.specs.Read.{IsRead};
+ghost use Rattle.wf_rules.specs.Broken.{broken_of};
+ghost use Rattle.wf_told.specs.Under.{IsRunUnder, Told};
+ghost use Rattle.wf_trigger.specs.Starts.{StartTree};
+ghost use Rattle.wf_trigger.specs.declared.fault.TriggerFault.{TriggerFault};
+ghost use Rattle.wf_told.specs.Records.{records_of, runs_records, starts_of};
+ghost use Rattle.wf_told.specs.Runs.{TellsRuns};
+ghost use Rattle.wf_told.specs.Text.{runs_in_a_row, total_cost};
+ghost use Rattle.wf_told.specs.declared.fault.RunsFault.{RunsFault};
+
+/// Of an accepted definition one thing is told in an environment under a schedule: how many steps a run takes, its peak, its lines and its
+/// record are fixed.
+pub fn runs_are_told_alike()
+    ensures { (d : DefTree) → IsRead d → broken_of d ≡ None → (e : Environment) (schedule : List ℕ) (traced : Bool) (t u : Told)
+        → IsRunUnder d e schedule traced t → IsRunUnder d e schedule traced u → t ≡ u }
+{
+    wf_instance::a_definition_is_an_instance();
+}
+
+/// One text is told of the runs of an accepted definition that start with inputs, under a schedule, traced or not.
+pub fn one_text_is_told()
+    ensures { (d : DefTree) → IsRead d → broken_of d ≡ None → (i : InputsTree) (schedule : List ℕ) (traced : Bool) (text other : List ℕ)
+        → TellsRuns d i schedule traced text → TellsRuns d i schedule traced other → text ≡ other }
+{
+    runs_are_told_alike();
+}
+
+/// That no run starts is said exactly where none does.
+pub fn no_run_is_said_where_none_starts()
+    ensures { (d : DefTree) (i : InputsTree) (schedule : List ℕ) (traced : Bool) (text : List ℕ) → TellsRuns d i schedule traced text
+        → (text ≡ codes "# no run\n") ↔ (starts_of d i ≡ Ok []) }
+{}
+
+/// Runs are too large exactly where they can start and cost more than 2^26 together, whatever the schedule.
+pub fn runs_are_too_large_where_they_cost_more()
+    ensures { (d : DefTree) (i : InputsTree) → (runs_records d i ≡ Err RunsFault.TooLarge) ↔ ((starts : List StartTree)
+        × (starts_of d i ≡ Ok starts) × (67108864 < total_cost (records_of d i starts))) }
+{}
+
+/// A fault of the trigger is told exactly where no run can start.
+pub fn a_fault_of_the_trigger_is_told()
+    ensures { (d : DefTree) (i : InputsTree) (f : TriggerFault)
+        → (runs_records d i ≡ Err (RunsFault.Trigger f)) ↔ (starts_of d i ≡ Err f) }
+{}
+
+/// What runs come to never is that memory ran out: that is an answer of the code alone.
+pub fn runs_want_no_memory()
+    ensures { (d : DefTree) (i : InputsTree) → runs_records d i ≢ Err RunsFault.Memory }
+{}
+
+/// The texts of runs stand in the order of the runs.
+pub fn texts_stand_in_a_row()
+    ensures { (rs ss : List Told) → runs_in_a_row (rs ++ ss) ≡ runs_in_a_row rs ++ runs_in_a_row ss }
+{}

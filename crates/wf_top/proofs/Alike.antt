@@ -1,0 +1,180 @@
+-- What words say over files that tell is one thing, where the definition that they hold was read.
+use Rattle.std.proofs.Common.{◌≡◌, ℕ, List, Bool, Option, None, Some, Result, Ok, Err, inl, inr, refl, ap, subst, sym, ◌∙◌}
+use Rattle.std.specs.Option.{option_map}
+use Rattle.wf_answers.specs.Inputs.{InputsTree}
+use Rattle.wf_def.specs.DefTree.{DefTree}
+use Rattle.wf_history.specs.History.{ListedTree}
+use Rattle.wf_json.specs.Read.{read_value}
+use Rattle.wf_json.specs.declared.fault.JsonFault.{JsonFault}
+use Rattle.wf_told.specs.Runs.{TellsRuns}
+use Rattle.wf_told.specs.declared.fault.RunsFault.{RunsFault}
+use Rattle.wf_reading.specs.Meant as read
+use Rattle.wf_reading.specs.Read.{IsRead}
+use Rattle.wf_reading.specs.ReadSeen.{fault_in}
+use Rattle.wf_reading.specs.declared.definition.RuleFault.{RuleFault}
+use Rattle.wf_recur.specs.Reading.{recurrence_of}
+use Rattle.wf_recur.specs.declared.fault.RecurrenceFault.{RecurrenceFault}
+use Rattle.wf_recur.specs.declared.recurrence.Recurrence.{Recurrence}
+use Rattle.wf_rules.specs.Broken.{broken_of}
+use Rattle.wf_val.specs.ValueTree.{ValueTree}
+use Rattle.wf_top.specs.Commands.{accepted, defined, judged_definition, judged_history, judged_inputs, judged_schedule, judged_value, plan}
+use Rattle.wf_top.specs.Commands.{recurs, scheduled, triggered}
+use Rattle.wf_top.specs.Fires.{trigger_in}
+use Rattle.wf_top.specs.Form.{broken_in, checked, definition_form, definition_of, formed, found, inputs_form, listing_form, schedule_form}
+use Rattle.wf_top.specs.Form.{value_form}
+use Rattle.wf_top.specs.Limits.{definition_bytes}
+use Rattle.wf_top.specs.Plan.{Plan, Says, Reads, Makes, MaySay, within}
+use Rattle.wf_top.specs.Ran.{HoldsDefinition}
+use Rattle.wf_top.specs.Served.{PlanSays, Say, number}
+use Rattle.wf_top.specs.Told.{MayTell, SaysFault}
+use Rattle.wf_top.specs.Words.{command_of, is_traced, schedule_word, word}
+use Rattle.wf_top.proofs.CommandOutcomes.{read_on}
+use Rattle.wf_top.specs.declared.fault.FormFault.{FormFault}
+use Rattle.wf_top.specs.declared.said.Verdict.{Verdict}
+use Rattle.wf_top.specs.declared.words.Command.{Command}
+use Rattle.wf_top.specs.declared.words.Command.TheVariants.{Check, Run, Trace, Fires}
+
+-- ---- an accepted definition breaks no rule
+
+checked_unbroken : (d : DefTree) (fault : Option RuleFault) → broken_in d ≡ fault → (taken : DefTree) → checked d fault ≡ Ok taken →
+    broken_in taken ≡ None
+checked_unbroken d (Some fault) broken taken is = absurd cc
+checked_unbroken d None broken taken is = let same : d ≡ taken = cc in subst (λ x. broken_in x ≡ None) same broken
+
+formed_unbroken : (value : ValueTree) (fault : Option RuleFault) (d : DefTree) → formed value fault ≡ Ok d → broken_in d ≡ None
+formed_unbroken value (Some fault) d is = absurd cc
+formed_unbroken value None d is = checked_unbroken (read.definition_of value) (broken_in (read.definition_of value)) refl d is
+
+found_unbroken : (json : Result ValueTree JsonFault) (d : DefTree) → found definition_of json ≡ Ok d → broken_in d ≡ None
+found_unbroken (Ok value) d is = formed_unbroken value (fault_in value) d is
+found_unbroken (Err fault) d is = absurd cc
+
+form_unbroken : (file : Option (List ℕ)) (d : DefTree) → definition_form file ≡ Ok d → broken_in d ≡ None
+form_unbroken None d is = absurd cc
+form_unbroken (Some bytes) d is = found_unbroken (read_value bytes) d is
+
+-- ---- what is said of runs
+
+abbrev pub OneTextIsTold : Type 0
+OneTextIsTold =
+    (d : DefTree) → IsRead d → broken_of d ≡ None → (i : InputsTree) (schedule : List ℕ) (traced : Bool) (text other : List ℕ)
+    → TellsRuns d i schedule traced text → TellsRuns d i schedule traced other → text ≡ other
+
+fault_alike : (fault : RunsFault) (v w : Verdict) (text other : List ℕ) → SaysFault fault v text → SaysFault fault w other →
+    (v ≡ w) × (text ≡ other)
+fault_alike (RunsFault.Trigger fault) v w text other first second = (first.0 ∙ sym second.0, first.1 ∙ sym second.1)
+fault_alike RunsFault.TooLarge v w text other first second = (first.0 ∙ sym second.0, first.1 ∙ sym second.1)
+fault_alike RunsFault.Memory v w text other first second = absurd first
+
+pub told_alike : OneTextIsTold → (d : DefTree) → IsRead d → broken_of d ≡ None → (traced : Bool) (i : InputsTree) (schedule : List ℕ)
+    (v w : Verdict) (text other : List ℕ) → MayTell traced d i schedule v text → MayTell traced d i schedule w other →
+    (v ≡ w) × (text ≡ other)
+told_alike one d was unbroken traced i schedule v w text other first second = elim first [
+  | inl told ↦ elim second [
+    | inl again ↦ (told.0 ∙ sym again.0, one d was unbroken i schedule traced text other told.1 again.1)
+    | inr none ↦ absurd (let e = sym told.1.records ∙ none.1 in cc)
+  ]
+  | inr none ↦ elim second [
+    | inl told ↦ absurd (let e = sym told.1.records ∙ none.1 in cc)
+    | inr again ↦
+        let e : Err none.0 ≡ Err again.0 = sym none.1 ∙ again.1 in
+        let same : none.0 ≡ again.0 = cc in
+        fault_alike again.0 v w text other (subst (λ fault. SaysFault fault v text) same none.2) again.2
+  ]
+]
+
+-- what a read gave, where the files tell
+given : (limit : ℕ) (held : Option (List ℕ)) (file : Option (List ℕ)) → option_map (within limit) held ≡ Some file →
+    (bytes : List ℕ) × (held ≡ Some bytes)
+given limit None file is = absurd cc
+given limit (Some bytes) file is = (bytes, refl)
+
+module _ (one : OneTextIsTold) (bytes_of : List ℕ → Option (List ℕ)) (words : List (List ℕ)) where
+  -- each definition whose runs are made was read, and breaks no rule
+  abbrev AreOfRead : Plan → Type 0
+  AreOfRead (Says verdict text) = Unit {0}
+  AreOfRead (Reads name limit next) = (bytes : List ℕ) → bytes_of name ≡ Some bytes → AreOfRead (next (within limit bytes))
+  AreOfRead (Makes traced d inputs schedule) = IsRead d × (broken_of d ≡ None)
+
+  plan_alike : (plan : Plan) → AreOfRead plan → (v w : Verdict) (text other : List ℕ) → MaySay (Some bytes_of) plan v text →
+      MaySay (Some bytes_of) plan w other → (v ≡ w) × (text ≡ other)
+  plan_alike (Says verdict line) of_read v w text other first second = (first.0 ∙ sym second.0, first.1 ∙ sym second.1)
+  plan_alike (Reads name limit next) of_read v w text other first second =
+      let file = given limit (bytes_of name) first.0 first.1 in
+      plan_alike (next (within limit file.0)) (of_read file.0 file.1) v w text other
+      (read_on bytes_of words v text name limit next file.0 file.1 first)
+      (read_on bytes_of words w other name limit next file.0 file.1 second)
+  plan_alike (Makes traced d inputs schedule) of_read v w text other first second =
+      told_alike one d of_read.0 of_read.1 traced inputs schedule v w text other first second
+
+  module _ (traced : Bool) (d : DefTree) (was : IsRead d) (unbroken : broken_of d ≡ None) where
+    schedule_read : (inputs : InputsTree) (form : Result (List ℕ) FormFault) → AreOfRead (judged_schedule traced d inputs form)
+    schedule_read inputs (Ok schedule) = (was, unbroken)
+    schedule_read inputs (Err fault) = tt
+
+    under_read : (inputs : InputsTree) (named : Option (List ℕ)) → AreOfRead (scheduled traced named d inputs)
+    under_read inputs None = (was, unbroken)
+    under_read inputs (Some name) = λ bytes there. schedule_read inputs (schedule_form (within _ bytes))
+
+    inputs_read : (named : Option (List ℕ)) (form : Result InputsTree FormFault) → AreOfRead (judged_inputs traced named d form)
+    inputs_read named (Ok inputs) = under_read inputs named
+    inputs_read named (Err fault) = tt
+
+  accepted_read : (command : Command) (d : DefTree) → IsRead d → broken_of d ≡ None → AreOfRead (accepted command words d)
+  accepted_read Check d was unbroken = tt
+  accepted_read Run d was unbroken = λ bytes there.
+      inputs_read (is_traced Run) d was unbroken (schedule_word words) (inputs_form (within _ bytes))
+  accepted_read Trace d was unbroken = λ bytes there.
+      inputs_read (is_traced Trace) d was unbroken (schedule_word words) (inputs_form (within _ bytes))
+  accepted_read Command.List d was unbroken = tt
+  accepted_read (Fires from count) d was unbroken = tt
+
+  recurs_read : (from count : ℕ) (found : Result Recurrence RecurrenceFault) → AreOfRead (recurs from count found)
+  recurs_read from count (Ok r) = tt
+  recurs_read from count (Err fault) = tt
+
+  trigger_read : (from count : ℕ) (trigger : Option ValueTree) → AreOfRead (triggered from count trigger)
+  trigger_read from count (Some t) = recurs_read from count (recurrence_of t)
+  trigger_read from count None = tt
+
+  value_read : (name : List ℕ) (from count : ℕ) (form : Result ValueTree FormFault) → AreOfRead (judged_value name from count form)
+  value_read name from count (Ok file) = trigger_read from count (trigger_in name file)
+  value_read name from count (Err fault) = tt
+
+  history_read : (form : Result (List ListedTree) FormFault) → AreOfRead (judged_history form)
+  history_read (Ok listing) = tt
+  history_read (Err fault) = tt
+
+  module _ (was : (command : Command) (d : DefTree) → HoldsDefinition bytes_of words command d → IsRead d) where
+    definition_read : (command : Command) → command_of words ≡ Some command → (bytes : List ℕ) → bytes_of (word words 1) ≡ Some bytes →
+        (form : Result DefTree FormFault) → definition_form (within definition_bytes bytes) ≡ form →
+        AreOfRead (judged_definition command words form)
+    unfolding broken_in
+    definition_read command names bytes there (Ok d) is =
+        accepted_read command d (was command d (record { names = names; held = (bytes, there, is) }))
+        (form_unbroken (within definition_bytes bytes) d is)
+    definition_read command names bytes there (Err fault) is = tt
+
+    defined_read : (command : Command) → command_of words ≡ Some command → AreOfRead (defined (word words 1) command words)
+    defined_read command names = λ bytes there.
+        definition_read command names bytes there (definition_form (within definition_bytes bytes)) refl
+
+    plan_read : (command : Command) → command_of words ≡ Some command → AreOfRead (plan command words)
+    unfolding plan
+    plan_read Check names = defined_read Check names
+    plan_read Run names = defined_read Run names
+    plan_read Trace names = defined_read Trace names
+    plan_read (Fires from count) names = λ bytes there. value_read (word words 2) from count (value_form (within _ bytes))
+    plan_read Command.List names = λ bytes there. history_read (listing_form (within _ bytes))
+
+    said_alike : (s u : ℕ) (text other : List ℕ) (command : Option Command) → command_of words ≡ command →
+        PlanSays bytes_of (option_map (λ c. plan c words) command) s text →
+        PlanSays bytes_of (option_map (λ c. plan c words) command) u other → (s ≡ u) × (text ≡ other)
+    said_alike s u text other None names first second = (first.0 ∙ sym second.0, first.1 ∙ sym second.1)
+    said_alike s u text other (Some command) names first second =
+        let same = plan_alike (plan command words) (plan_read command names) first.0 second.0 text other first.2 second.2 in
+        (first.1 ∙ ap number same.0 ∙ sym second.1, same.1)
+
+    pub words_alike : (s u : ℕ) (text other : List ℕ) → Say bytes_of words s text → Say bytes_of words u other →
+        (s ≡ u) × (text ≡ other)
+    words_alike s u text other first second = said_alike s u text other (command_of words) refl first second

@@ -1,0 +1,5 @@
+use Rattle.wf_top.proofs.Alike.{words_alike}
+use Rattle.wf_top.proofs.laws.one_thing_is_said.Goals as goal
+
+pub returns : goal.returns
+returns c = words_alike c.one_text_is_told.ensures

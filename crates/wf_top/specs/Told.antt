@@ -1,0 +1,32 @@
+-- What may be said of the runs that inputs start.
+use Rattle.std.specs.Prelude.{◌≡◌, ◌⊎◌, ℕ, Bool, List, Err, codes}
+use Rattle.wf_answers.specs.Inputs.{InputsTree}
+use Rattle.wf_def.specs.DefTree.{DefTree}
+use Rattle.wf_told.specs.Records.{runs_records}
+use Rattle.wf_told.specs.Runs.{TellsRuns}
+use Rattle.wf_told.specs.declared.fault.RunsFault.{RunsFault}
+use Rattle.wf_top.specs.Trigger.{trigger_line}
+use Rattle.wf_top.specs.declared.said.Verdict.{Verdict}
+use Rattle.wf_top.specs.declared.said.Verdict.TheVariants.{Done, Inputs, TooLarge}
+
+abbrev pub too_large : List ℕ
+too_large = codes "too large\n"
+
+-- Why no runs are told is said so: with this verdict, in this line.
+abbrev pub SaysFault : RunsFault → Verdict → List ℕ → Type 0
+SaysFault (RunsFault.Trigger fault) verdict text = (verdict ≡ Inputs) × (text ≡ trigger_line fault)
+SaysFault RunsFault.TooLarge verdict text = (verdict ≡ TooLarge) × (text ≡ too_large)
+-- This is never met: that memory ran out isn't what runs come to (`runs_want_no_memory` of wf_printed).
+SaysFault RunsFault.Memory verdict text = ⊥
+
+-- The runs are told, each under the schedule, with the events of each or without.
+abbrev pub SaysRuns : Bool → DefTree → InputsTree → List ℕ → Verdict → List ℕ → Type 0
+SaysRuns traced d inputs schedule verdict text = (verdict ≡ Done) × TellsRuns d inputs schedule traced text
+
+-- There are none to tell for their fault, which rests on no schedule.
+abbrev pub SaysNoRuns : DefTree → InputsTree → Verdict → List ℕ → Type 0
+SaysNoRuns d inputs verdict text = (fault : RunsFault) × (runs_records d inputs ≡ Err fault) × SaysFault fault verdict text
+
+-- what is said of the runs: their text, or why there is none
+abbrev pub MayTell : Bool → DefTree → InputsTree → List ℕ → Verdict → List ℕ → Type 0
+MayTell traced d inputs schedule verdict text = SaysRuns traced d inputs schedule verdict text ⊎ SaysNoRuns d inputs verdict text
