@@ -28,9 +28,8 @@ _wflow_check_all() {
     local typed=${COMP_WORDS[COMP_CWORD]}
     case ${COMP_WORDS[COMP_CWORD - 1]}:$typed in
     --format:*) _wflow_words "text github azure json sarif junit" "$typed" ;;
-    --not-yet:*) _wflow_words "error notice" "$typed" ;;
     --empty:*) _wflow_words "error ok" "$typed" ;;
-    *:-*) _wflow_words "--format --name --not-yet --empty --why --help" "$typed" ;;
+    *:-*) _wflow_words "--format --name --empty --why --help" "$typed" ;;
     *) _wflow_files "$typed" ;;
     esac
 }

@@ -1,15 +1,16 @@
 #!/usr/bin/env python3
 """Runs the built program on random and mutated files, and compares each status and text with the one that is owed.
 
-  fuzz/fuzz.py [--count N] [--seed N] [--program PATH]
+  fuzz/fuzz.py [--count N] [--seed N] [--program PATH] [--model FOLDER]
 
 For each case it makes a definition, for `wflow check` or with an inputs file for `wflow run`, which has a schedule too in one call of two,
 or for `wflow trace`, from nothing but bytes or by mutating files of the right form, and decides for itself, with a reader of JSON, a judge
 and a small machine of its own, what the call owes on them: the count of actions, the events, the records and their summary lines, or the
 one fault and its place. So a program that refuses what is of the form fails, and so does one that takes what isn't, and one that is ended
 by a signal. It fails too where fewer than one case in ten of a command is of the form, since it would try little then. Of the functions of
-the expression language the judge has all but what a URL's parts are where the URL isn't plain: a case that asks for these isn't tried, and
-counted. The last line is 'N passed, M failed'."""
+the expression language the judge has all but what a URL's parts are where the URL isn't plain, and of what runs write that of actions of type
+Compose alone (all.py tries the others): a case that asks for more isn't tried, and counted, unless the engine in the folder of --model
+(model.py tells what that is) says what is owed. The last line is 'N passed, M failed'."""
 import argparse
 import collections
 import json
@@ -22,6 +23,7 @@ import tempfile
 import events
 import functions
 import graphs
+import model
 import rules
 import runs
 from reading import DEFINITION_BYTES, INPUTS_BYTES, Refused, read
@@ -259,9 +261,9 @@ def made(rng, form):
 
 
 # The words of the fault of a file that is read, with what the file is.
-def wanted_of_definition(data, command):
+def wanted_of_definition(data):
     value = read(data, DEFINITION_BYTES)
-    fault = rules.refusal(value, command)
+    fault = rules.refusal(value)
     if fault is not None:
         raise Refused(fault)
     return rules.definition_in(value), rules.given_in(value)
@@ -277,10 +279,10 @@ def schedule(rng):
     return rng.choice([b"\n", b"\n", b"\r\n"]).join(lines) + rng.choice([b"", b"\n", b"\n", b"\r\n"] if lines else [b""])
 
 
-# The status and the text that a command owes on these files; None where the judge doesn't know what a function gives.
+# The status and the text that a command owes on these files; None where the judge doesn't know what a function gives, or a run writes.
 def wanted(command, definition, inputs=None, schedule=b""):
     try:
-        definition, given = wanted_of_definition(definition, command)
+        definition, given = wanted_of_definition(definition)
     except Refused as fault:
         return 1, ("definition %s\n" % fault).encode()
     if command == "check":
@@ -302,13 +304,15 @@ def wanted(command, definition, inputs=None, schedule=b""):
         return None, b""
 
 
-def called_with(description):
-    """What the command line asks for: how many cases, of which seed, and of which program."""
+def called_with(description, *more):
+    """What the command line asks for: how many cases, of which seed, and of which program; and further options."""
     top = os.path.dirname(os.path.dirname(os.path.abspath(__file__)))
     parser = argparse.ArgumentParser(description=description, formatter_class=argparse.RawDescriptionHelpFormatter)
     parser.add_argument("--count", type=int, default=10000)
     parser.add_argument("--seed", type=int, default=1)
     parser.add_argument("--program", help="what to run; the program of bin/program where it is left out")
+    for option in more:
+        parser.add_argument(option)
     words = parser.parse_args()
     if not words.program:
         words.program = subprocess.check_output([os.path.join(top, "bin", "program")], text=True).strip()
@@ -316,7 +320,8 @@ def called_with(description):
 
 
 def main():
-    words = called_with(__doc__)
+    words = called_with(__doc__, "--model")
+    engine = model.of(words.model) if words.model else None
     rng = random.Random(words.seed)
     statuses = collections.Counter()
     failed = 0
@@ -331,6 +336,9 @@ def main():
                 with open(path, "wb") as file:
                     file.write(data)
             status, text = wanted(command, *files)
+            if status is None and engine:
+                status, text = engine([command, "definition", "inputs", "schedule"][:1 + len(files)],
+                                      dict(zip(("definition", "inputs", "schedule"), files)))
             statuses["unknown" if status is None else "%s %d" % (command, status)] += 1
             if status is None:
                 continue

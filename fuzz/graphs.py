@@ -23,6 +23,7 @@ class Maker:
         self.rng, self.left, self.astray = rng, list(NAMES), rng.choice([0, 0, 0.05, 0.2, 0.4])
         rng.shuffle(self.left)
         self.budget = rng.choice([1, 3, 5, 8, 12, 16])
+        self.counts = [1, 2, 2, 3, 4]
         self.variables = {name: rng.choice(TYPES) for name in rng.sample("vwx", rng.choice([0, 0, 1, 2, 3]))}
         changes = [kind for kind, its in CHANGES.items() if self.suited(its)]
         self.kinds = KINDS + changes * 4 + rng.choice([[], [], ["Terminate"] * 2, ["Response"] * 4])
@@ -54,7 +55,7 @@ class Maker:
     # the members of one graph, and what is seen of them from behind: names with kinds and how many loops stand between
     def graph(self, seen, inside, level):
         rng, made, mine = self.rng, {}, []
-        for _ in range(rng.choice([1, 2, 2, 3, 4])):
+        for _ in range(rng.choice(self.counts)):
             if not self.left or self.budget <= 0:
                 break
             name, self.budget = self.left.pop(), self.budget - 1

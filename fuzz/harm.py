@@ -27,7 +27,7 @@ MEMORY = 2 * 2**30
 # ---- what each command may say, by status
 
 QUOTED = rb'"(?:[^"\\\n]|\\.)*"'
-REFUSED = rb"definition (?:too long|NotJson|(?:NotWhole|TooDeep|NotYet) %b|V(?:[1-9]|1[0-9]|2[01])(?: %b)?)\n" % (QUOTED, QUOTED)
+REFUSED = rb"definition (?:too long|NotJson|(?:NotWhole|TooDeep) %b|V(?:[1-9]|1[0-9]|2[01])(?: %b)?)\n" % (QUOTED, QUOTED)
 FILE = rb"(?:too long|NotJson|(?:NotWhole|TooDeep) %b)\n" % QUOTED
 INPUTS = rb"inputs (?:%b|Form %b\n|Twice %b [0-9]+\n|Moment\n)" % (FILE, QUOTED, QUOTED)
 FAULT = rb"[A-Za-z0-9]+(?: (?:[A-Za-z0-9]+|%b))*" % QUOTED

@@ -1,14 +1,18 @@
 #!/usr/bin/env python3
 """Writes what the rows of `crates/run_rows` owe, decided by the judge of fuzz.py and not by the program.
 
-  fuzz/owed.py <crates/run_rows/stdin >crates/run_rows/stdout
+  fuzz/owed.py [--model FOLDER] <crates/run_rows/stdin >crates/run_rows/stdout
 
+What that judge doesn't know, as runs of other actions than those of type Compose, the engine in the folder of --model says (model.py tells
+what that is); without it such a row is told on standard error, and nothing is written for it.
 What a line of the rows means stands at the head of crates/run_rows/src/main.rt."""
+import argparse
 import json
 import re
 import sys
 
 import histories
+import model
 import recurrences
 from fuzz import wanted
 from reading import read
@@ -62,7 +66,7 @@ def fired(files, definition, name, moment, count):
 
 
 # A file is read once those before it are taken, which shows by what is refused where the next one is unfit.
-def said(files, words):
+def said(files, words, engine):
     if len(words) not in COUNTS.get(words[0], ()):
         return 2, USAGE.encode()
     command, held = words[0], []
@@ -76,7 +80,12 @@ def said(files, words):
             refused = wanted(command, *held, *(unfit for _, unfit in STAGES[len(held):]))
             if not refused[1].startswith(next_stage):
                 return refused
-        return wanted(command, *held, files.read(words[-1]))
+        held.append(files.read(words[-1]))
+        owed = wanted(command, *held)
+        if owed[0] is None and engine:
+            names = [name.decode() for name, _ in STAGES][:len(held)]
+            return engine([command] + names, dict(zip(names, held)))
+        return owed
     except Unread as line:
         return 3, str(line).encode()
 
@@ -92,7 +101,11 @@ def taken(text, piece, failing):
 
 
 def main():
-    held, last, trouble = {}, None, {}
+    parser = argparse.ArgumentParser(description=__doc__, formatter_class=argparse.RawDescriptionHelpFormatter)
+    parser.add_argument("--model")
+    words = parser.parse_args()
+    engine = model.of(words.model) if words.model else None
+    held, last, trouble, unknown = {}, None, {}, 0
     for line in sys.stdin.read().split("\n"):
         word, _, rest = line.partition(" ")
         if word in ("file", "bytes"):
@@ -109,14 +122,19 @@ def main():
             print("%d %s" % (status, text.decode()), end="")
         elif word == "words":
             files = Files(held, trouble.get("read"))
-            status, whole = said(files, rest.split())
+            status, whole = said(files, rest.split(), engine)
+            if status is None:
+                unknown += 1
+                print("owed: nothing is known of a row with the words %s" % rest, file=sys.stderr)
+                continue
             part = taken(whole, trouble.get("pieces", len(whole) or 1), trouble.get("write", 0))
             cut = part != whole
             print("words %s: status %d, failed reads %d, failed writes %d, left in the source %d" % (
                 rest, 4 if cut else status, files.faults, cut, len("untouched")))
             print(part.decode())
             trouble = {}
+    return 1 if unknown else 0
 
 
 if __name__ == "__main__":
-    main()
+    sys.exit(main())

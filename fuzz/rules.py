@@ -1,4 +1,4 @@
-"""Which rule a definition breaks first, and where, and what of it isn't built: decided apart from the program, after docs/RULES.md and
+"""Which rule a definition breaks first, and where: decided apart from the program, after docs/RULES.md and
 docs/MESSAGES.md. The judge of fuzz.py stands on this.
 
 A rule is a function from a definition, for which all rules before it hold, to the places at which it is broken, as paths of names and
@@ -381,15 +381,6 @@ def run_after(definition):
 RULES = [form, schema, limits, names, types, lacking, expressions, run_after]
 
 
-# ---- what isn't built
-
-# The actions that a command doesn't take yet; `check` takes all.
-def unbuilt(definition, command):
-    for path, action, _ in actions(definition):
-        if command != "check" and (type_of(action) != "compose" or action.get("trackedProperties")):
-            yield path
-
-
 def pointer(path):
     return "".join("/" + str(step).replace("~", "~0").replace("/", "~1") for step in path)
 
@@ -412,8 +403,8 @@ def given_in(value):
     return {name: held["value"] for name, held in outer.items() if has(held, "value")}
 
 
-# The words of the fault for which the command refuses a file's value, or None where it takes it.
-def refusal(value, command):
+# The words of the fault for which a file's value is refused, or None where it is taken.
+def refusal(value):
     definition = definition_in(value)
     for number, rule in enumerate(RULES, 1):
         place = least(rule(definition))
@@ -423,5 +414,9 @@ def refusal(value, command):
         place = least(places)
         if place is not None:
             return "V%d %s" % (number, place)
-    place = least(unbuilt(definition, command))
-    return None if place is None else "NotYet " + place
+    return None
+
+
+# Whether all actions of a definition are of type Compose, without tracked properties: of such ones runs.py knows what a run writes.
+def is_plain(definition):
+    return all(type_of(action) == "compose" and not action.get("trackedProperties") for _, action, _ in actions(definition))

@@ -1,5 +1,5 @@
 """What `wflow run` and `wflow trace` owe on a definition that they take, on inputs and under a schedule: which runs start, and what each of
-them writes. Decided apart from the program, after docs/FORMATS.md; the judge of fuzz.py."""
+them writes where all its actions are of type Compose. Decided apart from the program, after docs/FORMATS.md; the judge of fuzz.py."""
 import hashlib
 import re
 
@@ -243,11 +243,14 @@ def record(definition, digest, run):
     return made, rows, cost
 
 
-# The text that the runs of this definition and these inputs write under a schedule, which each of them begins anew.
+# The text that the runs of this definition and these inputs write under a schedule, which each of them begins anew. Of actions of another
+# type than Compose it isn't known.
 def text_of(definition, given, inputs, schedule, traced):
     digest = hashlib.sha256(compact(definition).encode()).hexdigest()
     text, total = [], 0
     for run in starts(definition, given, inputs):
+        if not rules.is_plain(definition):
+            raise functions.Unknown
         made, rows, cost = record(definition, digest, run)
         total += cost
         if total > MOST_COST:
