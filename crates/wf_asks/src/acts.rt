@@ -1,10 +1,9 @@
 //! The questions.
-ghost use Rattle.std.specs.Prelude.{◌≡◌, ◌<◌, ◌≤◌, ◌*◌, ◌^◌, ℕ, Bool, IfOk, nat_lt, option_map, suc};
+ghost use Rattle.std.specs.Prelude.{◌≡◌, ◌<◌, ◌≤◌, ◌*◌, ◌^◌, ℕ, Bool, IfOk, false, nat_lt, option_map, suc};
 ghost use Rattle.wf_val.specs.Cut.{cut_u64};
 ghost use Rattle.wf_layers.specs.Address.{Address};
 ghost use Rattle.wf_layers.specs.Bound.{TellsTurns};
-ghost use Rattle.wf_layers.specs.Definition.{Graph, Kind, Leaf, Until, kind_of};
-ghost use Rattle.wf_layers.specs.Laws.{IsInstance};
+ghost use Rattle.wf_layers.specs.Definition.{Graph, Kind, Leaf, Turns, Until, kind_of};
 ghost use Rattle.wf_layers.specs.Machine.{IsContainer};
 ghost use Rattle.wf_layers.specs.Meaning.{meaning};
 ghost use Rattle.wf_layers.specs.Source.{Source};
@@ -65,10 +64,10 @@ pub trait Acts {
 
     ghost turns: { Self → RowTree → ℕ };
 
-    /// The laws of order hold of it, and no leaf makes more attempts than a number can count. The writers of each variable are in one order.
-    /// What a row costs grows with the attempts and iterations that it tells.
+    /// Its loops can go, and no leaf makes more attempts than a number can count. The writers of each variable are in one order. What a row
+    /// costs grows with the attempts and iterations that it tells.
     fn is_instance(&self)
-        ensures sound { IsInstance (graph self.now) (source self.now) (depth self.now) }
+        ensures going { Turns (graph self.now) }
         ensures counted { (x : Address) → (b : BegunTree) → (source self.now).tries x b < 2 ^ 64 }
         ensures ordered { (v : ℕ) → OneOrder (graph self.now) (source self.now) (writer (writes self.now) v)
             (meaning (source self.now) (depth self.now) (graph self.now)) }
@@ -111,7 +110,7 @@ pub trait Acts {
     fn skipped(&self, alloc: Global, place: &Instance) -> Result<Self::Row, AllocError>
         ensures { IfOk result (λ r. row_tree r ≡ (source self.now).skipped) };
 
-    /// What a container finds as it opens.
+    /// What a container finds as it opens: one that isn't closed again with the decision that it had.
     fn decide(
         &self,
         alloc: Global,
@@ -123,6 +122,7 @@ pub trait Acts {
             (opens_in decision_tree verdict_tree known.opens.now.0) place.now.action place.now.at kind
             × HoldsLast (graph self.now) (depth self.now) (source self.now) (writes self.now) (rows_in row_tree known.rows.now.0)
             (store_in known.store.now.0) place.now.action kind place.now.at }
+        requires anew { (source self.now).reclosed place.now.action ≡ false }
         ensures { IfOk result (λ d. decision_tree d
             ≡ (source self.now).decide (address_of place.now) (rows_in row_tree known.entry.rows.now.0)) };
 

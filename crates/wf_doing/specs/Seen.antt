@@ -14,7 +14,7 @@ use Rattle.wf_doing.specs.declared.setting.Setting.{Setting}
 abbrev pub definition_of : Setting → DefTree
 definition_of s = def_tree s.places.now
 
--- that of a run which isn't made from another
+-- of what this run does itself, whether or not it keeps rows of an older one
 abbrev pub environment_of : Setting → Environment
 environment_of s = fresh (start_tree s.start.now) (inputs_tree s.inputs.now)
 

@@ -15,6 +15,7 @@ ghost use Rattle.wf_sight.specs.Laws.{run_of};
 ghost use Rattle.wf_sight.specs.Sight.{KnownTree, seen_at, seen_in_test};
 ghost use Rattle.wf_sight.specs.Variables.{variable_in};
 ghost use Rattle.wf_environment.specs.Environment.{Environment, facts_of, fresh};
+ghost use Rattle.wf_meant.specs.Answering.{AnswersAs, RowSource};
 ghost use Rattle.wf_meant.specs.Look.{decided_by, name_of, told_at, told_in_test};
 ghost use Rattle.wf_meant.specs.Points.{graph_of};
 ghost use Rattle.wf_meant.specs.Source.{is_halted, source};
@@ -63,41 +64,43 @@ pub fn what_is_done_is_the_source()
 {}
 
 /// So a leaf starts, a container decides and a test gives what the definition means, wherever what is known is what the machine promises
-/// as it asks, and what is found of each variable that is asked for is what the definition means it to be. What an action ends with asks
-/// for no more than its tracked properties do.
+/// as it asks, by any source by which the definition answers, and what is found of each variable that is asked for is what the definition
+/// means it to be. What an action ends with asks for no more than its tracked properties do.
 pub fn what_is_done_is_meant()
-    ensures start { (d : DefTree) (e : Environment) (x : Address) (kind : Kind) (depth : ℕ → ℕ) (known : KnownTree)
-        → Once (graph_of d)
-        → IsInformed (graph_of d) depth (source d e) known.rows known.opens x.name x.at kind
+    ensures start { (d : DefTree) (e : Environment) (m : RowSource) → AnswersAs d e m → (x : Address) (kind : Kind) (depth : ℕ → ℕ)
+        (known : KnownTree) → Once (graph_of d)
+        → IsInformed (graph_of d) depth m known.rows known.opens x.name x.at kind
         → FindsTold (λ k. variable_in d known.rows known.store k)
         (told_at d e x known.rows) (starting_uses (numbered x.name d.top))
         → begun_by (numbered x.name d.top) (seen_at d (run_of e (facts_of e (name_of d x.name))) x known)
         ≡ (source d e).start x known.rows }
-    ensures decide { (d : DefTree) (e : Environment) (x : Address) (kind : Kind) (depth : ℕ → ℕ) (known : KnownTree)
-        → Once (graph_of d)
-        → IsInformed (graph_of d) depth (source d e) known.rows known.opens x.name x.at kind
+    ensures decide { (d : DefTree) (e : Environment) (m : RowSource) → AnswersAs d e m → (x : Address) (kind : Kind) (depth : ℕ → ℕ)
+        (known : KnownTree) → Once (graph_of d)
+        → IsInformed (graph_of d) depth m known.rows known.opens x.name x.at kind
         → FindsTold (λ k. variable_in d known.rows known.store k) (told_at d e x known.rows)
         (deciding_uses (numbered x.name d.top))
         → decided_by (numbered x.name d.top) (seen_at d (run_of e (facts_of e (name_of d x.name))) x known)
         ≡ (source d e).decide x known.rows }
-    ensures test { (d : DefTree) (e : Environment) (u : Address) (most : ℕ) (g : Graph) (j : ℕ) (depth : ℕ → ℕ) (known : KnownTree)
+    ensures test { (d : DefTree) (e : Environment) (m : RowSource) → AnswersAs d e m → (u : Address) (most : ℕ) (g : Graph) (j : ℕ)
+        (depth : ℕ → ℕ) (known : KnownTree)
         → Once (graph_of d)
-        → IsInformedAtTest (graph_of d) depth (source d e) known.rows known.opens u.name u.at most g j
+        → IsInformedAtTest (graph_of d) depth m known.rows known.opens u.name u.at most g j
         → FindsTold (λ k. variable_in d known.rows known.store k) (told_in_test d e u j known.rows)
         (testing_uses (numbered u.name d.top))
         → tested_by (numbered u.name d.top)
         (seen_in_test d (run_of e (facts_of e (name_of d u.name))) u j known)
         ≡ (source d e).test u j known.rows }
-    ensures finish { (d : DefTree) (s : StartTree) (i : InputsTree) (x : Address) (kind : Kind) (depth : ℕ → ℕ) (known : KnownTree)
-        (b : BegunTree) → Once (graph_of d) → IsInformed (graph_of d) depth (source d (fresh s i)) known.rows known.opens x.name x.at kind
+    ensures finish { (d : DefTree) (s : StartTree) (i : InputsTree) (m : RowSource) → AnswersAs d (fresh s i) m → (x : Address)
+        (kind : Kind) (depth : ℕ → ℕ) (known : KnownTree) (b : BegunTree) → Once (graph_of d)
+        → IsInformed (graph_of d) depth m known.rows known.opens x.name x.at kind
         → FindsTold (λ k. variable_in d known.rows known.store k) (told_at d (fresh s i) x known.rows)
         (tracking_uses (numbered x.name d.top))
         → finished_by (numbered x.name d.top)
         (seen_at d (run_of (fresh s i) (facts_of (fresh s i) (name_of d x.name))) x known) i.answers x.at b
         ≡ (source d (fresh s i)).finish x b known.rows }
-    ensures close { (d : DefTree) (e : Environment) (x : Address) (kind : Kind) (depth : ℕ → ℕ) (known : KnownTree)
-        (decision : DecisionTree) (n : ℕ) (verdict : Option VerdictTree)
-        → Once (graph_of d) → IsInformed (graph_of d) depth (source d e) known.rows known.opens x.name x.at kind
+    ensures close { (d : DefTree) (e : Environment) (m : RowSource) → AnswersAs d e m → (x : Address) (kind : Kind) (depth : ℕ → ℕ)
+        (known : KnownTree) (decision : DecisionTree) (n : ℕ) (verdict : Option VerdictTree)
+        → Once (graph_of d) → IsInformed (graph_of d) depth m known.rows known.opens x.name x.at kind
         → FindsTold (λ k. variable_in d known.rows known.store k) (told_at d e x known.rows)
         (tracking_uses (numbered x.name d.top))
         → closed_by (numbered x.name d.top) (seen_at d (run_of e (facts_of e (name_of d x.name))) x known)

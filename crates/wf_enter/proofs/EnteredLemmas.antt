@@ -52,7 +52,7 @@ turned_is (Choice bs) = refl
 turned_is (Foreach pace g) = refl
 turned_is (Until most g) = refl
 
-among_is : (o : Option Graph) (q : ℕ) → is_among q (or_none (option_map own_numbers o)) ≡ has_own_of o q
+pub among_is : (o : Option Graph) (q : ℕ) → is_among q (or_none (option_map own_numbers o)) ≡ has_own_of o q
 among_is None q = refl
 among_is (Some g) q = graphs.own_is g q
 
@@ -64,7 +64,7 @@ ended_is : (o : Option Graph) → has_ended (option_map own_numbers o) ≡ has_e
 ended_is None = refl
 ended_is (Some g) = refl
 
-some_of : (o : Option Graph) (q : ℕ) → has_own_of o q ≡ true → (g : Graph) × (o ≡ Some g) × (has_own g q ≡ true)
+pub some_of : (o : Option Graph) (q : ℕ) → has_own_of o q ≡ true → (g : Graph) × (o ≡ Some g) × (has_own g q ≡ true)
 some_of None q h = absurd (true≢false (sym h))
 some_of (Some g) q h = (g, refl, h)
 

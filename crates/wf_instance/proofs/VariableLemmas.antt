@@ -29,7 +29,7 @@ module _ (d : DefTree) (p : Point) (t u : Table Row) (same : (x : Address) → s
   told rows v =
       option_map (λ w. w.value) (last_from d None (flat_map
       (λ a. filter_map (written_at v rows) (map (address (action_number a))
-      (indexes_from rows (loops_of (graph_of d) (action_number a)) [] p.loops p.at)))
+      (indexes_from d rows (loops_of (graph_of d) (action_number a)) [] p.loops p.at)))
       (filter (writes v) (all_actions d.top))))
 
   pub variable_same : (v : List ℕ) → variable_at d p t v ≡ variable_at d p u v

@@ -14,7 +14,7 @@ use Rattle.wf_layers.proofs.Basics.{starts_self}
 use Rattle.wf_meant.specs.Points.{Point}
 use Rattle.wf_meant.specs.References.{Spots, one, every, latest, by_name, first_level, last_of, own_loop, places_in, result_by, result_in}
 use Rattle.wf_meant.specs.References.{shared, spots_by, spots_in, spots_of, upto, view_by, view_in, view_there}
-use Rattle.wf_meant.specs.Rows.{iterations_of, view_of}
+use Rattle.wf_meant.specs.Rows.{iterations_of, turns_at, view_of}
 use Rattle.wf_record.specs.Record.{Row}
 
 map_same : {X Y : Type 0} (P : X → Type 0) (f g : X → Y) (xs : List X) → AllByRecursion P xs → ((x : X) → P x → f x ≡ g x)
@@ -61,7 +61,7 @@ meant_in (Some a) s n = meant_of (action_kind a) s n
 
 meant_by : (d : DefTree) (s ls : List ℕ) (known : Table Row) → MeantIf s (spots_by d s ls known)
 meant_by d s [] known = starts_self s
-meant_by d s (l ∷ []) known = meant_in (numbered l d.top) s (iterations_of (known (address l s)))
+meant_by d s (l ∷ []) known = meant_in (numbered l d.top) s (turns_at d known l s)
 meant_by d s (l ∷ m ∷ ls) known = tt
 
 -- ---- two tables with the same rows there
@@ -77,7 +77,7 @@ module _ (t u : Table Row) where
 
   pub spots_same : (d : DefTree) (s ls : List ℕ) → SameLoop s ls → spots_by d s ls t ≡ spots_by d s ls u
   spots_same d s [] loop = refl
-  spots_same d s (l ∷ []) loop = ap (λ (r : Option Row). spots_in (numbered l d.top) s (iterations_of r)) (loop l [] refl)
+  spots_same d s (l ∷ []) loop = ap (λ (r : Option Row). spots_in (numbered l d.top) s (iterations_of (numbered l d.top) r)) (loop l [] refl)
   spots_same d s (l ∷ m ∷ ls) loop = refl
 
   there_same : (a : ActionTree) (s at : List ℕ) → SameRows s (action_number a) → Begins s at → view_there a t at ≡ view_there a u at

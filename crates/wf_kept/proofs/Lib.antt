@@ -9,3 +9,4 @@ pub mod Informed
 pub mod Stored
 pub mod Taken
 pub mod OneWay
+pub mod Resumed

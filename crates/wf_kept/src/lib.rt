@@ -17,11 +17,11 @@
 //! them as said here, is the engine's part.
 #![tactic(auto)]
 
-ghost use Rattle.std.specs.Prelude.{[], ◌*◌, ◌+◌, ◌≡◌, ◌≤◌, Bool, List, None, Option, Some, length, suc, true, ℕ};
+ghost use Rattle.std.specs.Prelude.{[], ◌*◌, ◌+◌, ◌≡◌, ◌≤◌, Bool, List, None, Option, Some, false, length, suc, true, ℕ};
 ghost use Rattle.wf_layers.specs.Address.{Address, SeenIn, Table, address};
 ghost use Rattle.wf_layers.specs.Bound.{Costs, TellsTurns, left};
 ghost use Rattle.wf_layers.specs.Changes.{is_named};
-ghost use Rattle.wf_layers.specs.Definition.{Closed, Graph, IsDepth, Kind, Leaf, Need, Until, kind_of, needs_of};
+ghost use Rattle.wf_layers.specs.Definition.{Closed, Graph, IsDepth, Kind, Leaf, Need, Until, holds, kind_of, needs_of};
 ghost use Rattle.wf_layers.specs.Enabled.{own_event};
 ghost use Rattle.wf_layers.specs.Facts.{Facts};
 ghost use Rattle.wf_layers.specs.Laws.{Exact, IsInstance};
@@ -34,7 +34,7 @@ ghost use Rattle.wf_layers.specs.Variables.{IsLastSeen, IsLastWritten, OneOrder,
 ghost use Rattle.wf_kept.specs.Counted.{AreCounts, AreLacksAfter, waits_after};
 ghost use Rattle.wf_kept.specs.Event.{AreLeft, AreLeftAfter, counted_event};
 ghost use Rattle.wf_kept.specs.Quiet.{is_quiet};
-ghost use Rattle.wf_kept.specs.Reached.{IsReached};
+ghost use Rattle.wf_kept.specs.Reached.{IsNoLoop, IsReached, IsResumption};
 ghost use Rattle.wf_kept.specs.Ready.{IsEdited, IsReady, IsRefreshed};
 ghost use Rattle.wf_kept.specs.Stored.{IsStored, MayRead, kept_rows};
 ghost use Rattle.wf_kept.specs.Taken.{HasTaken};
@@ -125,6 +125,36 @@ pub fn kinds_are_known<Row, Begun, Decision, Verdict>()
     ensures { (d : Graph) (depth : ℕ → ℕ) (m : Source Row Begun Decision Verdict) (s : State Row Begun Decision Verdict)
         → IsReached d depth m s → (n : ℕ) (i : List ℕ) (after : List Need) (kind : Kind) → IsThere d m s n i after kind
         → (kind_of d n ≡ Some kind) × (needs_of d n ≡ after) }
+{}
+
+/// What starts, opens or is skipped in a reached state is asked anew, and so is all inside it: none of it is kept from an old record, or
+/// closed again as it was decided there.
+pub fn what_is_decided_is_new<Row, Begun, Decision, Verdict>()
+    ensures itself { (d : Graph) (depth : ℕ → ℕ) (m : Source Row Begun Decision Verdict) (s : State Row Begun Decision Verdict)
+        → IsReached d depth m s → (n : ℕ) (i : List ℕ) (after : List Need) (kind : Kind) → IsDecided d m s n i after kind
+        → (m.pinned n ≡ false) × (m.reclosed n ≡ false) }
+    ensures inside { (d : Graph) (depth : ℕ → ℕ) (m : Source Row Begun Decision Verdict) (s : State Row Begun Decision Verdict)
+        → IsReached d depth m s → (n : ℕ) (i : List ℕ) (after : List Need) (kind : Kind) → IsDecided d m s n i after kind
+        → (q : ℕ) → holds kind q ≡ true → (m.pinned q ≡ false) × (m.reclosed q ≡ false) }
+{}
+
+/// A state from which an old record is gone on is reached, no event is taken there yet, and a store that has what the last of its writers
+/// wrote is its own.
+pub fn resumptions_are_reached<Row, Begun, Decision, Verdict, Value>()
+    ensures reached { (d : Graph) (depth : ℕ → ℕ) (m : Source Row Begun Decision Verdict) (s : State Row Begun Decision Verdict)
+        → IsResumption d depth m s → IsReached d depth m s }
+    ensures untaken { (d : Graph) (depth : ℕ → ℕ) (m : Source Row Begun Decision Verdict) (s : State Row Begun Decision Verdict)
+        → IsResumption d depth m s → HasTaken d depth m s 0 }
+    ensures stored { (d : Graph) (depth : ℕ → ℕ) (m : Source Row Begun Decision Verdict) (s : State Row Begun Decision Verdict)
+        → IsResumption d depth m s → (writes : Address → Row → Option Value) (v : Option Value) → IsLastWritten d m writes s.rows v
+        → IsStored d depth m writes s v }
+{}
+
+/// In it only Scopes and Choices are open, in no loop, and no iteration has begun.
+pub fn resumptions_open_no_loop<Row, Begun, Decision, Verdict>()
+    ensures { (d : Graph) (depth : ℕ → ℕ) (m : Source Row Begun Decision Verdict) (s : State Row Begun Decision Verdict)
+        → IsResumption d depth m s → (n : ℕ) (i : List ℕ) (w : Opening Decision Verdict) → s.opens (address n i) ≡ Some w
+        → (kind : Kind) → kind_of d n ≡ Some kind → (i ≡ []) × (w.next ≡ 0) × IsNoLoop kind }
 {}
 
 /// What an action sees is there as the meaning has it: as it is decided, while it is running or open, and, for an Until, as it is tested,

@@ -1,3 +1,4 @@
+pub mod TellLemmas
 pub mod Terms
 mod ContainerRows
 mod LoopRows

@@ -1,10 +1,10 @@
 -- Worked values of the parts of a meaning: points, indexes, decisions that close, and depths.
 use Prim.Native.String.{String}
 use Rattle.std.proofs.Common.{◌≡◌, true, false, Some, None, List, [], ◌∷◌, map, refl}
-use Rattle.std.specs.Prelude.{bytes_eq, codes, decimal}
+use Rattle.std.specs.Prelude.{ℕ, bytes_eq, codes, decimal, negsuc}
 use Rattle.wf_val.specs.Address.{address_text}
 use Rattle.wf_val.specs.Arguments.{wrong_type}
-use Rattle.wf_val.specs.ValueTree.{null}
+use Rattle.wf_val.specs.ValueTree.{ValueTree, null, number}
 use Rattle.wf_val.specs.declared.fault.EvalFault.{EvalFault}
 use Rattle.wf_val.specs.declared.function.Fun.{Fun}
 use Rattle.wf_template.specs.ExprTree.{member}
@@ -14,7 +14,7 @@ use Rattle.wf_retry.specs.declared.policy.Policy.{Policy}
 use Rattle.wf_answers.specs.AnswerTree.{AnswerTree}
 use Rattle.wf_template.specs.CondTree.{holds}
 use Rattle.wf_layers.specs.Address.{Table, address}
-use Rattle.wf_def.specs.ActionTree.{compose, connector, switch_else, foreach, until, action_trees, no_cases, no_actions}
+use Rattle.wf_def.specs.ActionTree.{compose, connector, scope, switch_else, foreach, until, action_trees, no_cases, no_actions}
 use Rattle.wf_def.specs.DefTree.{DefTree}
 use Rattle.wf_record.specs.Record.{RecordTree, Row, RowTree}
 use Rattle.wf_record.specs.declared.attempt.Try.{Try}
@@ -31,7 +31,7 @@ use Rattle.wf_meant.specs.Points.{point_of, point_of_outputs, point_of_test, see
 use Rattle.wf_meant.specs.Record.{depth_of, meaning}
 use Rattle.wf_meant.specs.References.{every, last_of, latest, one, shared, spots_by}
 use Rattle.wf_meant.specs.Resubmitted.{pinned}
-use Rattle.wf_meant.specs.Rows.{row_of}
+use Rattle.wf_meant.specs.Rows.{iterations_of, row_of, turns_at, turns_said}
 use Rattle.wf_meant.specs.Status.{graph_status}
 use Rattle.wf_meant.specs.Variables.{indexes_from, instances_at, seen_by}
 use Rattle.wf_meant.proofs.Terms.{act, alone, answered, as_second, called, ended, fields, giving, inputs_again, nat, num, obj, of}
@@ -135,8 +135,95 @@ spots-of-two = refl
 spots-of-no-loop : spots_by nested [] (0 ∷ []) with_rounds ≡ None
 spots-of-no-loop = refl
 
+-- a list that an Until took in, and a number that a Foreach gives out, say nothing
+spots-of-foreach-without-list : spots_by nested (4 ∷ []) (5 ∷ []) with_turns ≡ Some (every [])
+spots-of-foreach-without-list = refl
+
+spots-of-until-with-list : spots_by nested [] (6 ∷ []) with_rounds ≡ Some (latest None)
+spots-of-until-with-list = refl
+
 last-iteration : last_of (4 ∷ []) 2 ≡ Some (4 ∷ 1 ∷ [])
 last-iteration = refl
+
+-- ---- how many iterations a row says, by the kind of its action
+
+abbrev kept : ValueTree → ValueTree → Row
+kept i o = row_of (closed_as Succeeded i o) null []
+
+abbrev said_by_foreach : ValueTree → ValueTree → ℕ
+said_by_foreach i o = turns_said (foreach (nat 1) 20 no_actions) (kept i o)
+
+abbrev said_by_until : ValueTree → ValueTree → ℕ
+said_by_until i o = turns_said (until (holds (whole (num 1))) 3 true no_actions) (kept i o)
+
+foreach-says-items : said_by_foreach (values (value 7 ∷ value 8 ∷ [])) null ≡ 2
+foreach-says-items = refl
+
+foreach-of-nothing-says-none : said_by_foreach (values []) null ≡ 0
+foreach-of-nothing-says-none = refl
+
+-- whatever it gave out
+foreach-with-outputs : said_by_foreach (values (value 7 ∷ value 8 ∷ [])) (words "o") ≡ 2
+foreach-with-outputs = refl
+
+foreach-with-number : said_by_foreach (values (value 7 ∷ [])) (iterations_value 3) ≡ 1
+foreach-with-number = refl
+
+foreach-without-list : said_by_foreach null (iterations_value 3) ≡ 0
+foreach-without-list = refl
+
+foreach-of-text : said_by_foreach (words "ab") null ≡ 0
+foreach-of-text = refl
+
+until-says-rounds : said_by_until null (iterations_value 3) ≡ 3
+until-says-rounds = refl
+
+-- whatever it took in, and however often it may go round
+until-with-inputs : said_by_until (words "i") (iterations_value 3) ≡ 3
+until-with-inputs = refl
+
+until-with-list : said_by_until (values (value 7 ∷ value 8 ∷ [])) (iterations_value 3) ≡ 3
+until-with-list = refl
+
+until-more-than-any : said_by_until null (iterations_value 5001) ≡ 5001
+until-more-than-any = refl
+
+until-with-list-alone : said_by_until (values (value 7 ∷ value 8 ∷ [])) null ≡ 0
+until-with-list-alone = refl
+
+until-with-further-member : said_by_until null (fields ((codes "iterations", value 3) ∷ (codes "x", null) ∷ [])) ≡ 0
+until-with-further-member = refl
+
+until-of-other-name : said_by_until null (fields ((codes "Iterations", value 3) ∷ [])) ≡ 0
+until-of-other-name = refl
+
+until-below-nothing : said_by_until null (fields ((codes "iterations", number (negsuc 2)) ∷ [])) ≡ 0
+until-below-nothing = refl
+
+compose-says-none : turns_said (compose (nat 1)) (kept (values (value 7 ∷ [])) (iterations_value 3)) ≡ 0
+compose-says-none = refl
+
+scope-says-none : turns_said (scope no_actions) (kept (values (value 7 ∷ [])) (iterations_value 3)) ≡ 0
+scope-says-none = refl
+
+no-action-says-none : iterations_of None (Some (kept (values (value 7 ∷ [])) (iterations_value 3))) ≡ 0
+no-action-says-none = refl
+
+no-row-says-none : iterations_of (Some (act "L" 0 [] (foreach (nat 1) 20 no_actions))) None ≡ 0
+no-row-says-none = refl
+
+-- by the number of the action: that of the Foreach, of the Until, of a leaf, and one of no action
+turns-of-foreach : turns_at nested with_rounds 4 [] ≡ 2
+turns-of-foreach = refl
+
+turns-of-until : turns_at nested with_turns 6 [] ≡ 3
+turns-of-until = refl
+
+turns-of-leaf : turns_at nested with_rounds 0 [] ≡ 0
+turns-of-leaf = refl
+
+turns-of-nobody : turns_at nested with_rounds 7 [] ≡ 0
+turns-of-nobody = refl
 
 -- ---- instances that may be earlier
 
@@ -153,11 +240,11 @@ instances-outside : instances_at nested (point_of_outputs nested) with_rounds 1 
 instances-outside = refl
 
 -- the index of the point is cut only as long as the loops and the indexes are the same
-indexes-behind : indexes_from with_rounds (4 ∷ 5 ∷ []) [] (4 ∷ 5 ∷ []) (1 ∷ 0 ∷ []) ≡
+indexes-behind : indexes_from nested with_rounds (4 ∷ 5 ∷ []) [] (4 ∷ 5 ∷ []) (1 ∷ 0 ∷ []) ≡
     (0 ∷ 0 ∷ []) ∷ (0 ∷ 1 ∷ []) ∷ (1 ∷ 0 ∷ []) ∷ []
 indexes-behind = refl
 
-indexes-apart : indexes_from with_rounds (5 ∷ []) [] (4 ∷ []) (0 ∷ []) ≡ (0 ∷ []) ∷ (1 ∷ []) ∷ []
+indexes-apart : indexes_from nested with_rounds (5 ∷ []) [] (4 ∷ []) (0 ∷ []) ≡ (0 ∷ []) ∷ (1 ∷ []) ∷ []
 indexes-apart = refl
 
 -- rows that a point doesn't see aren't there

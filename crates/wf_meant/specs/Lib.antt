@@ -8,3 +8,4 @@ pub mod Containers
 pub mod Source
 pub mod Record
 pub mod Resubmitted
+pub mod Answering

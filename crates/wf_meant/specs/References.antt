@@ -10,7 +10,7 @@ use Rattle.wf_def.specs.ActionTree.{foreach, until, CaseTrees, no_cases, case_th
 use Rattle.wf_def.specs.AllActions.{numbered}
 use Rattle.wf_def.specs.DefTree.{DefTree}
 use Rattle.wf_meant.specs.Points.{Point, action_named}
-use Rattle.wf_meant.specs.Rows.{iterations_of, view_of}
+use Rattle.wf_meant.specs.Rows.{turns_at, view_of}
 use Rattle.wf_record.specs.Record.{Row}
 
 -- the numbers below n
@@ -42,7 +42,7 @@ spots_in (Some a) at n = spots_of (action_kind a) at n
 -- where these loops are left, by their numbers; a reference leaves one at most
 abbrev pub spots_by : DefTree → List ℕ → List ℕ → Table Row → Option Spots
 spots_by d at [] known = Some (one at)
-spots_by d at (l ∷ []) known = spots_in (numbered l d.top) at (iterations_of (known (address l at)))
+spots_by d at (l ∷ []) known = spots_in (numbered l d.top) at (turns_at d known l at)
 spots_by d at (l ∷ m ∷ ls) known = None
 
 -- the indexes in the loops round both the point and the action

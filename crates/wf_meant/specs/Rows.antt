@@ -1,11 +1,15 @@
 -- What is known of an action that has ended: the row of a record, and what it tells.
 use Rattle.std.specs.Prelude.{ℕ, List, [], Option, Some, None}
 use Rattle.wf_val.specs.ValueTree.{ValueTree, object, no_members}
-use Rattle.wf_record.specs.Cost.{iterations}
+use Rattle.wf_layers.specs.Address.{Table, address}
+use Rattle.wf_def.specs.ActionTree.{ActionTree, action_kind, KindTree, foreach, until}
+use Rattle.wf_def.specs.AllActions.{numbered}
+use Rattle.wf_def.specs.DefTree.{DefTree}
 use Rattle.wf_record.specs.Record.{Row}
 use Rattle.wf_record.specs.declared.attempt.Try.{Try}
 use Rattle.wf_done.specs.Done as done
 use Rattle.wf_done.specs.Done.{DoneTree}
+use Rattle.wf_says.specs.Told.{items_said, rounds_said}
 
 -- what an action came to, with its tracked properties and its attempts
 abbrev pub row_of : DoneTree → ValueTree → List Try → Row
@@ -30,7 +34,19 @@ view_of name row = done.view name (done_of row)
 abbrev pub skipped : Row
 skipped = row_of done.skipped (object no_members) []
 
--- how many iterations the row of a loop says that it had; one that has no row had none
-abbrev pub iterations_of : Option Row → ℕ
-iterations_of None = 0
-iterations_of (Some row) = iterations row.inputs row.outputs
+-- How many iterations the row of a loop says that it had, by what it kept of what it decided: the list of a Foreach are its inputs, and an
+-- Until gives out how often it went round. What else the row has says nothing of it. Other actions have none.
+abbrev pub turns_said : KindTree → Row → ℕ
+turns_said (foreach items repetitions graph) row = items_said row
+turns_said (until test count fails graph) row = rounds_said row
+turns_said kind row = 0
+
+-- of an action, which may be there, and its row; one that has no row had none
+abbrev pub iterations_of : Option ActionTree → Option Row → ℕ
+iterations_of None row = 0
+iterations_of (Some a) None = 0
+iterations_of (Some a) (Some row) = turns_said (action_kind a) row
+
+-- of the action of this number at these indexes, by the rows that are known
+abbrev pub turns_at : DefTree → Table Row → ℕ → List ℕ → ℕ
+turns_at d known l at = iterations_of (numbered l d.top) (known (address l at))

@@ -14,7 +14,7 @@ use Rattle.wf_variables.specs.Given.{gives}
 use Rattle.wf_loops.specs.Loops.{loops_of}
 use Rattle.wf_meant.specs.Points.{Point, graph_of, point_of, sees}
 use Rattle.wf_meant.specs.References.{upto}
-use Rattle.wf_meant.specs.Rows.{iterations_of}
+use Rattle.wf_meant.specs.Rows.{turns_at}
 use Rattle.wf_record.specs.Record.{Row}
 
 -- what a point sees of the rows
@@ -23,7 +23,7 @@ seen_by p known x = cond (sees p x) (known x) None
 
 -- ---- the instances of an action that may be earlier than a point, by their indexes
 
-module _ (known : Table Row) where
+module _ (d : DefTree) (known : Table Row) where
   -- The loops round the action that are round the point, too, are begun up to the point's index; of the others the rows say how many
   -- iterations they had. `at` are the indexes so far, and the last two lists the loops and the indexes of the point as long as the action's
   -- are the same.
@@ -32,11 +32,11 @@ module _ (known : Table Row) where
   indexes_from (l ∷ ls) at (m ∷ ms) (j ∷ js) =
       if nat_eq l m
       then flat_map (λ k. indexes_from ls (at ++ k ∷ []) (if nat_eq k j then ms else []) js) (upto (suc j))
-      else flat_map (λ k. indexes_from ls (at ++ k ∷ []) [] []) (upto (iterations_of (known (address l at))))
-  indexes_from (l ∷ ls) at ms js = flat_map (λ k. indexes_from ls (at ++ k ∷ []) [] []) (upto (iterations_of (known (address l at))))
+      else flat_map (λ k. indexes_from ls (at ++ k ∷ []) [] []) (upto (turns_at d known l at))
+  indexes_from (l ∷ ls) at ms js = flat_map (λ k. indexes_from ls (at ++ k ∷ []) [] []) (upto (turns_at d known l at))
 
 abbrev pub instances_at : DefTree → Point → Table Row → ℕ → List Address
-instances_at d p known x = map (address x) (indexes_from (seen_by p known) (loops_of (graph_of d) x) [] p.loops p.at)
+instances_at d p known x = map (address x) (indexes_from d (seen_by p known) (loops_of (graph_of d) x) [] p.loops p.at)
 
 -- ---- writers
 

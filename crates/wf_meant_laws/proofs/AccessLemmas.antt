@@ -22,8 +22,8 @@ use Rattle.wf_record.specs.Record.{Row}
 use Rattle.wf_record.specs.declared.status.Status.{Status}
 use Rattle.wf_environment.specs.Environment.{Environment}
 use Rattle.wf_environment.specs.Statuses.{status_tree}
+use Rattle.wf_meant.specs.Answering.{AnswersAs, RowSource}
 use Rattle.wf_meant.specs.Points.{graph_of}
-use Rattle.wf_meant.specs.Source.{source}
 use Rattle.wf_meant.specs.Variables.{given_as, given_by}
 use Rattle.wf_instance.proofs.KindLemmas.{kinds}
 use Rattle.wf_meant_laws.specs.Last.{AccessesHaveOrder}
@@ -40,9 +40,11 @@ skipped_gives v Status.Skipped outputs e = refl
 skipped_gives v Status.TimedOut outputs e = refl
 skipped_gives v Status.Cancelled outputs e = refl
 
-idle_gives : (d : DefTree) (e : Environment) (v : List ℕ) (row : Row) → IsIdle (source d e) row → given_by v row ≡ None
-idle_gives d e v row (inl same) = ap (λ (r : Row). given_by v r) same
-idle_gives d e v row (inr status) = skipped_gives v row.status row.outputs status
+idle_gives : (d : DefTree) (e : Environment) (m : RowSource) → AnswersAs d e m → (v : List ℕ) (row : Row) → IsIdle m row
+    → given_by v row ≡ None
+idle_gives d e m answers v row (inl same) = ap (λ (r : Row). given_by v r) (same ∙ answers.skipped)
+idle_gives d e m answers v row (inr status) =
+    skipped_gives v row.status row.outputs (sym (ap (λ told. told row) answers.status) ∙ status)
 
 nothing_written : (b : Bool) (y : Address) (o : Option ValueTree) → o ≡ None
     → cond b (option_map (λ (value : ValueTree). y) o) None ≡ None
@@ -60,7 +62,7 @@ leaf_of v (append_array name value) is = refl
 leaf_of v (append_string name value) is = refl
 leaf_of v kind is = absurd (true≢false (sym is))
 
-writer_is_leaf : (d : DefTree) → Once (graph_of d) → (v : List ℕ) (n : ℕ) (o : Option ActionTree) → numbered n d.top ≡ o
+pub writer_is_leaf : (d : DefTree) → Once (graph_of d) → (v : List ℕ) (n : ℕ) (o : Option ActionTree) → numbered n d.top ≡ o
     → writers.writes_if v o ≡ true → kind_of (graph_of d) n ≡ Some Leaf
 writer_is_leaf d once v n None is wr = absurd (true≢false (sym wr))
 writer_is_leaf d once v n (Some a) is wr = kinds d once n a is ∙ ap (λ (k : Kind). Some k) (leaf_of v (action_kind a) wr)
@@ -70,7 +72,7 @@ writes_same : (same : (k : List ℕ) (ks : List (List ℕ)) → list_any (bytes_
 writes_same same v None wr = absurd (true≢false (sym wr))
 writes_same same v (Some (action name number pointer after kind tracked)) wr = same v (writes_of kind) ∙ wr
 
-module _ (d : DefTree) (e : Environment) (once : Once (graph_of d)) (all : VariablesAreInOneOrder d)
+module _ (d : DefTree) (m : RowSource) (once : Once (graph_of d)) (all : VariablesAreInOneOrder d)
     (same : (k : List ℕ) (ks : List (List ℕ)) → list_any (bytes_eq k) (ordered ks) ≡ list_any (bytes_eq k) ks) (rows : Table Row)
     (stand : StandAtInstances d rows) where
   is_writing : (v : List ℕ) (y : Address) (row : Row) → (writes_to d v y row ≡ None → ⊥) → is_writer d v y.name ≡ true
@@ -82,9 +84,9 @@ module _ (d : DefTree) (e : Environment) (once : Once (graph_of d)) (all : Varia
   writing : (v : List ℕ) (y : Address) (row : Row) → (writes_to d v y row ≡ None → ⊥) → WritesIt d v y.name
   writing v y row some = writes_same same v (numbered y.name d.top) (is_writing v y row some)
 
-  pub one_order : (v : List ℕ) → OneOrder (graph_of d) (source d e) (writes_to d v) rows
-  one_order v = record {
-    idle = λ y r is. nothing_written (is_writer d v y.name) y (given_by v r) (idle_gives d e v r is);
+  pub one_order : (e : Environment) → AnswersAs d e m → (v : List ℕ) → OneOrder (graph_of d) m (writes_to d v) rows
+  one_order e answers v = record {
+    idle = λ y r is. nothing_written (is_writer d v y.name) y (given_by v r) (idle_gives d e m answers v r is);
     leaves = λ y r some. writer_is_leaf d once v y.name (numbered y.name d.top) refl (is_writing v y r some);
     ordered = λ x y q r of_x of_y one other.
         all.writers v x y (stand x q of_x) (stand y r of_y) (writing v x q one) (writing v y r other);
@@ -95,7 +97,7 @@ module _ (d : DefTree) (e : Environment) (once : Once (graph_of d)) (all : Varia
   own_or_ordered n i kind y (inl own) = inl (subst (λ (z : Address). is_in n kind i z ≡ true) own (own_in n kind i))
   own_or_ordered n i kind y (inr o) = inr o
 
-  pub have_order : AccessesHaveOrder d e rows
+  pub have_order : AccessesHaveOrder d m rows
   have_order v n i kind is of_n (inl reads) = λ y row there some.
       all.readers v n i kind y is of_n (stand y row there) reads (writing v y row some)
   have_order v n i kind is of_n (inr writes') = λ y row there some.

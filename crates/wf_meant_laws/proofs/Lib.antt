@@ -1,9 +1,12 @@
+pub mod AnswerLemmas
 pub mod ListLemmas
 pub mod PointLemmas
 pub mod LastLemmas
 pub mod SeeingLemmas
 pub mod WriterLemmas
 pub mod AccessLemmas
+pub mod GivesLemmas
+pub mod NewLemmas
 pub mod RangeLemmas
 pub mod WholeLemmas
 pub mod ListedLemmas

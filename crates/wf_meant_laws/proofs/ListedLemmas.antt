@@ -23,7 +23,7 @@ use Rattle.wf_meant.specs.Look.{instance}
 use Rattle.wf_meant.specs.Points.{Point, graph_of, point_of_outputs}
 use Rattle.wf_meant.specs.Record.{row_at}
 use Rattle.wf_meant.specs.References.{upto}
-use Rattle.wf_meant.specs.Rows.{iterations_of}
+use Rattle.wf_meant.specs.Rows.{turns_at}
 use Rattle.wf_meant.specs.Variables.{indexes_from, instances_at, seen_by}
 use Rattle.wf_seen_laws.proofs.RoundLemmas.{none_split}
 use Rattle.wf_meant_laws.specs.Listed.{Entry, StandFor, told_as}
@@ -89,31 +89,31 @@ less_behind : (at : List ℕ) (j k : ℕ) (xs ys : List ℕ) → j < k → slice
 less_behind [] j k xs ys lt = less_first j k xs ys lt
 less_behind (a ∷ at) j k xs ys lt = same_first a (at ++ j ∷ xs) (at ++ k ∷ ys) ∙ less_behind at j k xs ys lt
 
-module _ (known : Table Row) where
+module _ (d : DefTree) (known : Table Row) where
   abbrev Begins : List ℕ → List ℕ → Type 0
   Begins at xs = (more : List ℕ) × (xs ≡ at ++ more)
 
-  all_begin : (ls at : List ℕ) → AllByRecursion (Begins at) (indexes_from known ls at [] [])
+  all_begin : (ls at : List ℕ) → AllByRecursion (Begins at) (indexes_from d known ls at [] [])
   all_begin [] at = (([], sym (append_none at)), tt)
   all_begin (l ∷ ls) at =
-      all_flat (Begins at) (λ (k : ℕ). indexes_from known ls (at ++ k ∷ []) [] []) (upto (iterations_of (known (address l at))))
-      (each (upto (iterations_of (known (address l at)))) (λ k. all_begin ls (at ++ k ∷ [])))
+      all_flat (Begins at) (λ (k : ℕ). indexes_from d known ls (at ++ k ∷ []) [] []) (upto (turns_at d known l at))
+      (each (upto (turns_at d known l at)) (λ k. all_begin ls (at ++ k ∷ [])))
     where
       outer : (k : ℕ) (xss : List (List ℕ)) → AllByRecursion (Begins (at ++ k ∷ [])) xss → AllByRecursion (Begins at) xss
       outer k [] all = tt
       outer k (xs ∷ xss) all = ((k ∷ all.0.0, all.0.1 ∙ append_assoc at (k ∷ []) all.0.0), outer k xss all.1)
 
-      each : (ks : List ℕ) → ((k : ℕ) → AllByRecursion (Begins (at ++ k ∷ [])) (indexes_from known ls (at ++ k ∷ []) [] []))
-          → AllByRecursion (λ (k : ℕ). AllByRecursion (Begins at) (indexes_from known ls (at ++ k ∷ []) [] [])) ks
+      each : (ks : List ℕ) → ((k : ℕ) → AllByRecursion (Begins (at ++ k ∷ [])) (indexes_from d known ls (at ++ k ∷ []) [] []))
+          → AllByRecursion (λ (k : ℕ). AllByRecursion (Begins at) (indexes_from d known ls (at ++ k ∷ []) [] [])) ks
       each [] h = tt
-      each (k ∷ ks) h = (outer k (indexes_from known ls (at ++ k ∷ []) [] []) (h k), each ks h)
+      each (k ∷ ks) h = (outer k (indexes_from d known ls (at ++ k ∷ []) [] []) (h k), each ks h)
 
-  indexes_ascend : (ls at : List ℕ) → IsInKeyOrder (slice_cmp nat_cmp) (λ (xs : List ℕ). xs) (indexes_from known ls at [] [])
+  indexes_ascend : (ls at : List ℕ) → IsInKeyOrder (slice_cmp nat_cmp) (λ (xs : List ℕ). xs) (indexes_from d known ls at [] [])
   indexes_ascend [] at = (tt, tt)
   indexes_ascend (l ∷ ls) at =
-      order_upto (slice_cmp nat_cmp) (λ (xs : List ℕ). xs) (λ (k : ℕ). indexes_from known ls (at ++ k ∷ []) [] [])
+      order_upto (slice_cmp nat_cmp) (λ (xs : List ℕ). xs) (λ (k : ℕ). indexes_from d known ls (at ++ k ∷ []) [] [])
       (λ k xs. Begins (at ++ k ∷ []) xs) (λ k. indexes_ascend ls (at ++ k ∷ [])) (λ k. all_begin ls (at ++ k ∷ []))
-      (λ j k xs ys lt one other. below j k xs ys lt one.0 other.0 one.1 other.1) (iterations_of (known (address l at)))
+      (λ j k xs ys lt one other. below j k xs ys lt one.0 other.0 one.1 other.1) (turns_at d known l at)
     where
       below : (j k : ℕ) (xs ys : List ℕ) → j < k → (us vs : List ℕ) → xs ≡ (at ++ j ∷ []) ++ us → ys ≡ (at ++ k ∷ []) ++ vs
           → slice_cmp nat_cmp xs ys ≡ Less
@@ -198,7 +198,7 @@ module _ (d : DefTree) (rows : Table Row) where
       all_given (λ (x : Address). x.name ≡ n) (Own n) (entry_at rows) (instances_at d (point_of_outputs d) rows n)
       (λ x entry name is. let own = own_entry rows x (rows x) entry refl is in (ap (λ (y : Address). y.name) own.at ∙ name, own.there))
       (all_mapped (λ (x : Address). x.name ≡ n) (address n)
-      (indexes_from (seen_by (point_of_outputs d) rows) (loops_of (graph_of d) n) [] [] []) (λ at. refl))
+      (indexes_from d (seen_by (point_of_outputs d) rows) (loops_of (graph_of d) n) [] [] []) (λ at. refl))
 
   all_there : (ns : List ℕ) → AllByRecursion (λ (n : ℕ). AllByRecursion (λ (entry : Entry). rows entry.0 ≡ Some entry.1) (entries_of n)) ns
   all_there [] = tt
@@ -241,8 +241,8 @@ module _ (d : DefTree) (rows : Table Row) where
   entries_ascend : IsInKeyOrder (slice_cmp nat_cmp) (λ (entry : Entry). key entry.0) entries
   entries_ascend =
       order_upto (slice_cmp nat_cmp) (λ (entry : Entry). key entry.0) entries_of Own
-      (λ n. own_ascend n (indexes_from (seen_by (point_of_outputs d) rows) (loops_of (graph_of d) n) [] [] [])
-      (indexes_ascend (seen_by (point_of_outputs d) rows) (loops_of (graph_of d) n) []))
+      (λ n. own_ascend n (indexes_from d (seen_by (point_of_outputs d) rows) (loops_of (graph_of d) n) [] [] [])
+      (indexes_ascend d (seen_by (point_of_outputs d) rows) (loops_of (graph_of d) n) []))
       all_own names_ascend count
 
   -- each row of the table is among them
@@ -259,7 +259,7 @@ module _ (d : DefTree) (rows : Table Row) where
   entry_listed whole below x row there =
       in_flat entries_of (upto count) x.name (x, row) (in_upto count x.name (below x.name (whole.instances x row there).0))
       (in_filter_map (entry_at rows) (instances_at d (point_of_outputs d) rows x.name) x (x, row)
-      (in_map (address x.name) (indexes_from (seen_by (point_of_outputs d) rows) (loops_of (graph_of d) x.name) [] [] []) x.at
+      (in_map (address x.name) (indexes_from d (seen_by (point_of_outputs d) rows) (loops_of (graph_of d) x.name) [] [] []) x.at
       (listed d (point_of_outputs d) (λ y. Unit {0}) all_seen rows x tt (λ l outer at turn of. whole.loops x row there l outer at turn of)
       (full_of d rows whole.instances x row there)))
       (ap (λ (o : Option Row). option_map (λ (r : Row). entry_of x r) o) there))

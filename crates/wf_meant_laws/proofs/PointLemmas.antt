@@ -6,13 +6,14 @@ use Rattle.std.specs.Prelude.{flat_map, if◌then◌else◌}
 use Rattle.wf_layers.specs.Address.{Address, Table, address}
 use Rattle.wf_layers.specs.Listed.{Among}
 use Rattle.wf_layers.proofs.Basics.{two, same_self, when, unless}
+use Rattle.wf_def.specs.AllActions.{numbered}
 use Rattle.wf_def.specs.DefTree.{DefTree}
 use Rattle.wf_loops.specs.Loops.{loops_of}
 use Rattle.wf_record.specs.Record.{Row}
 use Rattle.wf_seen_laws.specs.Laws.{IsInTurnOf}
 use Rattle.wf_meant.specs.Points.{Point, graph_of, sees}
 use Rattle.wf_meant.specs.References.{upto}
-use Rattle.wf_meant.specs.Rows.{iterations_of}
+use Rattle.wf_meant.specs.Rows.{iterations_of, turns_at}
 use Rattle.wf_meant.specs.Variables.{indexes_from, seen_by}
 use Rattle.wf_meant_laws.proofs.ListLemmas.{cancel, in_flat, in_upto}
 
@@ -42,13 +43,12 @@ pub record Seeing (d : DefTree) (p : Point) (Sees : Address → Type 0) : Type 0
   pub apart : (l : ℕ) (outer at : List ℕ) (turn : ℕ) → StandsFrom p l outer at turn → Sees (address l at) → ⊥
 
 module _ (d : DefTree) (p : Point) (Sees : Address → Type 0) (point : Seeing d p Sees) (rows : Table Row) (x : Address) (seen : Sees x)
-    (turns : (l : ℕ) (outer at : List ℕ) (turn : ℕ) → IsInTurnOf (graph_of d) x l outer at turn → turn < iterations_of
-    (rows (address l at))) where
+    (turns : (l : ℕ) (outer at : List ℕ) (turn : ℕ) → IsInTurnOf (graph_of d) x l outer at turn → turn < turns_at d rows l at) where
   abbrev known : Table Row
   known = seen_by p rows
 
   abbrev ListedAt : List ℕ → List ℕ → List ℕ → List ℕ → Type 0
-  ListedAt ls at ms js = Among (indexes_from known ls at ms js) x.at
+  ListedAt ls at ms js = Among (indexes_from d known ls at ms js) x.at
 
   -- the point stands in no iteration of these loops that has these indexes
   abbrev Apart : List ℕ → List ℕ → Type 0
@@ -64,9 +64,9 @@ module _ (d : DefTree) (p : Point) (Sees : Address → Type 0) (point : Seeing d
 
   -- the row of a loop that is seen tells of the iteration
   iterated : (l : ℕ) (outer at : List ℕ) (k : ℕ) → IsInTurnOf (graph_of d) x l outer at k → Sees (address l at)
-      → k < iterations_of (known (address l at))
+      → k < turns_at d known l at
   iterated l outer at k of s =
-      subst (λ (o : Option Row). k < iterations_of o)
+      subst (λ (o : Option Row). k < iterations_of (numbered l d.top) o)
       (sym (when (sees p (address l at)) (rows (address l at)) None (point.told (address l at) s))) (turns l outer at k of)
 
   -- of a loop that is seen, so that the point isn't in it
@@ -97,15 +97,15 @@ module _ (d : DefTree) (p : Point) (Sees : Address → Type 0) (point : Seeing d
         | inl s ↦ s
         | inr stands ↦ absurd (apart (l ∷ stands.inner) (stands.own ∷ stands.behind) stands.loops stands.indexes)
       ] in
-      in_flat (λ (j : ℕ). indexes_from known ls (at ++ j ∷ []) [] []) (upto (iterations_of (known (address l at)))) k x.at
-      (in_upto (iterations_of (known (address l at))) k (iterated l outer at k of s))
+      in_flat (λ (j : ℕ). indexes_from d known ls (at ++ j ∷ []) [] []) (upto (turns_at d known l at)) k x.at
+      (in_upto (turns_at d known l at) k (iterated l outer at k of s))
       (alone ls (outer ++ l ∷ []) (at ++ k ∷ []) ks [] (of_loops ∙ sym (one_more outer l ls)) (of_at ∙ sym (one_more at k ks))
       (longer at outer k l long) (omega (arith, full)) (passed l outer at k long s))
 
   -- a loop in which the point isn't
   beside : (l : ℕ) (ls at ms js : List ℕ)
       → ((m : ℕ) (ms' : List ℕ) (j : ℕ) (js' : List ℕ) → ms ≡ m ∷ ms' → js ≡ j ∷ js' → l ≡ m → ⊥)
-      → Among (flat_map (λ (j : ℕ). indexes_from known ls (at ++ j ∷ []) [] []) (upto (iterations_of (known (address l at))))) x.at
+      → Among (flat_map (λ (j : ℕ). indexes_from d known ls (at ++ j ∷ []) [] []) (upto (turns_at d known l at))) x.at
       → ListedAt (l ∷ ls) at ms js
   beside l ls at [] js other there = there
   beside l ls at (m ∷ ms) [] other there = there
@@ -113,19 +113,19 @@ module _ (d : DefTree) (p : Point) (Sees : Address → Type 0) (point : Seeing d
     | inl t ↦ absurd (other m ms j js refl refl (eqb-true l m t))
     | inr f ↦ subst (λ (ats : List (List ℕ)). Among ats x.at)
         (sym (unless (nat_eq l m)
-        (flat_map (λ (k : ℕ). indexes_from known ls (at ++ k ∷ []) (if nat_eq k j then ms else []) js) (upto (suc j)))
-        (flat_map (λ (k : ℕ). indexes_from known ls (at ++ k ∷ []) [] []) (upto (iterations_of (known (address l at))))) f)) there
+        (flat_map (λ (k : ℕ). indexes_from d known ls (at ++ k ∷ []) (if nat_eq k j then ms else []) js) (upto (suc j)))
+        (flat_map (λ (k : ℕ). indexes_from d known ls (at ++ k ∷ []) [] []) (upto (turns_at d known l at))) f)) there
   ]
 
   -- one in which it is
   within : (l : ℕ) (ls at ms js : List ℕ) (k j : ℕ) → k ≤ j
-      → Among (indexes_from known ls (at ++ k ∷ []) (if nat_eq k j then ms else []) js) x.at → ListedAt (l ∷ ls) at (l ∷ ms) (j ∷ js)
+      → Among (indexes_from d known ls (at ++ k ∷ []) (if nat_eq k j then ms else []) js) x.at → ListedAt (l ∷ ls) at (l ∷ ms) (j ∷ js)
   within l ls at ms js k j le there =
       subst (λ (ats : List (List ℕ)). Among ats x.at)
       (sym (when (nat_eq l l)
-      (flat_map (λ (k : ℕ). indexes_from known ls (at ++ k ∷ []) (if nat_eq k j then ms else []) js) (upto (suc j)))
-      (flat_map (λ (k : ℕ). indexes_from known ls (at ++ k ∷ []) [] []) (upto (iterations_of (known (address l at))))) (same_self l)))
-      (in_flat (λ (k : ℕ). indexes_from known ls (at ++ k ∷ []) (if nat_eq k j then ms else []) js) (upto (suc j)) k x.at
+      (flat_map (λ (k : ℕ). indexes_from d known ls (at ++ k ∷ []) (if nat_eq k j then ms else []) js) (upto (suc j)))
+      (flat_map (λ (k : ℕ). indexes_from d known ls (at ++ k ∷ []) [] []) (upto (turns_at d known l at))) (same_self l)))
+      (in_flat (λ (k : ℕ). indexes_from d known ls (at ++ k ∷ []) (if nat_eq k j then ms else []) js) (upto (suc j)) k x.at
       (in_upto (suc j) k (omega (arith, le))) there)
 
   -- the loops and the indexes are the same so far
@@ -151,8 +151,8 @@ module _ (d : DefTree) (p : Point) (Sees : Address → Type 0) (point : Seeing d
               each_loop = long;
               from = omega arith;
             }) s)
-            (in_flat (λ (j : ℕ). indexes_from known ls (at ++ j ∷ []) [] []) (upto (iterations_of (known (address l at)))) k x.at
-            (in_upto (iterations_of (known (address l at))) k (iterated l outer at k of s))
+            (in_flat (λ (j : ℕ). indexes_from d known ls (at ++ j ∷ []) [] []) (upto (turns_at d known l at)) k x.at
+            (in_upto (turns_at d known l at) k (iterated l outer at k of s))
             (alone ls (outer ++ l ∷ []) (at ++ k ∷ []) ks [] of_loops' of_at' long' full' (passed l outer at k long s)))
         | inr stands ↦
             let of_ms : ms ≡ l ∷ stands.inner = cancel outer ms (l ∷ stands.inner) (sym of_point ∙ stands.loops) in
@@ -177,5 +177,5 @@ module _ (d : DefTree) (p : Point) (Sees : Address → Type 0) (point : Seeing d
 
   -- THE LAW
   pub listed : length x.at ≡ length (loops_of (graph_of d) x.name)
-      → Among (indexes_from known (loops_of (graph_of d) x.name) [] p.loops p.at) x.at
+      → Among (indexes_from d known (loops_of (graph_of d) x.name) [] p.loops p.at) x.at
   listed full = along (loops_of (graph_of d) x.name) [] [] x.at p.loops p.at refl refl refl full refl refl

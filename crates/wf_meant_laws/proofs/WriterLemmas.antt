@@ -15,9 +15,8 @@ use Rattle.wf_def.specs.AllActions.{all_actions, has_number, numbered}
 use Rattle.wf_def.specs.DefTree.{DefTree}
 use Rattle.wf_loops.specs.Loops.{loops_of}
 use Rattle.wf_record.specs.Record.{Row}
-use Rattle.wf_environment.specs.Environment.{Environment}
+use Rattle.wf_meant.specs.Answering.{RowSource}
 use Rattle.wf_meant.specs.Points.{Point, graph_of, sees}
-use Rattle.wf_meant.specs.Source.{source}
 use Rattle.wf_meant.specs.Variables.{Written, given_by, indexes_from, instances_at, last_from, seen_by, variable_at, writes, written_at}
 use Rattle.wf_meant.specs.Variables.{written_before}
 use Rattle.wf_instance.proofs.VariableLemmas.{variable_same}
@@ -81,7 +80,7 @@ cut_there : {A : Type 0} (b : Bool) (o : Option A) (r : A) → cond b o None ≡
 cut_there true o r e = (refl, e)
 cut_there false o r e = absurd (none-some r e)
 
-module _ (d : DefTree) (known : Known d) (e : Environment) (p : Point) (Sees : Address → Type 0) (point : Seeing d p Sees)
+module _ (d : DefTree) (known : Known d) (m : RowSource) (p : Point) (Sees : Address → Type 0) (point : Seeing d p Sees)
     (rows : Table Row)
     (loops : LoopsTell d rows)
     (full : (x : Address) (row : Row) → rows x ≡ Some row → length x.at ≡ length (loops_of (graph_of d) x.name)) (v : List ℕ) where
@@ -115,14 +114,14 @@ module _ (d : DefTree) (known : Known d) (e : Environment) (p : Point) (Sees : A
       (λ a is wr. all_given (λ (x : Address). x.name ≡ action_number a) Told (written_at v (seen_by p rows))
       (instances_at d p rows (action_number a)) (λ x w name at. told_one a is wr x w name at)
       (all_mapped (λ (x : Address). x.name ≡ action_number a) (address (action_number a))
-      (indexes_from (seen_by p rows) (loops_of (graph_of d) (action_number a)) [] p.loops p.at) (λ at. refl)))
+      (indexes_from d (seen_by p rows) (loops_of (graph_of d) (action_number a)) [] p.loops p.at) (λ at. refl)))
       known.found)
 
   -- each writer that is seen is listed
   in_instances : (x : Address) → Sees x → (row : Row) → rows x ≡ Some row → (n : ℕ) → x.name ≡ n → Among (instances_at d p rows n) x
   in_instances x seen row there n name =
       subst (λ (m : ℕ). Among (instances_at d p rows m) x) name
-      (in_map (address x.name) (indexes_from (seen_by p rows) (loops_of (graph_of d) x.name) [] p.loops p.at) x.at
+      (in_map (address x.name) (indexes_from d (seen_by p rows) (loops_of (graph_of d) x.name) [] p.loops p.at) x.at
       (listed d p Sees point rows x seen (λ l outer at turn of. loops x row there l outer at turn of) (full x row there)))
 
   writer_listed : (x : Address) (row : Row) (value : ValueTree) → Sees x → rows x ≡ Some row → given_by v row ≡ Some value
@@ -142,7 +141,7 @@ module _ (d : DefTree) (known : Known d) (e : Environment) (p : Point) (Sees : A
       ∙ ap (λ (o : Option ValueTree). option_map (written_of x) o) gives))
 
   abbrev wrote : Address → Option Row → Option Address
-  wrote y o = write_at (graph_of d) (source d e) (writes_to d v) y o
+  wrote y o = write_at (graph_of d) m (writes_to d v) y o
 
   told_wrote : (w : Written) → Told w → wrote w.at (rows w.at) ≡ Some w.at
   told_wrote w t =
@@ -178,7 +177,7 @@ module _ (d : DefTree) (known : Known d) (e : Environment) (p : Point) (Sees : A
     | inr f ↦ absurd (some (sym (sym (unless (is_writer d v y.name) (option_map (λ (value : ValueTree). y) (given_by v row)) None f) ∙ e)))
   ]
 
-  last_of_rows : (writer : Option Address) → IsLastSeen (graph_of d) (source d e) (writes_to d v) rows Sees writer
+  last_of_rows : (writer : Option Address) → IsLastSeen (graph_of d) m (writes_to d v) rows Sees writer
       → variable_at d p rows v ≡ value_at v rows writer
   last_of_rows writer (inl none) =
       ap (λ (ws : List Written). option_map (λ (w : Written). w.value) (last_from d None ws))
@@ -204,13 +203,13 @@ module _ (d : DefTree) (known : Known d) (e : Environment) (p : Point) (Sees : A
           ((last w.at all.0.seen (λ no. none-some w.at (sym no ∙ told_wrote w all.0)), all.0), near y last ws all.1)
 
   -- whatever is known beside what is seen
-  pub last_is_read : (writer : Option Address) → IsLastSeen (graph_of d) (source d e) (writes_to d v) rows Sees writer
+  pub last_is_read : (writer : Option Address) → IsLastSeen (graph_of d) m (writes_to d v) rows Sees writer
       → (others : Table Row) → ((y : Address) → Sees y → others y ≡ rows y) → variable_at d p others v ≡ value_at v others writer
   last_is_read writer last others agree =
       variable_same d p others rows (λ x s. agree x (point.only x s)) v
       ∙ (last_of_rows writer last ∙ value_same writer last)
     where
-      value_same : (writer : Option Address) → IsLastSeen (graph_of d) (source d e) (writes_to d v) rows Sees writer
+      value_same : (writer : Option Address) → IsLastSeen (graph_of d) m (writes_to d v) rows Sees writer
           → value_at v rows writer ≡ value_at v others writer
       value_same writer (inl none) =
           ap (λ (o : Option Address). value_at v rows o) none.0 ∙ ap (λ (o : Option Address). value_at v others o) (sym none.0)

@@ -8,17 +8,16 @@ use Rattle.wf_def.specs.DefTree.{DefTree}
 use Rattle.wf_order.specs.Turns.{IsInstance}
 use Rattle.wf_accepted_laws.specs.Variables.{ReadsIt, WritesIt}
 use Rattle.wf_record.specs.Record.{Row}
-use Rattle.wf_environment.specs.Environment.{Environment}
+use Rattle.wf_meant.specs.Answering.{RowSource}
 use Rattle.wf_meant.specs.Points.{Point, graph_of, point_of, point_of_test}
-use Rattle.wf_meant.specs.Source.{source}
 use Rattle.wf_meant.specs.Variables.{variable_at}
 use Rattle.wf_meant_laws.specs.Writers.{value_at, writes_to}
 
-module _ (d : DefTree) (e : Environment) (rows : Table Row) where
+module _ (d : DefTree) (m : RowSource) (rows : Table Row) where
   -- at a point that sees these addresses, whatever is known beside their rows
   abbrev pub LastIsRead : Point → (Address → Type 0) → Type 0
   LastIsRead p Sees =
-      (v : List ℕ) (writer : Option Address) → IsLastSeen (graph_of d) (source d e) (writes_to d v) rows Sees writer
+      (v : List ℕ) (writer : Option Address) → IsLastSeen (graph_of d) m (writes_to d v) rows Sees writer
       → (known : Table Row) → ((y : Address) → Sees y → known y ≡ rows y) → variable_at d p known v ≡ value_at v known writer
 
   -- as a leaf starts, while it runs, and as a container opens
@@ -36,4 +35,4 @@ module _ (d : DefTree) (e : Environment) (rows : Table Row) where
   abbrev pub AccessesHaveOrder : Type 0
   AccessesHaveOrder =
       (v : List ℕ) (n : ℕ) (i : List ℕ) (kind : Kind) → kind_of (graph_of d) n ≡ Some kind → IsInstance (graph_of d) (address n i)
-      → ReadsIt d v n ⊎ WritesIt d v n → WritersHaveOrder (graph_of d) (source d e) (writes_to d v) rows n kind i
+      → ReadsIt d v n ⊎ WritesIt d v n → WritersHaveOrder (graph_of d) m (writes_to d v) rows n kind i

@@ -3,3 +3,4 @@ pub mod Tables
 pub mod Last
 pub mod Listed
 pub mod Store
+pub mod Answered

@@ -1,12 +1,12 @@
 -- What is known of the rows of a run, whether they are those of a meaning or of a record that was resubmitted.
 use Rattle.std.specs.Prelude.{◌≡◌, ◌<◌, ℕ, List, Some}
-use Rattle.wf_layers.specs.Address.{Address, Table, address}
+use Rattle.wf_layers.specs.Address.{Address, Table}
 use Rattle.wf_def.specs.DefTree.{DefTree}
 use Rattle.wf_order.specs.Turns.{IsInstance}
 use Rattle.wf_record.specs.Record.{Row}
 use Rattle.wf_seen_laws.specs.Laws.{IsInTurnOf}
 use Rattle.wf_meant.specs.Points.{graph_of}
-use Rattle.wf_meant.specs.Rows.{iterations_of}
+use Rattle.wf_meant.specs.Rows.{turns_at}
 
 -- each row stands at an instance
 abbrev pub StandAtInstances : DefTree → Table Row → Type 0
@@ -16,7 +16,7 @@ StandAtInstances d rows = (x : Address) (row : Row) → rows x ≡ Some row → 
 abbrev pub LoopsTell : DefTree → Table Row → Type 0
 LoopsTell d rows =
     (x : Address) (row : Row) → rows x ≡ Some row → (l : ℕ) (outer at : List ℕ) (turn : ℕ)
-    → IsInTurnOf (graph_of d) x l outer at turn → turn < iterations_of (rows (address l at))
+    → IsInTurnOf (graph_of d) x l outer at turn → turn < turns_at d rows l at
 
 pub record AreWhole (d : DefTree) (rows : Table Row) : Type 0 where
   pub instances : StandAtInstances d rows

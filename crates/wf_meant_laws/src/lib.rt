@@ -13,17 +13,21 @@
 //! It has no code: each public function has an empty body but for the laws that it calls, and its contract is a law.
 #![tactic(auto)]
 
-ghost use Rattle.std.specs.Prelude.{◌≡◌, ℕ, List, None};
+ghost use Rattle.std.specs.Prelude.{◌≡◌, ℕ, Bool, List, None};
 ghost use Rattle.wf_layers.specs.Address.{Table};
+ghost use Rattle.wf_layers.specs.Rule.{Obeys};
 ghost use Rattle.wf_layers.specs.Variables.{OneOrder};
+ghost use Rattle.wf_seen_laws.specs.Laws.{IsKept};
 ghost use Rattle.wf_def.specs.DefTree.{DefTree};
 ghost use Rattle.wf_reading.specs.Read.{IsRead};
 ghost use Rattle.wf_record.specs.Record.{Row};
 ghost use Rattle.wf_rules.specs.Broken.{broken_of};
 ghost use Rattle.wf_environment.specs.Environment.{Environment};
+ghost use Rattle.wf_meant.specs.Answering.{AnswersAs, RowSource};
 ghost use Rattle.wf_meant.specs.Points.{graph_of};
 ghost use Rattle.wf_meant.specs.Record.{depth_of};
-ghost use Rattle.wf_meant.specs.Source.{source, table_of};
+ghost use Rattle.wf_meant.specs.Source.{table_of};
+ghost use Rattle.wf_meant_laws.specs.Answered.{NewGiveWhatTheyWrite};
 ghost use Rattle.wf_meant_laws.specs.Last.{AccessesHaveOrder, LastIsReadAtInstances, LastIsReadAtTests};
 ghost use Rattle.wf_meant_laws.specs.Listed.{StandFor};
 ghost use Rattle.wf_meant_laws.specs.Store.{StoresTell};
@@ -37,16 +41,15 @@ pub fn meant_rows_are_whole()
     wf_instance::a_definition_is_an_instance();
     wf_known_laws::numbers_stand_once();
     wf_known_laws::numbers_are_had();
-    wf_known_laws::numbers_have_their_ranges();
 }
 
 /// Writers of a variable are in one order with each other, and each is in what reads or writes the variable, in one order with it, or
 /// excludes it: the premises of the laws of a store that keeps the last writer's address.
 pub fn writers_are_in_one_order()
-    ensures writers { (d : DefTree) → IsRead d → broken_of d ≡ None → (e : Environment) (rows : Table Row) → StandAtInstances d rows
-        → (v : List ℕ) → OneOrder (graph_of d) (source d e) (writes_to d v) rows }
-    ensures readers { (d : DefTree) → IsRead d → broken_of d ≡ None → (e : Environment) (rows : Table Row) → StandAtInstances d rows
-        → AccessesHaveOrder d e rows }
+    ensures writers { (d : DefTree) → IsRead d → broken_of d ≡ None → (e : Environment) (m : RowSource) → AnswersAs d e m
+        → (rows : Table Row) → StandAtInstances d rows → (v : List ℕ) → OneOrder (graph_of d) m (writes_to d v) rows }
+    ensures readers { (d : DefTree) → IsRead d → broken_of d ≡ None → (m : RowSource) (rows : Table Row) → StandAtInstances d rows
+        → AccessesHaveOrder d m rows }
 {
     wf_accepted_laws::variables_are_in_one_order();
     wf_known_laws::numbers_stand_once();
@@ -55,10 +58,10 @@ pub fn writers_are_in_one_order()
 
 /// The value of a variable at a point is what the last writer that the point sees gave it, or none where it sees no writer.
 pub fn the_last_writer_is_read()
-    ensures at_instances { (d : DefTree) → IsRead d → broken_of d ≡ None → (e : Environment) (rows : Table Row) → AreWhole d rows
-        → LastIsReadAtInstances d e rows }
-    ensures at_tests { (d : DefTree) → IsRead d → broken_of d ≡ None → (e : Environment) (rows : Table Row) → AreWhole d rows
-        → LastIsReadAtTests d e rows }
+    ensures at_instances { (d : DefTree) → IsRead d → broken_of d ≡ None → (m : RowSource) (rows : Table Row) → AreWhole d rows
+        → LastIsReadAtInstances d m rows }
+    ensures at_tests { (d : DefTree) → IsRead d → broken_of d ≡ None → (m : RowSource) (rows : Table Row) → AreWhole d rows
+        → LastIsReadAtTests d m rows }
 {
     wf_seen_laws::what_is_seen_is_earlier();
     wf_seen_laws::loops_round_what_is_seen_are_seen();
@@ -91,4 +94,14 @@ pub fn a_store_of_last_writers_tells_variables()
     meant_rows_are_whole();
     writers_are_in_one_order();
     the_last_writer_is_read();
+}
+
+/// Whatever rows a source keeps of an older run, of those that it doesn't keep an action that Succeeded gave each variable that it writes.
+pub fn new_rows_give_what_they_write()
+    ensures { (d : DefTree) → IsRead d → (e : Environment) (m : RowSource) → AnswersAs d e m → (redo again : ℕ → Bool)
+        → IsKept (graph_of d) m redo again → (rows : Table Row) → Obeys m (graph_of d) rows → NewGiveWhatTheyWrite d redo again rows }
+{
+    wf_known_laws::numbers_stand_once();
+    wf_variables::what_is_initialized_is_given();
+    wf_variables::what_is_given_is_found();
 }

@@ -1,6 +1,6 @@
 //! Why a run can't be resubmitted.
 use std::alloc::AllocError;
-use wf_val::{Digest, Name};
+use wf_val::{Address, Digest, Name};
 
 /// Why a run can't be resubmitted from the actions that are named.
 #[derive(Drop)]
@@ -13,6 +13,8 @@ pub enum ResubmitFault {
     NotRun { name: Name },
     /// The record is of the definition with the digest `kept`, and not of the one that is given.
     OtherDefinition { kept: Digest, given: Digest },
+    /// The record hasn't the right shape for the definition; the least address at which it fails. `chosen` doesn't ask for it.
+    Shape { address: Address },
     /// Memory ran out.
     Memory,
 }

@@ -5,7 +5,8 @@
 //! the record is of another definition (`specs/Refused`). Each question is asked of all names before the next, and the answer names the
 //! least of them in byte order.
 //!
-//! It doesn't ask whether the rows of the record stand where a run leaves some.
+//! It doesn't ask whether the rows of the record stand where a run leaves some: that fault is told by a crate above this one
+//! (`wf_prepare`).
 #![tactic(auto)]
 
 mod asked;

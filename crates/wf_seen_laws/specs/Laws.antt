@@ -1,9 +1,10 @@
 -- What the loops round an instance are to who sees it.
-use Rattle.std.specs.Prelude.{◌≡◌, ◌<◌, ◌≤◌, ℕ, List, ◌∷◌, ◌++◌, length, Some, None}
+use Rattle.std.specs.Prelude.{◌≡◌, ◌<◌, ◌≤◌, ℕ, Bool, List, ◌∷◌, ◌++◌, length, Some, None}
 use Rattle.wf_layers.specs.Address.{Address, Table, address}
 use Rattle.wf_layers.specs.Called.{iterations}
 use Rattle.wf_layers.specs.Definition.{Graph, Kind, Foreach, Until, kind_of}
 use Rattle.wf_layers.specs.Meaning.{last}
+use Rattle.wf_layers.specs.Resubmission.{Split, kept}
 use Rattle.wf_layers.specs.Source.{Source}
 use Rattle.wf_loops.specs.Loops.{loops_of}
 
@@ -37,3 +38,9 @@ pub record HadTurn {Row Begun Decision Verdict : Type 0} (g : Graph) (m : Source
   pub kind : Kind
   pub is : kind_of g l ≡ Some kind
   pub had : HadMore m f kind (address l at) turn
+
+-- the source keeps the rows of what is neither redone nor closed again, in this division of the graph
+pub record IsKept {Row Begun Decision Verdict : Type 0} (g : Graph) (m : Source Row Begun Decision Verdict) (redo again : ℕ → Bool)
+    : Type 0 where
+  pub split : Split redo again g
+  pub pinned : (n : ℕ) → m.pinned n ≡ kept redo again n

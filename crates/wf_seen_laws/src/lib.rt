@@ -9,16 +9,18 @@
 //! It has no code: each public function has an empty body but for the laws that it calls, and its contract is a law.
 #![tactic(auto)]
 
-ghost use Rattle.std.specs.Prelude.{◌≡◌, ◌⊎◌, ℕ, Bool, List, Some, true};
+ghost use Rattle.std.specs.Prelude.{◌≡◌, ◌⊎◌, ℕ, Bool, List, Some, false, length, true};
 ghost use Rattle.wf_layers.specs.Address.{Address, SeenIn, Table, address};
-ghost use Rattle.wf_layers.specs.Definition.{Closed, Graph, IsDepth};
+ghost use Rattle.wf_layers.specs.Definition.{Closed, Graph, IsDepth, Leaf, has, kind_of};
+ghost use Rattle.wf_layers.specs.Instances.{loop_count};
 ghost use Rattle.wf_layers.specs.Laws.{IsFresh};
+ghost use Rattle.wf_layers.specs.Resubmission.{kept};
 ghost use Rattle.wf_layers.specs.Rule.{Obeys};
 ghost use Rattle.wf_layers.specs.Seen.{Once};
-ghost use Rattle.wf_layers.specs.Source.{Source};
+ghost use Rattle.wf_layers.specs.Source.{Source, leaf};
 ghost use Rattle.wf_order.specs.Order.{Before, IsBelow};
 ghost use Rattle.wf_loops.specs.Loops.{is_earlier, paces_round};
-ghost use Rattle.wf_seen_laws.specs.Laws.{HadTurn, IsInTurnFrom, IsInTurnOf};
+ghost use Rattle.wf_seen_laws.specs.Laws.{HadTurn, IsInTurnFrom, IsInTurnOf, IsKept};
 
 use wf_order::{before_is_an_order, order_is_exact, what_stands_inside_goes_along};
 
@@ -59,4 +61,25 @@ pub fn rows_in_loops_had_their_turn<Row, Begun, Decision, Verdict>()
     ensures { (g : Graph) (m : Source Row Begun Decision Verdict) (f : Table Row) → Once g → IsFresh m → Obeys m g f → (x : Address)
         (r : Row)
         → f x ≡ Some r → (l : ℕ) (outer at : List ℕ) (turn : ℕ) → IsInTurnOf g x l outer at turn → HadTurn g m f l at turn }
+{}
+
+/// Where a source keeps rows of an older table, so do the rows that it doesn't keep.
+pub fn new_rows_in_loops_had_their_turn<Row, Begun, Decision, Verdict>()
+    ensures { (g : Graph) (m : Source Row Begun Decision Verdict) (redo again : ℕ → Bool) (f : Table Row) → Once g
+        → IsKept g m redo again → Obeys m g f → (x : Address) (r : Row) → f x ≡ Some r → kept redo again x.name ≡ false
+        → (l : ℕ) (outer at : List ℕ) (turn : ℕ) → IsInTurnOf g x l outer at turn → HadTurn g m f l at turn }
+{}
+
+/// Each such row of the definition stands at an instance: its address has one index for every loop round its action.
+pub fn new_rows_stand_at_instances<Row, Begun, Decision, Verdict>()
+    ensures { (g : Graph) (m : Source Row Begun Decision Verdict) (redo again : ℕ → Bool) (f : Table Row) → Once g
+        → IsKept g m redo again → Obeys m g f → (x : Address) (r : Row) → f x ≡ Some r → kept redo again x.name ≡ false
+        → has g x.name ≡ true → loop_count g x.name ≡ length x.at }
+{}
+
+/// And that of a leaf is the one with which it ended, or a Skipped one.
+pub fn new_rows_are_those_of_their_leaves<Row, Begun, Decision, Verdict>()
+    ensures { (g : Graph) (m : Source Row Begun Decision Verdict) (redo again : ℕ → Bool) (f : Table Row) → IsKept g m redo again
+        → Obeys m g f → (x : Address) (r : Row) → f x ≡ Some r → kept redo again x.name ≡ false → kind_of g x.name ≡ Some Leaf
+        → (r ≡ m.skipped) ⊎ (r ≡ leaf m x f) }
 {}

@@ -1,7 +1,7 @@
-mod ListLemmas
-mod LeastLemmas
+pub mod ListLemmas
+pub mod LeastLemmas
 mod MissingLemmas
-mod HeldLemmas
-mod ExactLemmas
-mod KnownLemmas
+pub mod HeldLemmas
+pub mod ExactLemmas
+pub mod KnownLemmas
 mod WorkedShape

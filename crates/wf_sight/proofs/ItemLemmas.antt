@@ -3,13 +3,11 @@ use Rattle.std.proofs.Common.{◌≡◌, ℕ, List, [], ◌∷◌, ◌++◌, len
 use Rattle.std.proofs.Common.{length-append}
 use Rattle.std.specs.Prelude.{slice_get}
 use Rattle.wf_val.specs.ValueTree.{ValueTree}
-use Rattle.wf_layers.specs.Address.{Address, Table, address}
-use Rattle.wf_layers.specs.Machine.{Opening}
+use Rattle.wf_layers.specs.Address.{Table, address}
 use Rattle.wf_layers.specs.Seen.{Once}
 use Rattle.wf_def.specs.DefTree.{DefTree}
 use Rattle.wf_record.specs.Record.{Row}
 use Rattle.wf_opening.specs.Decisions.{DecisionTree, nothing, held, chosen, each, too_many, faulty}
-use Rattle.wf_opening.specs.Verdicts.{VerdictTree}
 use Rattle.wf_environment.specs.Environment.{Environment}
 use Rattle.wf_loops.specs.Loops.{loops_of}
 use Rattle.wf_loops.proofs.RoundLemmas.{split_of}
@@ -17,7 +15,7 @@ use Rattle.wf_meant.specs.Look.{Item, decided_within, item_as, item_in, items_fr
 use Rattle.wf_meant.specs.Points.{graph_of}
 use Rattle.wf_meant.specs.Source.{source}
 use Rattle.wf_sight.specs.Sight.{Opens, item_held, item_open, items_open, named_item}
-use Rattle.wf_sight.proofs.OpenLemmas.{AreOpen}
+use Rattle.wf_sight.proofs.OpenLemmas.{AreOpen, IsOpenLoop}
 
 named_as : (d : DefTree) (e : Environment) (k : List ℕ) (o : Option ValueTree) → named_item k o ≡ item_as d e k o
 named_as d e k None = refl
@@ -51,15 +49,16 @@ module _ (d : DefTree) (e : Environment) (known : Table Row) where
       (decided_within d e (address l i) (items_from d e ls js (at ++ k ∷ []) more known) known)) (append_assoc at (k ∷ []) js)
 
   module _ (once : Once (graph_of d)) (opens : Opens)
-      (decided : (x : Address) (w : Opening DecisionTree VerdictTree) → opens x ≡ Some w → w.decision ≡ (source d e).decide x known) where
-    open_item : (k : List ℕ) (j : ℕ) (x : Address) (w : Opening DecisionTree VerdictTree) → opens x ≡ Some w
-        → item_open k j (opens x) ≡ item_in d e k j ((source d e).decide x known)
-    open_item k j x w is =
-        ap (item_open k j) is ∙ (held_as d e k j w.decision ∙ ap (item_in d e k j) (decided x w is))
+      (decided : (l : ℕ) (at : List ℕ) (h : IsOpenLoop (graph_of d) opens l at)
+      → h.opening.decision ≡ (source d e).decide (address l at) known) where
+    open_item : (k : List ℕ) (j : ℕ) (l : ℕ) (at : List ℕ) → IsOpenLoop (graph_of d) opens l at
+        → item_open k j (opens (address l at)) ≡ item_in d e k j ((source d e).decide (address l at) known)
+    open_item k j l at h =
+        ap (item_open k j) h.stands ∙ (held_as d e k j h.opening.decision ∙ ap (item_in d e k j) (decided l at h))
 
     -- of the loops round x behind the first ones
     items_behind : (x : ℕ) (ps is ls js : List ℕ) → loops_of (graph_of d) x ≡ ps ++ ls → length is ≡ length ps
-        → AreOpen opens ls js is
+        → AreOpen (graph_of d) opens ls js is
         → from ps is ++ items_open d opens ls js is ≡ items_from d e ls js is (from ps is) known
     items_behind x ps is [] js of same are = append-nil (from ps is)
     items_behind x ps is (l ∷ ls) [] of same are = append-nil (from ps is)
@@ -67,7 +66,7 @@ module _ (d : DefTree) (e : Environment) (known : Table Row) where
         let h = split_of (graph_of d) once x ps l ls of in
         let item = item_in d e (name_of d l) j (decided_within d e (address l is) (from ps is) known) in
         let there : item_open (name_of d l) j (opens (address l is)) ≡ item =
-        open_item (name_of d l) j (address l is) are.0.0 are.0.1
+        open_item (name_of d l) j l is are.0
         ∙ ap (λ (qs : List ℕ). item_in d e (name_of d l) j (decided_within d e (address l is) (from qs is) known)) h.outer in
         let more : from (ps ++ l ∷ []) (is ++ j ∷ []) ≡ from ps is ++ item = last_of_all ps is [] [] l j same in
         ap (λ (i : List Item). from ps is ++ (i ++ items_open d opens ls js (is ++ j ∷ []))) there
@@ -78,7 +77,7 @@ module _ (d : DefTree) (e : Environment) (known : Table Row) where
         ∙ ap (λ (found : List Item). items_from d e ls js (is ++ j ∷ []) found known) more)))
 
     -- so of all
-    pub items_same : (x : ℕ) (js : List ℕ) → AreOpen opens (loops_of (graph_of d) x) js []
+    pub items_same : (x : ℕ) (js : List ℕ) → AreOpen (graph_of d) opens (loops_of (graph_of d) x) js []
         → items_open d opens (loops_of (graph_of d) x) js [] ≡ items_from d e (loops_of (graph_of d) x) js [] [] known
     items_same x js are = items_behind x [] [] (loops_of (graph_of d) x) js refl refl are
 
@@ -99,13 +98,13 @@ module _ (d : DefTree) (e : Environment) (known : Table Row) where
         (append_assoc at (k ∷ []) js))
 
     -- and in an iteration of x itself, where x is open
-    pub items_inside : (x : ℕ) (js : List ℕ) (j : ℕ) (w : Opening DecisionTree VerdictTree) → length js ≡ length (loops_of (graph_of d) x)
-        → AreOpen opens (loops_of (graph_of d) x) js [] → opens (address x js) ≡ Some w
+    pub items_inside : (x : ℕ) (js : List ℕ) (j : ℕ) → length js ≡ length (loops_of (graph_of d) x)
+        → AreOpen (graph_of d) opens (loops_of (graph_of d) x) js [] → IsOpenLoop (graph_of d) opens x js
         → items_open d opens (loops_of (graph_of d) x ++ x ∷ []) (js ++ j ∷ []) []
         ≡ items_from d e (loops_of (graph_of d) x ++ x ∷ []) (js ++ j ∷ []) [] [] known
-    items_inside x js j w full are is =
+    items_inside x js j full are is =
         let ls = loops_of (graph_of d) x in
         items_open_last ls js [] x j full
         ∙ (ap (λ (found : List Item). found ++ item_open (name_of d x) j (opens (address x js))) (items_same x js are)
-        ∙ (ap (λ (found : List Item). from ls js ++ found) (open_item (name_of d x) j (address x js) w is)
+        ∙ (ap (λ (found : List Item). from ls js ++ found) (open_item (name_of d x) j x js is)
         ∙ sym (last_of_all ls js [] [] x j full)))

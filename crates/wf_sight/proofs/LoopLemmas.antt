@@ -1,5 +1,5 @@
 -- Which loops are round two actions, and which of them a reference leaves, by the lists of the loops round each.
-use Rattle.std.proofs.Common.{◌≡◌, ℕ, suc, Bool, true, false, ◌&&◌, ◌||◌, cond, List, [], ◌∷◌, drop, length, ◌⊎◌, inl, inr, refl, sym, ap}
+use Rattle.std.proofs.Common.{◌≡◌, ℕ, suc, Bool, true, false, ◌&&◌, ◌||◌, cond, List, [], ◌∷◌, drop, length, inl, inr, refl, sym, ap}
 use Rattle.std.proofs.Common.{ap₂, ◌∙◌, subst}
 use Rattle.std.proofs.Common.{true≢false, nat_eq, eqb-true}
 use Rattle.wf_layers.specs.Definition.{Pace, Kind, Leaf, Scope, Choice, Foreach, Until, Branches, no_branch, branch, Graph, done, add}

@@ -1,5 +1,5 @@
 -- In an open graph the loops round each action are open, each at its own indexes.
-use Rattle.std.proofs.Common.{◌≡◌, ℕ, suc, true, false, ◌||◌, List, [], ◌∷◌, ◌++◌, length, Option, Some, ◌⊎◌, inl, inr, refl, sym, ap}
+use Rattle.std.proofs.Common.{◌≡◌, ℕ, suc, true, false, ◌||◌, List, [], ◌∷◌, ◌++◌, length, Some, inl, inr, refl, sym, ap}
 use Rattle.std.proofs.Common.{◌∙◌, subst, arith, append_assoc, append-nil, true≢false}
 use Rattle.std.proofs.Common.{cond, nat_eq, eqb-true}
 use Rattle.wf_layers.specs.Address.{Table, address}
@@ -10,6 +10,7 @@ use Rattle.wf_layers.specs.Seen.{Once, OnceIn, OnceAny}
 use Rattle.wf_layers.proofs.Basics.{two, or_first, or_second, when, unless, same_self}
 use Rattle.wf_loops.specs.Loops.{loops_any, loops_in, loops_of}
 use Rattle.wf_loops.proofs.RoundLemmas.{loops_none}
+use Rattle.wf_meant.specs.Answering.{IsLoop}
 
 -- ---- what stands in a graph
 
@@ -147,23 +148,29 @@ branch_kind (branch a rest) c b x once e h = elim (two (is_one c)) [
 
 -- ---- the loops round an open graph
 
-module _ {Decision Verdict : Type 0} (o : Table (Opening Decision Verdict)) where
+module _ {Decision Verdict : Type 0} (d : Graph) (o : Table (Opening Decision Verdict)) where
+  -- the action l is a loop, and it is open at these indexes
+  pub record IsOpenLoop (l : ℕ) (at : List ℕ) : Type 0 where
+    pub kind : Kind
+    pub is : kind_of d l ≡ Some kind
+    pub loop : IsLoop kind
+    pub opening : Opening Decision Verdict
+    pub stands : o (address l at) ≡ Some opening
+
   -- of these loops at these indexes each is open, where `at` are the indexes before
   abbrev pub AreOpen : List ℕ → List ℕ → (at : List ℕ) → Type 0
   AreOpen [] js at = Unit {0}
   AreOpen (l ∷ ls) [] at = Unit {0}
-  AreOpen (l ∷ ls) (j ∷ js) at = ((w : Opening Decision Verdict) × (o (address l at) ≡ Some w)) × AreOpen ls js (at ++ j ∷ [])
+  AreOpen (l ∷ ls) (j ∷ js) at = IsOpenLoop l at × AreOpen ls js (at ++ j ∷ [])
 
-  pub open_last : (ls js at : List ℕ) (n j : ℕ) (w : Opening Decision Verdict) → length js ≡ length ls → AreOpen ls js at
-      → o (address n (at ++ js)) ≡ Some w → AreOpen (ls ++ n ∷ []) (js ++ j ∷ []) at
-  open_last [] [] at n j w same are is =
-      ((w, ap (λ (i : List ℕ). o (address n i)) (sym (append-nil at)) ∙ is), tt)
-  open_last [] (k ∷ js) at n j w same are is = absurd (omega (arith, same))
-  open_last (l ∷ ls) [] at n j w same are is = absurd (omega (arith, same))
-  open_last (l ∷ ls) (k ∷ js) at n j w same are is = (
+  pub open_last : (ls js at : List ℕ) (n j : ℕ) → length js ≡ length ls → AreOpen ls js at → IsOpenLoop n (at ++ js)
+      → AreOpen (ls ++ n ∷ []) (js ++ j ∷ []) at
+  open_last [] [] at n j same are is = (subst (IsOpenLoop n) (append-nil at) is, tt)
+  open_last [] (k ∷ js) at n j same are is = absurd (omega (arith, same))
+  open_last (l ∷ ls) [] at n j same are is = absurd (omega (arith, same))
+  open_last (l ∷ ls) (k ∷ js) at n j same are is = (
     are.0,
-    open_last ls js (at ++ k ∷ []) n j w (omega (arith, same)) are.1
-        (ap (λ (i : List ℕ). o (address n i)) (append_assoc at (k ∷ []) js) ∙ is),
+    open_last ls js (at ++ k ∷ []) n j (omega (arith, same)) are.1 (subst (IsOpenLoop n) (sym (append_assoc at (k ∷ []) js)) is),
   )
 
 more : (i ls : List ℕ) (n j : ℕ) → length i ≡ length ls → length (i ++ j ∷ []) ≡ length (ls ++ n ∷ [])
@@ -180,18 +187,28 @@ module _ {Decision Verdict : Type 0} (taken : Decision → ℕ) (d : Graph) (onc
     pub full : length i ≡ length loops
     pub each : (x : ℕ) → has g x ≡ true → loops_of d x ≡ loops ++ loops_of g x
     pub kinds : (x : ℕ) → has g x ≡ true → kind_of d x ≡ kind_of g x
-    pub opened : AreOpen o loops i []
+    pub opened : AreOpen d o loops i []
 
-  inside : (g h : Graph) (i : List ℕ) (n j : ℕ) (w : Opening Decision Verdict) → IsRoundOpen g i → o (address n i) ≡ Some w → Once h
+  inside : (g h : Graph) (i : List ℕ) (n j : ℕ) → IsRoundOpen g i → IsOpenLoop d o n i → Once h
       → ((x : ℕ) → has h x ≡ true → (has g x ≡ true) × (loops_of g x ≡ n ∷ loops_of h x)
       × (kind_of g x ≡ kind_of h x)) → IsRoundOpen h (i ++ j ∷ [])
-  inside g h i n j w r at_n own held = record {
+  inside g h i n j r at_n own held = record {
     own_once = own;
     loops = r.loops ++ n ∷ [];
     full = more i r.loops n j r.full;
     each = λ x hx. r.each x (held x hx).0 ∙ (ap (λ (ls : List ℕ). r.loops ++ ls) (held x hx).1 ∙ sym (append_assoc r.loops (n ∷ []) (loops_of h x)));
     kinds = λ x hx. r.kinds x (held x hx).0 ∙ (held x hx).2;
-    opened = open_last o r.loops i [] n j w r.full r.opened at_n;
+    opened = open_last d o r.loops i [] n j r.full r.opened at_n;
+  }
+
+  open_loop : (g : Graph) (i : List ℕ) (n : ℕ) (after : List Need) (kind : Kind) (w : Opening Decision Verdict) → IsRoundOpen g i
+      → In g n after kind → IsLoop kind → o (address n i) ≡ Some w → IsOpenLoop d o n i
+  open_loop g i n after kind w r st loop at_n = record {
+    kind = kind;
+    is = r.kinds n (in_has g n after kind st) ∙ own_kind g n after kind r.own_once st;
+    loop = loop;
+    opening = w;
+    stands = at_n;
   }
 
   pub round_open : (g : Graph) (i : List ℕ) → IsOpen taken d o g i → IsRoundOpen g i
@@ -225,7 +242,7 @@ module _ {Decision Verdict : Type 0} (taken : Decision → ℕ) (d : Graph) (onc
       }
   round_open _ _ (turn {g = g} {h = h} {i = i} {n = n} {after = after} {pace = pace} {w = w} j og st e lt) =
       let r = round_open g i og in
-      inside g h i n j w r e (in_once g n after (Foreach pace h) r.own_once st)
+      inside g h i n j r (open_loop g i n after (Foreach pace h) w r st tt e) (in_once g n after (Foreach pace h) r.own_once st)
       (λ x hx. (
         held_has g n after (Foreach pace h) x st hx,
         inner_loops g n after (Foreach pace h) x r.own_once st hx,
@@ -233,7 +250,7 @@ module _ {Decision Verdict : Type 0} (taken : Decision → ℕ) (d : Graph) (onc
       ))
   round_open _ _ (round {g = g} {h = h} {i = i} {n = n} {most = most} {after = after} {w = w} j og st e lt) =
       let r = round_open g i og in
-      inside g h i n j w r e (in_once g n after (Until most h) r.own_once st)
+      inside g h i n j r (open_loop g i n after (Until most h) w r st tt e) (in_once g n after (Until most h) r.own_once st)
       (λ x hx. (
         held_has g n after (Until most h) x st hx,
         inner_loops g n after (Until most h) x r.own_once st hx,
@@ -242,12 +259,12 @@ module _ {Decision Verdict : Type 0} (taken : Decision → ℕ) (d : Graph) (onc
 
   -- So the loops round an action of it are open, and there is an index for each.
   pub loops_open : (g : Graph) (i : List ℕ) (n : ℕ) (after : List Need) (kind : Kind) → IsOpen taken d o g i → In g n after kind
-      → (length i ≡ length (loops_of d n)) × AreOpen o (loops_of d n) i []
+      → (length i ≡ length (loops_of d n)) × AreOpen d o (loops_of d n) i []
   loops_open g i n after kind og st =
       let r = round_open g i og in
       let same = r.each n (in_has g n after kind st)
       ∙ (ap (λ (ls : List ℕ). r.loops ++ ls) (own_loops g n after kind r.own_once st) ∙ append-nil r.loops) in
-      (r.full ∙ ap length (sym same), subst (λ (ls : List ℕ). AreOpen o ls i []) (sym same) r.opened)
+      (r.full ∙ ap length (sym same), subst (λ (ls : List ℕ). AreOpen d o ls i []) (sym same) r.opened)
 
   pub kind_open : (g : Graph) (i : List ℕ) (n : ℕ) (after : List Need) (kind : Kind) → IsOpen taken d o g i → In g n after kind
       → kind_of d n ≡ Some kind

@@ -1,6 +1,6 @@
 -- What is seen is what is told.
 use Rattle.std.proofs.Common.{◌≡◌, ℕ, suc, Bool, true, false, cond, List, [], ◌∷◌, ◌++◌, length, take, drop, Option, Some, None, option_map}
-use Rattle.std.proofs.Common.{◌⊎◌, inl, inr, refl, sym, ap, ◌∙◌, subst, append-nil, true≢false, nat_eq, eqb-true}
+use Rattle.std.proofs.Common.{inl, inr, refl, sym, ap, ◌∙◌, subst, append-nil, true≢false, nat_eq, eqb-true}
 use Rattle.std.specs.Option.{option_and_then}
 use Rattle.wf_val.specs.ValueTree.{ValueTree}
 use Rattle.wf_layers.specs.Address.{Address, Table}
@@ -15,7 +15,7 @@ use Rattle.wf_loops.specs.Loops.{left_round, loops_of, paces_round}
 use Rattle.wf_loops.proofs.HeldLemmas.{told_of}
 use Rattle.wf_loops.proofs.RoundLemmas.{split_of}
 use Rattle.wf_meant.specs.Points.{Point, action_named, graph_of, held_by, is_inside, point_of, point_of_outputs, point_of_test}
-use Rattle.wf_meant.specs.References.{Spots, first_level, own_loop, result_at, result_by, result_in, shared, spots_by, view_at, view_by}
+use Rattle.wf_meant.specs.References.{first_level, own_loop, result_at, result_by, result_in, shared, spots_by, view_at, view_by}
 use Rattle.wf_meant.specs.References.{view_in}
 use Rattle.wf_sight.specs.Laws.{GoesByLoops}
 use Rattle.wf_views.specs.Loops.{beyond, common}

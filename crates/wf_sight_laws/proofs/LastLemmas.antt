@@ -10,9 +10,8 @@ use Rattle.wf_layers.proofs.Basics.{two, unless}
 use Rattle.wf_asks.specs.Known.{writer}
 use Rattle.wf_def.specs.DefTree.{DefTree}
 use Rattle.wf_record.specs.Record.{Row}
-use Rattle.wf_environment.specs.Environment.{Environment}
+use Rattle.wf_meant.specs.Answering.{RowSource}
 use Rattle.wf_meant.specs.Points.{Point, graph_of}
-use Rattle.wf_meant.specs.Source.{source}
 use Rattle.wf_meant.specs.Variables.{given_by, variable_at}
 use Rattle.wf_meant_laws.specs.Last.{LastIsRead}
 use Rattle.wf_meant_laws.specs.Writers.{is_writer, value_at, writes_to}
@@ -21,15 +20,15 @@ use Rattle.wf_sight.specs.Variables.{variable_in}
 use Rattle.wf_sight_laws.specs.Writes.{writes}
 use Rattle.wf_sight_laws.proofs.NumberLemmas.{written_has_number}
 
-module _ (d : DefTree) (e : Environment) (meant : Table Row)
+module _ (d : DefTree) (m : RowSource) (meant : Table Row)
     (give : (k : List ℕ) (v : ℕ) → variable_number d k ≡ Some v → (y : Address) (row : Row) → meant y ≡ Some row
     → writer (writes d) v y row ≡ writes_to d k y row)
     (Sees : Address → Type 0) (rows : Table Row) (there : (y : Address) → Sees y → rows y ≡ meant y) where
   abbrev by_number : ℕ → Address → Option Row → Option Address
-  by_number v y o = write_at (graph_of d) (source d e) (writer (writes d) v) y o
+  by_number v y o = write_at (graph_of d) m (writer (writes d) v) y o
 
   abbrev by_name : List ℕ → Address → Option Row → Option Address
-  by_name k y o = write_at (graph_of d) (source d e) (writes_to d k) y o
+  by_name k y o = write_at (graph_of d) m (writes_to d k) y o
 
   same_write : (k : List ℕ) (v : ℕ) → variable_number d k ≡ Some v → (y : Address) (o : Option Row) → meant y ≡ o
       → by_number v y o ≡ by_name k y o
@@ -40,8 +39,8 @@ module _ (d : DefTree) (e : Environment) (meant : Table Row)
   same_there k v number y s = ap (λ (o : Option Row). by_number v y o) (there y s) ∙ same_write k v number y (meant y) refl
 
   last_named : (k : List ℕ) (v : ℕ) → variable_number d k ≡ Some v → (w : Option Address)
-      → IsLastSeen (graph_of d) (source d e) (writer (writes d) v) rows Sees w
-      → IsLastSeen (graph_of d) (source d e) (writes_to d k) meant Sees w
+      → IsLastSeen (graph_of d) m (writer (writes d) v) rows Sees w
+      → IsLastSeen (graph_of d) m (writes_to d k) meant Sees w
   last_named k v number w (inl none) = inl (none.0, λ y s. sym (same_there k v number y s) ∙ none.1 y s)
   last_named k v number w (inr one) =
       inr (
@@ -61,8 +60,8 @@ module _ (d : DefTree) (e : Environment) (meant : Table Row)
   ]
 
   -- THE LAW
-  pub told_by_number : (p : Point) → LastIsRead d e meant p Sees → (store : ℕ → Option Address) (k : List ℕ)
-      → ((v : ℕ) → variable_number d k ≡ Some v → IsLastSeen (graph_of d) (source d e) (writer (writes d) v) rows Sees (store v))
+  pub told_by_number : (p : Point) → LastIsRead d m meant p Sees → (store : ℕ → Option Address) (k : List ℕ)
+      → ((v : ℕ) → variable_number d k ≡ Some v → IsLastSeen (graph_of d) m (writer (writes d) v) rows Sees (store v))
       → variable_in d rows store k ≡ variable_at d p rows k
   told_by_number p read store k last = go (variable_number d k) refl
     where

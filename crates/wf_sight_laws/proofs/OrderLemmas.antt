@@ -22,17 +22,17 @@ use Rattle.wf_record.specs.Record.{Row}
 use Rattle.wf_record.specs.declared.status.Status.{Status}
 use Rattle.wf_environment.specs.Environment.{Environment}
 use Rattle.wf_environment.specs.Statuses.{status_tree}
+use Rattle.wf_meant.specs.Answering.{AnswersAs, RowSource}
 use Rattle.wf_meant.specs.Points.{graph_of}
 use Rattle.wf_meant.specs.Record.{depth_of}
-use Rattle.wf_meant.specs.Source.{source}
 use Rattle.wf_meant_laws.specs.Store.{Accesses}
 use Rattle.wf_meant_laws.specs.Tables.{StandAtInstances}
 use Rattle.wf_meant_laws.specs.Writers.{is_writer, writes_if}
+use Rattle.wf_meant_laws.proofs.AccessLemmas.{writer_is_leaf}
 use Rattle.wf_meant_laws.proofs.WholeLemmas.{round_of}
 use Rattle.wf_catalog.specs.Variables.{variable_number, written}
 use Rattle.wf_sight_laws.specs.Writes.{if_succeeded, is_full, writes}
 use Rattle.wf_sight_laws.proofs.NumberLemmas.{one_number, writer_of}
-use Rattle.wf_sight_laws.proofs.RowLemmas.{writer_is_leaf}
 
 -- ---- what a row has that writes
 
@@ -72,20 +72,20 @@ writes_same : (same : (k : List ℕ) (ks : List (List ℕ)) → list_any (bytes_
 writes_same same k None wr = absurd (true≢false (sym wr))
 writes_same same k (Some (action name number pointer after kind tracked)) wr = same k (writes_of kind) ∙ wr
 
-module _ (d : DefTree) (e : Environment) (once : Once (graph_of d)) (all : VariablesAreInOneOrder d)
+module _ (d : DefTree) (m : RowSource) (once : Once (graph_of d)) (all : VariablesAreInOneOrder d)
     (same : (k : List ℕ) (ks : List (List ℕ)) → list_any (bytes_eq k) (ordered ks) ≡ list_any (bytes_eq k) ks) where
   writes_it : (k : List ℕ) (n : ℕ) → is_writer d k n ≡ true → WritesIt d k n
   writes_it k n wr = writes_same same k (numbered n d.top) wr
 
   -- ---- two writers
 
-  pub one_order : (rows : Table Row) → StandAtInstances d rows → (v : ℕ)
-      → OneOrder (graph_of d) (source d e) (writer (writes d) v) rows
-  one_order rows stand v = record {
+  pub one_order : (e : Environment) → AnswersAs d e m → (rows : Table Row) → StandAtInstances d rows → (v : ℕ)
+      → OneOrder (graph_of d) m (writer (writes d) v) rows
+  one_order e answers rows stand v = record {
     idle = λ y r is. idle y r is;
     leaves = λ y r some.
         let w = writer_of d v y.name (wrote d v y r (writing d v y r some)).1 in
-        writer_is_leaf d once w.name y.name w.is;
+        writer_is_leaf d once w.name y.name (numbered y.name d.top) refl w.is;
     ordered = λ x y q r of_x of_y one other.
         let w = writer_of d v x.name (wrote d v x q (writing d v x q one)).1 in
         let u = writer_of d v y.name (wrote d v y r (writing d v y r other)).1 in
@@ -94,10 +94,11 @@ module _ (d : DefTree) (e : Environment) (once : Once (graph_of d)) (all : Varia
         u.is));
   }
     where
-      idle : (y : Address) (r : Row) → IsIdle (source d e) r → writer (writes d) v y r ≡ None
+      idle : (y : Address) (r : Row) → IsIdle m r → writer (writes d) v y r ≡ None
       idle y r (inl skipped) =
-          idle_writes v (written d y.name) (is_full d y) r.status y (ap (λ (q : Row). status_tree q.status) skipped)
-      idle y r (inr status) = idle_writes v (written d y.name) (is_full d y) r.status y status
+          idle_writes v (written d y.name) (is_full d y) r.status y (ap (λ (q : Row). status_tree q.status) (skipped ∙ answers.skipped))
+      idle y r (inr status) =
+          idle_writes v (written d y.name) (is_full d y) r.status y (sym (ap (λ told. told r) answers.status) ∙ status)
 
   -- ---- a writer, and who reads
 
@@ -120,7 +121,7 @@ module _ (d : DefTree) (e : Environment) (once : Once (graph_of d)) (all : Varia
   )
 
   pub may_read : (k : List ℕ) (v : ℕ) → variable_number d k ≡ Some v → (n : ℕ) (i : List ℕ) (kind : Kind) → Accesses d k n i kind
-      → MayRead (graph_of d) (depth_of d) (source d e) (writes d) v n kind i
+      → MayRead (graph_of d) (depth_of d) m (writes d) v n kind i
   may_read k v number n i kind a = λ y r within is.
       let h = wrote d v y r is in
       let w = writer_of d v y.name h.1 in

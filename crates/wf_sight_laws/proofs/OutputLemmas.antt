@@ -9,9 +9,9 @@ use Rattle.wf_loops.specs.Loops.{loops_of}
 use Rattle.wf_record.specs.Record.{Row}
 use Rattle.wf_environment.specs.Environment.{Environment}
 use Rattle.wf_seen_laws.proofs.RoundLemmas.{none_split}
+use Rattle.wf_meant.specs.Answering.{RowSource}
 use Rattle.wf_meant.specs.Look.{told_to_outputs}
 use Rattle.wf_meant.specs.Points.{graph_of, point_of_outputs}
-use Rattle.wf_meant.specs.Source.{source}
 use Rattle.wf_meant_laws.specs.Last.{LastIsRead}
 use Rattle.wf_meant_laws.specs.Tables.{LoopsTell}
 use Rattle.wf_meant_laws.proofs.PointLemmas.{Seeing}
@@ -35,43 +35,43 @@ sees_all d = record {
   apart = λ l outer at turn st s. absurd (none_split outer l st.inner st.loops);
 }
 
-pub read_by_outputs : (d : DefTree) → Known d → (e : Environment) (rows : Table Row) → LoopsTell d rows
+pub read_by_outputs : (d : DefTree) → Known d → (m : RowSource) (rows : Table Row) → LoopsTell d rows
     → ((x : Address) (row : Row) → rows x ≡ Some row → length x.at ≡ length (loops_of (graph_of d) x.name))
-    → LastIsRead d e rows (point_of_outputs d) Any
-read_by_outputs d known e rows loops full v writer last others agree =
-    last_is_read d known e (point_of_outputs d) Any (sees_all d) rows loops full v writer last others agree
+    → LastIsRead d m rows (point_of_outputs d) Any
+read_by_outputs d known m rows loops full v writer last others agree =
+    last_is_read d known m (point_of_outputs d) Any (sees_all d) rows loops full v writer last others agree
 
-module _ (d : DefTree) (e : Environment) where
+module _ (d : DefTree) (m : RowSource) where
   -- the last of all is the last that is seen
-  all_seen : (rows : Table Row) (v : ℕ) (w : Option Address) → IsLastWritten (graph_of d) (source d e) (writer (writes d) v) rows w
-      → IsLastSeen (graph_of d) (source d e) (writer (writes d) v) rows Any w
+  all_seen : (rows : Table Row) (v : ℕ) (w : Option Address) → IsLastWritten (graph_of d) m (writer (writes d) v) rows w
+      → IsLastSeen (graph_of d) m (writer (writes d) v) rows Any w
   all_seen rows v w (inl none) = inl (none.0, λ y s. nothing y (rows y) refl)
     where
-      nothing : (y : Address) (o : Option Row) → rows y ≡ o → write_at (graph_of d) (source d e) (writer (writes d) v) y o ≡ None
+      nothing : (y : Address) (o : Option Row) → rows y ≡ o → write_at (graph_of d) m (writer (writes d) v) y o ≡ None
       nothing y None is = refl
       nothing y (Some r) is = none.1 y r is
   all_seen rows v w (inr one) =
       inr (
         one.0,
         tt,
-        ap (λ (o : Option Row). write_at (graph_of d) (source d e) (writer (writes d) v) one.0 o) one.2 ∙ one.3,
+        ap (λ (o : Option Row). write_at (graph_of d) m (writer (writes d) v) one.0 o) one.2 ∙ one.3,
         one.4,
         λ z s some. later z (rows z) refl some,
       )
     where
       later : (z : Address) (o : Option Row) → rows z ≡ o
-          → (write_at (graph_of d) (source d e) (writer (writes d) v) z o ≡ None → ⊥) → (z ≡ one.0) ⊎ SeenIn (graph_of d) one.0 z
+          → (write_at (graph_of d) m (writer (writes d) v) z o ≡ None → ⊥) → (z ≡ one.0) ⊎ SeenIn (graph_of d) one.0 z
       later z None is some = absurd (some refl)
       later z (Some q) is some = one.5 z q is some
 
   -- THE LAW
-  pub outputs_told : (meant : Table Row)
+  pub outputs_told : (e : Environment) (meant : Table Row)
       → ((k : List ℕ) (v : ℕ) → variable_number d k ≡ Some v → (y : Address) (row : Row) → meant y ≡ Some row
       → writer (writes d) v y row ≡ writes_to d k y row)
-      → LastIsRead d e meant (point_of_outputs d) Any → (known : KnownTree) → ((y : Address) → known.rows y ≡ meant y)
-      → ((v : ℕ) → IsLastWritten (graph_of d) (source d e) (writer (writes d) v) known.rows (known.store v))
+      → LastIsRead d m meant (point_of_outputs d) Any → (known : KnownTree) → ((y : Address) → known.rows y ≡ meant y)
+      → ((v : ℕ) → IsLastWritten (graph_of d) m (writer (writes d) v) known.rows (known.store v))
       → with_variables d known (told_to_outputs d e known.rows) ≡ told_to_outputs d e known.rows
-  outputs_told meant give read known there last =
+  outputs_told e meant give read known there last =
       ap (λ (f : List ℕ → Option ValueTree). record (told_to_outputs d e known.rows) { variable = f })
-      (λ i k. told_by_number d e meant give Any known.rows (λ y s. there y) (point_of_outputs d) read known.store k
+      (λ i k. told_by_number d m meant give Any known.rows (λ y s. there y) (point_of_outputs d) read known.store k
       (λ v number. all_seen known.rows v (known.store v) (last v)) i)

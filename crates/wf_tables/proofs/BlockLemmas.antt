@@ -2,8 +2,7 @@
 use Rattle.std.proofs.Common.{◌≡◌, ℕ, suc, Bool, true, false, ◌&&◌, ◌||◌, cond, List, [], ◌∷◌, Option, Some, None, length, map, nat_eq, ⊎_elim, refl, sym, ap, ◌∙◌, arith, true≢false}
 use Rattle.wf_lists.specs.KeyOrder.{put_key}
 use Rattle.wf_layers.specs.Address.{Address, Table, is_within, same_at, starts}
-use Rattle.wf_layers.specs.Definition.{Kind, Leaf, Scope, Choice, Foreach, Until, Branches, no_branch, branch, has, is_one, less_one, plain, shows}
-use Rattle.wf_layers.specs.Laws.{IsFresh}
+use Rattle.wf_layers.specs.Definition.{Kind, Leaf, Scope, Choice, Foreach, Until, Branches, no_branch, branch, has, has_any, holds, is_one, less_one, plain, shows}
 use Rattle.wf_layers.specs.Machine.{one, or_else, passed_over, place, skip_others}
 use Rattle.wf_layers.specs.Meaning.{only, skip}
 use Rattle.wf_layers.specs.Source.{Source}
@@ -84,59 +83,66 @@ module _ {Row Begun Decision Verdict : Type 0} (m : Source Row Begun Decision Ve
   same_starts i j off =
       not_true (same_at i j) (λ t. true≢false (sym (ap (starts i) (sym (same_at_is i j t)) ∙ starts_self i) ∙ off))
 
-  module _ (own : IsFresh m) where
-    not_within : (bs : Branches) (c : ℕ) (i : List ℕ) (y : Address) → starts i y.at ≡ false → skip_others m bs c i y ≡ None
-    not_within no_branch c i y off = refl
-    not_within (branch b rest) c i y off =
-        unless (is_within b i y) _ (skip_others m rest (less_one c) i y) (out (has b y.name) (starts i y.at) off)
-        ∙ not_within rest (less_one c) i y off
-      where
-        out : (a b' : Bool) → b' ≡ false → (a && b') ≡ false
-        out true b' e = e
-        out false b' e = refl
+  not_within : (bs : Branches) (c : ℕ) (i : List ℕ) (y : Address) → starts i y.at ≡ false → skip_others m bs c i y ≡ None
+  not_within no_branch c i y off = refl
+  not_within (branch b rest) c i y off =
+      unless (is_within b i y) _ (skip_others m rest (less_one c) i y) (out (has b y.name) (starts i y.at) off)
+      ∙ not_within rest (less_one c) i y off
+    where
+      out : (a b' : Bool) → b' ≡ false → (a && b') ≡ false
+      out true b' e = e
+      out false b' e = refl
 
-    -- one branch, and the others
-    one_within : (y : Address) (i : List ℕ) (h o p : Bool) (q : Bool) (r : Option Row) → starts i y.at ≡ true
-        → cond (q && same_at i y.at) (Some m.skipped) None ≡ r
-        → cond (cond h (cond o false p) q && same_at i y.at) (Some m.skipped) None
-        ≡ cond (h && starts i y.at) (cond o None (cond (m.pinned y.name) (m.old y) (cond (p && same_at i y.at) (Some m.skipped) None))) r
-    one_within y i true true p q r on e = sym (when (starts i y.at) None r on)
-    one_within y i true false p q r on e =
-        sym (when (starts i y.at) (cond (m.pinned y.name) (m.old y) (cond (p && same_at i y.at) (Some m.skipped) None)) r on
-        ∙ unless (m.pinned y.name) (m.old y) (cond (p && same_at i y.at) (Some m.skipped) None) (own y.name).0)
-    one_within y i false o p q r on e = e
+  -- one branch, of which nothing is kept from an old table, and the others
+  one_within : (y : Address) (i : List ℕ) (h o p : Bool) (q : Bool) (r : Option Row) → (h ≡ true → m.pinned y.name ≡ false)
+      → starts i y.at ≡ true → cond (q && same_at i y.at) (Some m.skipped) None ≡ r
+      → cond (cond h (cond o false p) q && same_at i y.at) (Some m.skipped) None
+      ≡ cond (h && starts i y.at) (cond o None (cond (m.pinned y.name) (m.old y) (cond (p && same_at i y.at) (Some m.skipped) None))) r
+  one_within y i true true p q r new on e = sym (when (starts i y.at) None r on)
+  one_within y i true false p q r new on e =
+      sym (when (starts i y.at) (cond (m.pinned y.name) (m.old y) (cond (p && same_at i y.at) (Some m.skipped) None)) r on
+      ∙ unless (m.pinned y.name) (m.old y) (cond (p && same_at i y.at) (Some m.skipped) None) (new refl))
+  one_within y i false o p q r new on e = e
 
-    within : (bs : Branches) (c : ℕ) (i : List ℕ) (y : Address) → starts i y.at ≡ true
-        → cond (in_other bs c y.name && same_at i y.at) (Some m.skipped) None ≡ skip_others m bs c i y
-    within no_branch c i y on = refl
-    within (branch b rest) c i y on =
-        one_within y i (has b y.name) (is_one c) (plain b y.name) (in_other rest (less_one c) y.name)
-        (skip_others m rest (less_one c) i y) on
-        (within rest (less_one c) i y on)
+  -- in one of the branches
+  first_of : (a b : Bool) → a ≡ true → (a || b) ≡ true
+  first_of a b t = ap (λ z. z || b) t
 
-    others_at : (bs : Branches) (c : ℕ) (i : List ℕ) (y : Address)
-        → cond (in_other bs c y.name && same_at i y.at) (Some m.skipped) None ≡ skip_others m bs c i y
-    others_at bs c i y =
-        ⊎_elim
-        (λ t. within bs c i y t)
-        (λ u. ap (λ z. cond (in_other bs c y.name && z) (Some m.skipped) None) (same_starts i y.at u)
-        ∙ nothing (in_other bs c y.name) ∙ sym (not_within bs c i y u))
-        (two (starts i y.at))
-      where
-        nothing : (b : Bool) → cond (b && false) (Some m.skipped) None ≡ None
-        nothing true = refl
-        nothing false = refl
+  later_of : (a b : Bool) → b ≡ true → (a || b) ≡ true
+  later_of true b t = refl
+  later_of false b t = t
 
-    passed_at : (kind : Kind) (c : ℕ) (i : List ℕ) (y : Address)
-        → cond (passes kind c y.name && same_at i y.at) (Some m.skipped) None ≡ passed_over m kind c i y
-    passed_at Leaf c i y = refl
-    passed_at (Scope g) c i y = refl
-    passed_at (Choice bs) c i y = others_at bs c i y
-    passed_at (Foreach pace g) c i y = refl
-    passed_at (Until most g) c i y = refl
+  within : (bs : Branches) (c : ℕ) (i : List ℕ) (y : Address) → (has_any bs y.name ≡ true → m.pinned y.name ≡ false)
+      → starts i y.at ≡ true → cond (in_other bs c y.name && same_at i y.at) (Some m.skipped) None ≡ skip_others m bs c i y
+  within no_branch c i y new on = refl
+  within (branch b rest) c i y new on =
+      one_within y i (has b y.name) (is_one c) (plain b y.name) (in_other rest (less_one c) y.name)
+      (skip_others m rest (less_one c) i y) (λ t. new (first_of (has b y.name) (has_any rest y.name) t)) on
+      (within rest (less_one c) i y (λ t. new (later_of (has b y.name) (has_any rest y.name) t)) on)
 
-    -- the branches that aren't taken
-    pub passed_is : (kind : Kind) (c : ℕ) (i ns : List ℕ) → ((x : ℕ) → is_among x ns ≡ passes kind c x)
-        → block_at m.skipped i ns ≡ passed_over m kind c i
-    passed_is kind c i ns e =
-        λ k y. (ap (λ b. cond (b && same_at i y.at) (Some m.skipped) None) (e y.name) ∙ passed_at kind c i y) k
+  others_at : (bs : Branches) (c : ℕ) (i : List ℕ) (y : Address) → (has_any bs y.name ≡ true → m.pinned y.name ≡ false)
+      → cond (in_other bs c y.name && same_at i y.at) (Some m.skipped) None ≡ skip_others m bs c i y
+  others_at bs c i y new =
+      ⊎_elim
+      (λ t. within bs c i y new t)
+      (λ u. ap (λ z. cond (in_other bs c y.name && z) (Some m.skipped) None) (same_starts i y.at u)
+      ∙ nothing (in_other bs c y.name) ∙ sym (not_within bs c i y u))
+      (two (starts i y.at))
+    where
+      nothing : (b : Bool) → cond (b && false) (Some m.skipped) None ≡ None
+      nothing true = refl
+      nothing false = refl
+
+  passed_at : (kind : Kind) (c : ℕ) (i : List ℕ) (y : Address) → (holds kind y.name ≡ true → m.pinned y.name ≡ false)
+      → cond (passes kind c y.name && same_at i y.at) (Some m.skipped) None ≡ passed_over m kind c i y
+  passed_at Leaf c i y new = refl
+  passed_at (Scope g) c i y new = refl
+  passed_at (Choice bs) c i y new = others_at bs c i y new
+  passed_at (Foreach pace g) c i y new = refl
+  passed_at (Until most g) c i y new = refl
+
+  -- the branches that aren't taken, where nothing inside is kept from an old table
+  pub passed_is : (kind : Kind) (c : ℕ) (i ns : List ℕ) → ((q : ℕ) → holds kind q ≡ true → m.pinned q ≡ false)
+      → ((x : ℕ) → is_among x ns ≡ passes kind c x) → block_at m.skipped i ns ≡ passed_over m kind c i
+  passed_is kind c i ns new e =
+      λ k y. (ap (λ b. cond (b && same_at i y.at) (Some m.skipped) None) (e y.name) ∙ passed_at kind c i y (new y.name)) k

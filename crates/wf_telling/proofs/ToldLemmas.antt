@@ -2,7 +2,6 @@
 use Rattle.std.proofs.Common.{◌≡◌, ◌∙◌, ℕ, suc, ◌-◌, List, [], ◌∷◌, Option, Some, None, codes, decimal, slice_get, refl, sym, ap, arith}
 use Rattle.wf_layers.specs.Address.{Address, Table, address}
 use Rattle.wf_layers.specs.Machine.{Event}
-use Rattle.wf_layers.specs.Source.{Source}
 use Rattle.wf_scheduled.specs.Happened.{HasHappened}
 use Rattle.wf_answers.specs.Inputs.{InputsTree}
 use Rattle.wf_def.specs.ActionTree.{ActionTree, action_kind, action_name}
@@ -10,12 +9,11 @@ use Rattle.wf_def.specs.AllActions.{numbered}
 use Rattle.wf_def.specs.DefTree.{DefTree}
 use Rattle.wf_record.specs.Record.{Row, status_name}
 use Rattle.wf_done.specs.Leaf.{BegunTree, tries_in}
-use Rattle.wf_opening.specs.Decisions.{DecisionTree}
-use Rattle.wf_opening.specs.Verdicts.{VerdictTree}
 use Rattle.wf_trigger.specs.Starts.{StartTree}
 use Rattle.wf_environment.specs.Environment.{fresh}
+use Rattle.wf_meant.specs.Answering.{AnswersAs, RowSource}
 use Rattle.wf_meant.specs.Look.{name_in}
-use Rattle.wf_meant.specs.Source.{finished, source}
+use Rattle.wf_meant.specs.Source.{finished}
 use Rattle.wf_tables.specs.Tables.{event_at}
 use Rattle.wf_tables.specs.declared.entries.EventKind.{EventKind}
 use Rattle.wf_making.specs.Standing.{standing}
@@ -28,15 +26,13 @@ use Rattle.wf_telling.specs.Lines.{test_by, verdict_by}
 below : (n k : ℕ) → n ≡ suc k → n - 1 ≡ k
 below n k is = omega arith
 
-module _ (d : DefTree) (s : StartTree) (i : InputsTree) (f : Table Row) where
-  abbrev m : Source Row BegunTree DecisionTree VerdictTree
-  m = source d (fresh s i)
-
+module _ (d : DefTree) (s : StartTree) (i : InputsTree) (m : RowSource) (answers : AnswersAs d (fresh s i) m) (f : Table Row) where
   -- what the row of a leaf keeps of its attempts
   attempts_are : (x : Address) (b : BegunTree) (a : ActionTree) → numbered x.name d.top ≡ Some a
       → (m.finish x b f).attempts ≡ tries_in i.answers (named (action_name a) x.at) b
   attempts_are x b a is =
-      ap (λ o. (finished d (fresh s i) o x b f).attempts) is ∙ ap (λ o. tries_in i.answers (named (name_in o) x.at) b) is
+      ap (λ ends. (ends x b f).attempts) answers.finish ∙ ap (λ o. (finished d (fresh s i) o x b f).attempts) is
+      ∙ ap (λ o. tries_in i.answers (named (name_in o) x.at) b) is
 
   module _ (row : Option Row) (leaf : Option Leaf) (container : Option Container) where
     -- where no action has the number, neither has a line

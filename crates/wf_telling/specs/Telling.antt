@@ -6,14 +6,14 @@ use Rattle.wf_scheduled.specs.Happened.{HasHappened}
 use Rattle.wf_def.specs.DefTree.{DefTree}
 use Rattle.wf_record.specs.Record.{Row}
 use Rattle.wf_environment.specs.Environment.{Environment}
-use Rattle.wf_meant.specs.Record.{depth_of}
-use Rattle.wf_meant.specs.Source.{source, table_of}
+use Rattle.wf_meant.specs.Answering.{AnswersAs, RowSource, table_by}
 use Rattle.wf_making.specs.Standing.{standing}
 use Rattle.wf_trace.specs.Told.{told}
 use Rattle.wf_telling.specs.Lines.{Container, Leaf}
 
 module _ (d : DefTree) (e : Environment) where
+  -- by whatever source the definition answers in the environment
   abbrev pub IsTold : Option Row → Option Leaf → Option Container → Event → List ℕ → Type 0
   IsTold row leaf container event line =
-      (number : ℕ) → HasHappened (source d e) (table_of d e (depth_of d)) (standing row leaf container) event number
-      → line ≡ told d (source d e) (table_of d e (depth_of d)) event number
+      (m : RowSource) → AnswersAs d e m → (number : ℕ) → HasHappened m (table_by d m) (standing row leaf container) event number
+      → line ≡ told d m (table_by d m) event number

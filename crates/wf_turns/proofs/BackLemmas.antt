@@ -35,7 +35,8 @@ use Rattle.wf_meant.specs.Source.{begun, close_of, finished, source}
 use Rattle.wf_says.specs.Told.{count_items, count_told, items_said, rounds_said, taken_by, told_rounds}
 use Rattle.wf_turns.specs.Reading.{RecallsWithin, reading, taken_in}
 use Rattle.wf_turns.proofs.FoundLemmas.{of_kind}
-use Rattle.wf_turns.proofs.ReadLemmas.{chosen_again, chosen_back, held_again, held_back, items_back, ran_closed, ran_tree, rounds_back}
+use Rattle.wf_meant.proofs.TellLemmas.{items_back, rounds_back}
+use Rattle.wf_turns.proofs.ReadLemmas.{chosen_again, chosen_back, held_again, held_back, ran_closed, ran_tree}
 
 -- ---- by kind
 

@@ -1,3 +1,4 @@
+pub mod SourceLemmas
 mod FoundLemmas
 mod RangeLemmas
 mod TurnLemmas

@@ -5,7 +5,6 @@ use Rattle.std.specs.Prelude.{Ok, Err, if◌then◌else◌, nat_eq}
 use Rattle.std.specs.List.{list_any}
 use Rattle.wf_val.specs.Arguments.{Answer}
 use Rattle.wf_val.specs.ValueTree.{ValueTree, null, boolean, number, text, list, object}
-use Rattle.wf_val.proofs.ValueTreeLemmas.{items-trees}
 use Rattle.wf_layers.specs.Definition as layers
 use Rattle.wf_layers.specs.Address.{Table}
 use Rattle.wf_def.specs.ActionTree.{KindTree, compose, connector, wait, response, terminate, select, query, join, parse_json, initialize}
@@ -14,7 +13,7 @@ use Rattle.wf_def.specs.ActionTree.{action_number, until, ActionTrees, CaseTrees
 use Rattle.wf_def.specs.AllActions.{kind_actions}
 use Rattle.wf_record.specs.Record.{Row}
 use Rattle.wf_record.specs.declared.status.Status.{Status}
-use Rattle.wf_opening.specs.Decisions.{DecisionTree, nothing, held, chosen, each, too_many, faulty, chosen_as, held_as, items_of, taken}
+use Rattle.wf_opening.specs.Decisions.{DecisionTree, nothing, held, chosen, each, too_many, faulty, chosen_as, held_as, taken}
 use Rattle.wf_opening.specs.Decisions.{branch_from}
 use Rattle.wf_opening.specs.Verdicts.{VerdictTree, met, astray}
 use Rattle.wf_environment.specs.Statuses.{status_tree}
@@ -22,7 +21,6 @@ use Rattle.wf_meant.specs.Containers.{any_iteration_failed, any_terminated, case
 use Rattle.wf_meant.specs.Containers.{closed_as, cut_short, iterations_value, last_status, status_of, unless_cut}
 use Rattle.wf_meant.specs.Status as judging
 use Rattle.wf_meant.specs.Status.{is_named}
-use Rattle.wf_says.specs.Told.{count_items, count_told, told_rounds}
 
 -- ---- only what is skipped is Skipped
 
@@ -176,20 +174,3 @@ module _ (kind : KindTree) (at : List ℕ) (known : Table Row) (status : ℕ →
   chosen_again cases (Ok (list ts)) some = absurd (some refl)
   chosen_again cases (Ok (object ms)) some = absurd (some refl)
   chosen_again cases (Err f) some = absurd (some refl)
-
-pub items_back : (graph : ActionTrees) (at : List ℕ) (known : Table Row) (decision : DecisionTree)
-    → count_items (close_foreach graph at known decision).inputs ≡ items_of decision
-items_back graph at known (each ts) = ap length (items-trees ts)
-items_back graph at known too_many = refl
-items_back graph at known (faulty f) = refl
-items_back graph at known nothing = refl
-items_back graph at known (held b) = refl
-items_back graph at known (chosen v n) = refl
-
-pub rounds_back : (fails : Bool) (s : Status) (n : ℕ) (v : Option VerdictTree)
-    → count_told (told_rounds (close_until fails s (iterations_value n) v).outputs) ≡ n
-rounds_back fails s n (Some (met true)) = refl
-rounds_back false s n (Some (met false)) = refl
-rounds_back true s n (Some (met false)) = refl
-rounds_back fails s n (Some (astray f)) = refl
-rounds_back fails s n None = refl

@@ -34,11 +34,13 @@ use Rattle.wf_opening.specs.Decisions.{DecisionTree, nothing, held, chosen, each
 use Rattle.wf_opening.specs.Verdicts.{VerdictTree, met, astray, ends}
 use Rattle.wf_done.specs.Leaf.{BegunTree, begun_from, called_with, tries_in}
 use Rattle.wf_environment.specs.Environment.{Environment, facts_of}
+use Rattle.wf_meant.specs.Answering.{AnswersAs, RowSource}
 use Rattle.wf_meant.specs.Containers.{close_until, closed, iterations_value, last_status}
 use Rattle.wf_meant.specs.Look.{instance, told_at}
 use Rattle.wf_meant.specs.Points.{graph_of}
 use Rattle.wf_meant.specs.Source.{begun, close_of, finished, source, tries_of}
 use Rattle.wf_turns.specs.Turns.{turns}
+use Rattle.wf_turns.proofs.SourceLemmas.{is_written_out}
 use Rattle.wf_turns.proofs.FoundLemmas.{found_all, of_kind}
 use Rattle.wf_turns.proofs.RangeLemmas.{HasRange}
 
@@ -211,12 +213,12 @@ module _ (d : DefTree) (ranges : AllByRecursion HasRange (all_actions d.top)) wh
         (rounds_of_one d e f found.0 x most g decision test n found.2 found.3 least (rounds_from_none most (λ j. ends (test j))))
 
     -- THE LAW
-    pub tells : TellsTurns (graph_of d) (source d e) f turns
-    tells = record {
+    pub tells : (m : RowSource) → AnswersAs d e m → TellsTurns (graph_of d) m f turns
+    tells m answers = subst (λ (n : RowSource). TellsTurns (graph_of d) n f turns) (sym (is_written_out d e m answers)) (record {
       attempts = λ x is. attempts_of d e f (numbered x.name d.top) x (begun d e (numbered x.name d.top) x f);
-      items = λ x pace g is. items_at x pace g ((source d e).decide x f) is;
-      rounds = λ x most g is. rounds_at x most g ((source d e).decide x f) (λ j. (source d e).test x j f) is;
-    }
+      items = λ x pace g is. items_at x pace g (m.decide x f) is;
+      rounds = λ x most g is. rounds_at x most g (m.decide x f) (λ j. (source d e).test x j f) is;
+    })
 
     -- and of a resubmission
     pub tells_again : (redo again : ℕ → Bool) (old : Table Row) (recall : Address → DecisionTree)

@@ -24,6 +24,7 @@ ghost use Rattle.wf_layers.specs.Definition.{kind_of};
 ghost use Rattle.wf_layers.specs.Resubmission.{pin};
 ghost use Rattle.wf_layers.specs.Shape.{HasShape, ReadsBack};
 ghost use Rattle.wf_environment.specs.Environment.{Environment, facts_of};
+ghost use Rattle.wf_meant.specs.Answering.{AnswersAs, RowSource};
 ghost use Rattle.wf_meant.specs.Look.{name_of};
 ghost use Rattle.wf_meant.specs.Points.{graph_of};
 ghost use Rattle.wf_meant.specs.Record.{depth_of};
@@ -43,9 +44,11 @@ pub fn numbers_have_the_kinds_of_their_actions()
         → kind_of (layered graph) n ≡ option_map (λ a. layered_kind (action_kind a)) (numbered n graph) }
 {}
 
-/// The row of a leaf that ran tells its attempts, that of a Foreach its items, and that of an Until how often it went round.
+/// The row of a leaf that ran tells its attempts, that of a Foreach its items, and that of an Until how often it went round, by whatever
+/// source the definition answers.
 pub fn rows_tell_their_turns()
-    ensures { (d : DefTree) → IsRead d → (e : Environment) → (f : Table Row) → TellsTurns (graph_of d) (source d e) f turns }
+    ensures { (d : DefTree) → IsRead d → (e : Environment) (m : RowSource) → AnswersAs d e m → (f : Table Row)
+        → TellsTurns (graph_of d) m f turns }
 {
     wf_known_laws::numbers_have_their_ranges();
 }

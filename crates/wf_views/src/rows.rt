@@ -5,12 +5,16 @@ ghost use Rattle.wf_val.specs.NameOrder.{put_named};
 ghost use Rattle.wf_val.specs.Seen.{tree};
 ghost use Rattle.wf_val.specs.ValueTree.{text};
 ghost use Rattle.wf_layers.specs.Address.{address};
-ghost use Rattle.wf_meant.specs.Rows.{iterations_of, view_of};
+ghost use Rattle.wf_def.specs.ActionSeen.{action_tree, kind_tree};
+ghost use Rattle.wf_meant.specs.Rows.{iterations_of, turns_said, view_of};
 ghost use Rattle.wf_views.specs.Seen.{row_content, rows_seen};
 
 use std::alloc::{AllocError, Global};
 use wf_asks::{Instance, Rows};
-use wf_record::{Row, iterations};
+use wf_catalog::kind_of;
+use wf_def::{Action, Kind};
+use wf_record::Row;
+use wf_says::{items_said, rounds_said};
 use wf_val::{Fields, Indexes, Name, Text, Val};
 
 /// Indexes of their own.
@@ -85,12 +89,35 @@ pub(crate) fn view_of(alloc: Global, name: &Name, row: &Row) -> Result<Val, Allo
     Ok(Val::Obj(fields))
 }
 
-/// How many iterations a loop had that has this row; without one it had none.
-pub(crate) fn iterations_of(row: Option<&Row>) -> u64
-    ensures { result ≡ iterations_of (option_map (λ r. row_content r.now) row.entry) }
+fn turns_said(kind: &Kind, row: &Row) -> u64
+    ensures { result ≡ turns_said (kind_tree kind.now) (row_content row.now) }
 {
-    match row {
-        Some(row) => iterations(&row.inputs, &row.outputs),
+    match kind {
+        Kind::Foreach {
+            list: _,
+            repetitions: _,
+            graph: _,
+        } => items_said(row),
+        Kind::Until {
+            test: _,
+            count: _,
+            fails: _,
+            graph: _,
+        } => rounds_said(row),
+        _ => 0,
+    }
+}
+
+/// How many iterations the row of an action says that it had; without one it had none, and no action has none.
+pub(crate) fn iterations_of(action: Option<&Action>, row: Option<&Row>) -> u64
+    ensures { result
+        ≡ iterations_of (option_map (λ a. action_tree a.now) action.entry) (option_map (λ r. row_content r.now) row.entry) }
+{
+    match action {
+        Some(action) => match row {
+            Some(row) => turns_said(kind_of(action), row),
+            None => 0,
+        },
         None => 0,
     }
 }

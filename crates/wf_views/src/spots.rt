@@ -138,8 +138,9 @@ pub(crate) fn spots_by(
     match left {
         [] => Ok(Some(Spots::One)),
         [number] => {
-            let count = iterations_of(row_at(alloc, rows, *number, at)?);
-            Ok(spots_in(places.action(*number), count))
+            let row = row_at(alloc, rows, *number, at)?;
+            let action = places.action(*number);
+            Ok(spots_in(action, iterations_of(action, row)))
         }
         _ => Ok(None),
     }

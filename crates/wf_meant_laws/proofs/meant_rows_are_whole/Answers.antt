@@ -9,8 +9,9 @@ use Rattle.wf_meant.specs.Points.{graph_of}
 use Rattle.wf_meant.specs.Record.{depth_of}
 use Rattle.wf_meant.specs.Source.{source, table_of}
 use Rattle.wf_seen_laws.proofs.RowLemmas.{had_turn}
-use Rattle.wf_meant_laws.proofs.RangeLemmas.{all_in_range, some_found}
-use Rattle.wf_meant_laws.proofs.WholeLemmas.{loops_tell, stands}
+use Rattle.wf_meant_laws.proofs.AnswerLemmas.{answers_itself}
+use Rattle.wf_meant_laws.proofs.RangeLemmas.{some_found}
+use Rattle.wf_meant_laws.proofs.WholeLemmas.{had_tells, stands}
 use Rattle.wf_meant_laws.proofs.meant_rows_are_whole.Goals as goal
 
 pub returns : goal.returns
@@ -20,10 +21,10 @@ returns c = λ d r none e.
     let rule = meaning_solves (source d e) (depth_of d) (graph_of d) is.falls is.local in record {
       instances = λ x row there.
           stands d x (rows_at_instances (graph_of d) (source d e) (depth_of d) is.falls is.local is.own x row there);
-      loops = loops_tell d e (table_of d e (depth_of d)) once
+      loops = λ x row there l outer at turn of.
+          had_tells d e (table_of d e (depth_of d)) (source d e) (answers_itself d e) once
           (λ l has'. some_found l (all_actions d.top)
           (ap (list_any (nat_eq l)) (numbers_are d.top) ∙ (sym (c.numbers_are_had.ensures d.top l) ∙ has')))
-          (all_in_range d.top (c.numbers_have_their_ranges.ensures d r))
-          (λ x row there l outer at turn of.
-          had_turn (graph_of d) (source d e) (table_of d e (depth_of d)) once is.own rule x row there l outer at turn of);
+          l at turn
+          (had_turn (graph_of d) (source d e) (table_of d e (depth_of d)) once is.own rule x row there l outer at turn of);
     }

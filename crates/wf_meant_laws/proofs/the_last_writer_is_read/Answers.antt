@@ -47,14 +47,14 @@ known c d r =
     }
 
 pub returns-clause-at_instances : goal.returns-clause-at_instances
-returns-clause-at_instances c = λ d r none e rows whole x v writer last others agree.
+returns-clause-at_instances c = λ d r none m rows whole x v writer last others agree.
     let k = known c d r in
-    last_is_read d k e (point_of d x) (SeenIn (graph_of d) x) (at_instance d k x) rows whole.loops (full_of d rows whole.instances) v writer
+    last_is_read d k m (point_of d x) (SeenIn (graph_of d) x) (at_instance d k x) rows whole.loops (full_of d rows whole.instances) v writer
     last others agree
 
 pub returns-clause-at_tests : goal.returns-clause-at_tests
-returns-clause-at_tests c = λ d r none e rows whole n i most h k is of v writer last others agree.
+returns-clause-at_tests c = λ d r none m rows whole n i most h k is of v writer last others agree.
     let known' = known c d r in
-    last_is_read d known' e (point_of_test d (address n i) k) (SeenByTest (graph_of d) n i h k)
+    last_is_read d known' m (point_of_test d (address n i) k) (SeenByTest (graph_of d) n i h k)
     (at_test d known' n i most h k is (sym of.1 ∙ round_of (graph_of d) n)) rows whole.loops (full_of d rows whole.instances) v writer last
     others agree

@@ -7,9 +7,9 @@ use Rattle.wf_reading.specs.Read.{IsRead}
 use Rattle.wf_def.specs.Names.{graph_names}
 use Rattle.wf_instance.proofs.ExactLemmas.{before_has}
 use Rattle.wf_seen_laws.proofs.InnerLemmas.{seer_has}
+use Rattle.wf_meant.specs.Answering.{table_by}
 use Rattle.wf_meant.specs.Points.{graph_of, is_before}
 use Rattle.wf_meant.specs.Record.{depth_of}
-use Rattle.wf_meant.specs.Source.{table_of}
 use Rattle.wf_meant_laws.proofs.SeeingLemmas.{Known}
 use Rattle.wf_meant_laws.proofs.WholeLemmas.{full_of}
 use Rattle.wf_sight_laws.proofs.OutputLemmas.{outputs_told, read_by_outputs}
@@ -46,9 +46,9 @@ known c d r =
     }
 
 pub returns : goal.returns
-returns c = λ d r none e rows there last.
-    let meant = table_of d e (depth_of d) in
-    let whole = c.meant_rows_are_whole.ensures d r none e in
+returns c = λ d r none e m answered rows there last.
+    let meant = table_by d m in
+    let whole = answered.whole in
     c.what_is_seen_is_told.ensures.by_outputs d e rows
-    ∙ outputs_told d e meant (c.rows_write_what_they_give.ensures d r none e)
-    (read_by_outputs d (known c d r) e meant whole.loops (full_of d meant whole.instances)) rows there last
+    ∙ outputs_told d m e meant (c.rows_write_what_they_give.ensures d meant whole answered.given)
+    (read_by_outputs d (known c d r) m meant whole.loops (full_of d meant whole.instances)) rows there last

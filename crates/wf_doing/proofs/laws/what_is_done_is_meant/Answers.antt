@@ -17,26 +17,26 @@ returns c =
       tests = c.what_a_container_decides_is_local.ensures.tested;
     } in
     record {
-      start = λ d e x kind depth known once informed finds.
-          ap (begun_by (numbered x.name d.top)) (c.what_is_seen_is_told.ensures.at d e x kind depth known once informed)
+      start = λ d e m answers x kind depth known once informed finds.
+          ap (begun_by (numbered x.name d.top)) (c.what_is_seen_is_told.ensures.at d e m answers x kind depth known once informed)
           ∙ begun_same laws (λ k. variable_in d known.rows known.store k) (told_at d e x known.rows) (numbered x.name d.top) finds
           ∙ start_is d e x known.rows (numbered x.name d.top);
-      decide = λ d e x kind depth known once informed finds.
-          ap (decided_by (numbered x.name d.top)) (c.what_is_seen_is_told.ensures.at d e x kind depth known once informed)
+      decide = λ d e m answers x kind depth known once informed finds.
+          ap (decided_by (numbered x.name d.top)) (c.what_is_seen_is_told.ensures.at d e m answers x kind depth known once informed)
           ∙ decided_same laws (λ k. variable_in d known.rows known.store k) (told_at d e x known.rows) (numbered x.name d.top) finds;
-      test = λ d e u most g j depth known once informed finds.
-          ap (tested_by (numbered u.name d.top)) (c.what_is_seen_is_told.ensures.in_test d e u most g j depth known once informed)
+      test = λ d e m answers u most g j depth known once informed finds.
+          ap (tested_by (numbered u.name d.top)) (c.what_is_seen_is_told.ensures.in_test d e m answers u most g j depth known once informed)
           ∙ tested_same laws (λ k. variable_in d known.rows known.store k) (told_in_test d e u j known.rows) (numbered u.name d.top) finds
           ∙ test_is d e u j known.rows (numbered u.name d.top);
-      finish = λ d s i x kind depth known b once informed finds.
+      finish = λ d s i m answers x kind depth known b once informed finds.
           ap (λ l. finished_by (numbered x.name d.top) l i.answers x.at b)
-          (c.what_is_seen_is_told.ensures.at d (fresh s i) x kind depth known once informed)
+          (c.what_is_seen_is_told.ensures.at d (fresh s i) m answers x kind depth known once informed)
           ∙ finished_same laws (λ k. variable_in d known.rows known.store k) (told_at d (fresh s i) x known.rows) (numbered x.name d.top) finds
           i.answers x.at b
           ∙ finish_is d s i x b known.rows (numbered x.name d.top) refl;
-      close = λ d e x kind depth known decision n verdict once informed finds.
+      close = λ d e m answers x kind depth known decision n verdict once informed finds.
           ap (λ l. closed_by (numbered x.name d.top) l x.at decision n verdict known.rows)
-          (c.what_is_seen_is_told.ensures.at d e x kind depth known once informed)
+          (c.what_is_seen_is_told.ensures.at d e m answers x kind depth known once informed)
           ∙ closed_same laws (λ k. variable_in d known.rows known.store k) (told_at d e x known.rows) (numbered x.name d.top) finds x.at decision n
           verdict known.rows
           ∙ close_is d e x decision n verdict known.rows (numbered x.name d.top);

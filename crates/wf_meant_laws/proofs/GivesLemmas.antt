@@ -3,6 +3,7 @@ use Rattle.std.proofs.Common.{◌≡◌, ℕ, Bool, true, false, List, [], ◌�
 use Rattle.std.proofs.Common.{◌∙◌, subst, true≢false}
 use Rattle.std.specs.Prelude.{ℤ, ◌+ℤ◌, ◌-ℤ◌, bytes_eq, codes, if◌then◌else◌, map}
 use Rattle.std.specs.List.{list_any}
+use Rattle.std.proofs.lemmas.Slice.Eq.{bytes_eq-Decides}
 use Rattle.wf_val.specs.Arguments.{Answer, bounded, fits_i64, given, wrong_type}
 use Rattle.wf_val.specs.Cut.{cut_u32, cut_u64}
 use Rattle.wf_val.specs.ValueTree.{ValueTree, depth, fits, items, list, number, text, trees, weight}
@@ -36,7 +37,9 @@ use Rattle.wf_meant.specs.Look.{instance, told_at}
 use Rattle.wf_meant.specs.Source.{begun, finished}
 use Rattle.wf_meant.specs.Variables.{given_as, given_by}
 use Rattle.wf_meant_laws.specs.Writers.{writes_if}
-use Rattle.wf_sight_laws.proofs.NumberLemmas.{same_name}
+
+same_name : (k n : List ℕ) → bytes_eq k n ≡ true → k ≡ n
+same_name k n e = (bytes_eq-Decides k n).0 e
 
 -- ---- what an action keeps is what it made
 
