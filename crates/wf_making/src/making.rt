@@ -1,7 +1,12 @@
 //! A run that is being made.
-ghost use Rattle.std.specs.Prelude.{◌≡◌, ◌+◌, IfOk};
+ghost use Rattle.std.specs.Prelude.{◌≡◌, ◌+◌, [], ℕ, IfOk};
 ghost use Rattle.wf_val.specs.Cut.{cut_u64};
+ghost use Rattle.wf_layers.specs.Laws.{IsInstance};
 ghost use Rattle.wf_layers.specs.Machine.{fresh};
+ghost use Rattle.wf_layers.specs.Variables.{IsLastWritten};
+ghost use Rattle.wf_kept.specs.Reached.{IsResumption};
+ghost use Rattle.wf_asks.specs.Instances.{rows_in};
+ghost use Rattle.wf_asks.specs.Known.{store_in, writer};
 ghost use Rattle.wf_plan.specs.PlanSeen.{plan_tree};
 ghost use Rattle.wf_tables.specs.Tables.{event_tree};
 ghost use Rattle.wf_steps.specs.Kept.{IsPlanned};
@@ -13,7 +18,7 @@ use crate::pays::Pays;
 use crate::tells::Tells;
 use std::alloc::{AllocError, Global};
 use std::marker::Model;
-use wf_asks::{Acts, Rows, Store};
+use wf_asks::{Acts, Opens, Rows, Store};
 use wf_drive::Machine;
 use wf_metered::Metered;
 use wf_plan::Plan;
@@ -41,14 +46,37 @@ impl<'a, A: Acts> Model for Making<'a, A> {
 impl<'a, A: Acts> Making<'a, A> {
     /// A run that begins.
     pub fn fresh(alloc: Global, acts: &'a A, plan: &'a Plan) -> Result<Making<'a, A>, AllocError>
-        requires { IsPlanned (A.graph acts.now) (plan_tree plan.now) }
+        requires planned { IsPlanned (A.graph acts.now) (plan_tree plan.now) }
+        requires instance { IsInstance (A.graph acts.now) (A.source acts.now) (A.depth acts.now) }
         ensures acts { IfOk result (λ s. s.0 ≡ acts.now) }
         ensures begins { IfOk result (λ s. shown A.row_tree A.begun_tree A.decision_tree A.verdict_tree s.1 ≡ fresh) }
         ensures first { IfOk result (λ s. IsFirst (A.graph acts.now) (A.source acts.now) (A.depth acts.now)
             (shown A.row_tree A.begun_tree A.decision_tree A.verdict_tree s.1)) }
     {
-        acts.is_instance();
         let metered = Metered::fresh(alloc, acts, plan)?;
+        Ok(Making { metered })
+    }
+
+    /// A run that goes on from an old record: from its kept rows, the containers that are closed again, and the last writers of those rows.
+    pub fn resumed(
+        alloc: Global,
+        acts: &'a A,
+        plan: &'a Plan,
+        rows: Rows<A::Row>,
+        opens: Opens<A::Decision, A::Verdict>,
+        store: Store,
+    ) -> Result<Making<'a, A>, AllocError>
+        requires planned { IsPlanned (A.graph acts.now) (plan_tree plan.now) }
+        requires resumed { IsResumption (A.graph acts.now) (A.depth acts.now) (A.source acts.now)
+            (shown A.row_tree A.begun_tree A.decision_tree A.verdict_tree (rows.0, ([], (opens.0, store.0)))) }
+        requires last { (v : ℕ) → IsLastWritten (A.graph acts.now) (A.source acts.now) (writer (A.writes acts.now) v)
+            (rows_in A.row_tree rows.0) (store_in store.0 v) }
+        ensures acts { IfOk result (λ s. s.0 ≡ acts.now) }
+        ensures lists { IfOk result (λ s. s.1 ≡ (rows.0, ([], (opens.0, store.0)))) }
+        ensures first { IfOk result (λ s. IsFirst (A.graph acts.now) (A.source acts.now) (A.depth acts.now)
+            (shown A.row_tree A.begun_tree A.decision_tree A.verdict_tree s.1)) }
+    {
+        let metered = Metered::resumed(alloc, acts, plan, rows, opens, store)?;
         Ok(Making { metered })
     }
 

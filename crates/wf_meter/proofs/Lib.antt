@@ -1,7 +1,9 @@
 pub mod SumLemmas
 pub mod TouchLemmas
 pub mod MoveLemmas
+pub mod StayLemmas
 pub mod CutLemmas
 pub mod PriceLemmas
 pub mod FewLemmas
 pub mod CostRows
+pub mod TotalLemmas

@@ -3,7 +3,6 @@ use Rattle.std.proofs.Common.{◌≡◌, ◌≤◌, ℕ, ◌+◌, List, [], ◌�
 use Rattle.wf_lists.specs.KeyOrder.{IsInKeyOrder}
 use Rattle.wf_layers.specs.Address.{Address, same_at}
 use Rattle.wf_layers.specs.Definition.{Graph}
-use Rattle.wf_layers.specs.Laws.{IsInstance}
 use Rattle.wf_layers.specs.Listed.{sum_of}
 use Rattle.wf_layers.specs.Machine.{Event, Opening, Running, State, Step, place_of}
 use Rattle.wf_layers.specs.Source.{Source}
@@ -23,7 +22,7 @@ use Rattle.wf_meter.proofs.TouchLemmas.{first_not, known_kind, opens_stay, rows_
 
 module _ {Row Begun Decision Verdict Kept Started Decided Told : Type 0} (see : Row → Kept) (started : Begun → Started)
     (decided : Decision → Decided) (told : Verdict → Told) (d : Graph) (depth : ℕ → ℕ) (m : Source Kept Started Decided Told)
-    (is : IsInstance d m depth) (p : PlanTree) (plan : IsPlanOf d p)
+    (p : PlanTree) (plan : IsPlanOf d p)
     (rows rows' : List (RowAt Row)) (running running' : List (LeafAt Begun)) (opens opens' : List (OpenAt Decision Verdict))
     (reached : IsReached d depth m (state_of see started decided told rows running opens)) (e : Event)
     (st : Step d m (state_of see started decided told rows running opens) e (state_of see started decided told rows' running' opens')) where
@@ -35,8 +34,8 @@ module _ {Row Begun Decision Verdict Kept Started Decided Told : Type 0} (see : 
 
   once : AreDistinct (block_of p (place_of e).name)
   once =
-      let th = stands m is.own d depth s reached p plan e s' st in
-      let known = known_kind m is.own d depth s reached p plan (place_of e).name (place_of e).at th.0 th.1 th.2 in
+      let th = stands m d depth s reached p plan e s' st in
+      let known = known_kind m d depth s reached p plan (place_of e).name (place_of e).at th.0 th.1 th.2 in
       let entry = plan.entry (place_of e).name th.1 known in
       subst (λ o. AreDistinct (block_or_none o)) (sym entry.1) entry.2.each_once
 
@@ -49,7 +48,7 @@ module _ {Row Begun Decision Verdict Kept Started Decided Told : Type 0} (see : 
   rows_move ox oy w =
       sums_differ (λ (r : RowAt Row). r.instance) (λ (r : RowAt Row). see r.row) w (place_of e).at (block_of p (place_of e).name) once
       rows rows' ox oy
-      (rows_else m is.own d depth s reached p plan e s' st)
+      (rows_else m d depth s reached p plan e s' st)
 
   pub leaves_move : IsInKeyOrder instance_cmp (λ (l : LeafAt Begun). l.instance) running
       → IsInKeyOrder instance_cmp (λ (l : LeafAt Begun). l.instance) running' → (w : Address → Running Started → ℕ)
@@ -60,7 +59,7 @@ module _ {Row Begun Decision Verdict Kept Started Decided Told : Type 0} (see : 
   leaves_move ox oy w =
       let moved = sums_differ (λ (l : LeafAt Begun). l.instance) (leaf_tree started) w (place_of e).at ((place_of e).name ∷ []) (refl, tt)
       running running' ox oy
-      (λ x u. running_stay m is.own d depth s reached p plan e s' st x
+      (λ x u. running_stay m d depth s reached p plan e s' st x
       (first_not (nat_eq (place_of e).name x.name) false (same_at (place_of e).at x.at) u)) in
       omega (arith, moved)
 
@@ -74,7 +73,7 @@ module _ {Row Begun Decision Verdict Kept Started Decided Told : Type 0} (see : 
       let moved = sums_differ (λ (o : OpenAt Decision Verdict). o.instance) (open_tree decided told) w (place_of e).at
       ((place_of e).name ∷ []) (refl, tt)
       opens opens' ox oy
-      (λ x u. opens_stay m is.own d depth s reached p plan e s' st x
+      (λ x u. opens_stay m d depth s reached p plan e s' st x
       (first_not (nat_eq (place_of e).name x.name) false (same_at (place_of e).at x.at) u)) in
       omega (arith, moved)
 

@@ -24,7 +24,7 @@ use Rattle.wf_tables.specs.Tables.{state_of}
 use Rattle.wf_tables.specs.declared.entries.LeafAt.{LeafAt}
 use Rattle.wf_tables.proofs.OpenLemmas.{found_at}
 use Rattle.wf_meter.specs.Cost.{iterations, open_cost, opens_cost}
-use Rattle.wf_meter.specs.Parts.{iterations_by, open_cost_by, shape_iterations}
+use Rattle.wf_meter.specs.Parts.{iterations_by, shape_iterations, turns_cost}
 
 -- ---- a list in order
 
@@ -34,6 +34,10 @@ sum_same f g (x ∷ xs) h =
     let here = h x (inl refl) in
     let rest = sum_same f g xs (λ e a. h e (inr a)) in
     omega (arith, here, rest)
+
+sum_both : {E : Type 0} (f g : E → ℕ) (xs : List E) → sum_of f xs + sum_of g xs ≡ sum_of (λ e. f e + g e) xs
+sum_both f g [] = refl
+sum_both f g (x ∷ xs) = let rest = sum_both f g xs in omega (arith, rest)
 
 all_of : {E : Type 0} (P : E → Type 0) (xs : List E) → AllByRecursion P xs → (e : E) → Among xs e → P e
 all_of P [] all e a = absurd a
@@ -89,7 +93,7 @@ by_shape (Until most g) items next = refl
 module _ {Row Begun Decision Verdict : Type 0} (d : Graph) (depth : ℕ → ℕ) (m : Source Row Begun Decision Verdict) (p : PlanTree)
     (plan : IsPlanOf d p) (s : State Row Begun Decision Verdict) (reached : IsReached d depth m s) where
   pub priced : (items weight : Decision → ℕ) (x : Address) (w : Opening Decision Verdict) → s.opens x ≡ Some w
-      → open_cost_by p items weight x w ≡ open_cost d items weight x w
+      → turns_cost p items x w + weight w.decision ≡ open_cost d items weight x w
   priced items weight x w is =
       let stands = open_stands d depth m s reached x w is in
       let known = (kinds_are_known d depth m s reached x.name x.at stands.0.0 stands.0.1 stands.0.3).0 in
@@ -105,11 +109,13 @@ pub all_priced : {Row Begun Decision Verdict Kept Started Decided Told : Type 0}
     → IsPlanOf d p → (rows : List (RowAt Row)) (running : List (LeafAt Begun)) (opens : List (OpenAt Decision Verdict))
     → IsReached d depth m (state_of see started decided told rows running opens)
     → IsInKeyOrder instance_cmp (λ (o : OpenAt Decision Verdict). o.instance) opens → (items weight : Decided → ℕ)
-    → sum_of (λ (o : OpenAt Decision Verdict). open_cost_by p items weight (address_of o.instance) (open_tree decided told o)) opens
+    → sum_of (λ (o : OpenAt Decision Verdict). turns_cost p items (address_of o.instance) (open_tree decided told o)) opens
+    + sum_of (λ (o : OpenAt Decision Verdict). weight (decided o.decision)) opens
     ≡ opens_cost decided told d items weight opens
 all_priced {Decision = Decision} {Verdict = Verdict} see started decided told d depth m p plan rows running opens reached order items
     weight =
-    sum_same _ _ opens (λ o a.
+    sum_both _ _ opens
+    ∙ sum_same _ _ opens (λ o a.
     priced d depth m p plan (state_of see started decided told rows running opens) reached items weight (address_of o.instance)
     (open_tree decided told o)
     (ap (option_map (open_tree decided told)) (found_own (λ (z : OpenAt Decision Verdict). z.instance) opens order o a)))

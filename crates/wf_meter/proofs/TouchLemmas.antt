@@ -1,17 +1,17 @@
 -- What an event leaves as it is: it gives rows to its own action and to those inside it that stand in no loop there, and changes no running
 -- leaf and no open container but its own.
-use Rattle.std.proofs.Common.{◌≡◌, ℕ, Bool, true, false, ◌&&◌, ◌||◌, cond, List, Some, None, nat_eq, refl, sym, ap, ◌∙◌}
-use Rattle.wf_layers.specs.Definition.{Need, Kind, Leaf, Scope, Choice, Foreach, Until, Branches, no_branch, branch, Graph, is_one, less_one, plain, plain_any, shows, kind_of}
-use Rattle.wf_layers.specs.Address.{Address, address, is_own, is_within, same_at}
-use Rattle.wf_layers.specs.Laws.{IsFresh}
+use Rattle.std.proofs.Common.{◌≡◌, ℕ, Bool, true, false, ◌&&◌, ◌||◌, cond, List, Some, None, nat_eq, refl, sym, ap, ◌∙◌, true≢false}
+use Rattle.wf_layers.specs.Definition.{Need, Kind, Leaf, Scope, Choice, Foreach, Until, Branches, no_branch, branch, Graph, has, has_any, holds, is_one, less_one, plain, plain_any, shows, kind_of}
+use Rattle.wf_layers.specs.Address.{Address, address, is_own, is_within, same_at, starts}
 use Rattle.wf_layers.specs.Machine.{State, Event, Start, Try, End, Skip, Open, Begin, Test, Close, IsThere, Step, or_else, passed_over, place_of, skip_others}
 use Rattle.wf_layers.specs.Meaning.{meaning}
 use Rattle.wf_layers.specs.Source.{Source}
-use Rattle.wf_layers.proofs.Basics.{unless}
+use Rattle.wf_layers.proofs.Basics.{and_in, or_first, or_second, unless}
 use Rattle.wf_layers.proofs.Changes.{enabled_there, opens_else, running_else}
 use Rattle.wf_kept.specs.Reached.{IsReached}
 use Rattle.wf_kept.proofs.Informed.{kinds_are_known}
 use Rattle.wf_kept.proofs.Known.{Known, known}
+use Rattle.wf_kept.proofs.Resumed.{inside_is_new}
 use Rattle.wf_asks.specs.Known.{is_among}
 use Rattle.wf_plan.specs.Plan.{PlanTree}
 use Rattle.wf_plan.specs.PlanOf.{IsPlanOf}
@@ -27,31 +27,33 @@ second_not true true false e = refl
 second_not true false false e = refl
 second_not false b c e = e
 
-module _ {Row Begun Decision Verdict : Type 0} (m : Source Row Begun Decision Verdict) (fresh : IsFresh m) where
-  -- in branches that aren't taken none gets a row but those that stand in no loop there
-  none_passed : (bs : Branches) (c : ℕ) (i : List ℕ) (x : Address) → (plain_any bs x.name && same_at i x.at) ≡ false
-      → skip_others m bs c i x ≡ None
-  none_passed no_branch c i x e = refl
-  none_passed (branch b rest) c i x e =
-      go (is_within b i x) (is_one c) (m.pinned x.name) (fresh x.name).0
+module _ {Row Begun Decision Verdict : Type 0} (m : Source Row Begun Decision Verdict) where
+  -- in branches that aren't taken, where none has its row kept, none gets one but those that stand in no loop there
+  none_passed : (bs : Branches) → ((q : ℕ) → has_any bs q ≡ true → m.pinned q ≡ false) → (c : ℕ) (i : List ℕ) (x : Address)
+      → (plain_any bs x.name && same_at i x.at) ≡ false → skip_others m bs c i x ≡ None
+  none_passed no_branch new c i x e = refl
+  none_passed (branch b rest) new c i x e =
+      go (is_within b i x) (is_one c) (m.pinned x.name)
+      (λ t. new x.name (or_first (has b x.name) (has_any rest x.name) (and_in (has b x.name) (starts i x.at) t).0))
       (plain b x.name && same_at i x.at) (first_not (plain b x.name) (plain_any rest x.name) (same_at i x.at) e)
-      (none_passed rest (less_one c) i x (second_not (plain b x.name) (plain_any rest x.name) (same_at i x.at) e))
+      (none_passed rest (λ q h. new q (or_second (has b q) (has_any rest q) h)) (less_one c) i x
+      (second_not (plain b x.name) (plain_any rest x.name) (same_at i x.at) e))
     where
-      go : (a o p : Bool) → p ≡ false → (q : Bool) → q ≡ false → skip_others m rest (less_one c) i x ≡ None
+      go : (a o p : Bool) → (a ≡ true → p ≡ false) → (q : Bool) → q ≡ false → skip_others m rest (less_one c) i x ≡ None
           → cond a (cond o None (cond p (m.old x) (cond q (Some m.skipped) None))) (skip_others m rest (less_one c) i x) ≡ None
       go true true p fr q off later = refl
-      go true false true fr q off later = cc (fr)
+      go true false true fr q off later = absurd (true≢false (fr refl))
       go true false false fr true off later = cc (off)
       go true false false fr false off later = refl
       go false o p fr q off later = later
 
-  none_over : (kind : Kind) (c : ℕ) (i : List ℕ) (x : Address) → (shows kind x.name && same_at i x.at) ≡ false
-      → passed_over m kind c i x ≡ None
-  none_over Leaf c i x e = refl
-  none_over (Scope g) c i x e = refl
-  none_over (Choice bs) c i x e = none_passed bs c i x e
-  none_over (Foreach pace g) c i x e = refl
-  none_over (Until most g) c i x e = refl
+  none_over : (kind : Kind) → ((q : ℕ) → holds kind q ≡ true → m.pinned q ≡ false) → (c : ℕ) (i : List ℕ) (x : Address)
+      → (shows kind x.name && same_at i x.at) ≡ false → passed_over m kind c i x ≡ None
+  none_over Leaf new c i x e = refl
+  none_over (Scope g) new c i x e = refl
+  none_over (Choice bs) new c i x e = none_passed bs new c i x e
+  none_over (Foreach pace g) new c i x e = refl
+  none_over (Until most g) new c i x e = refl
 
   module _ (d : Graph) (depth : ℕ → ℕ) (s : State Row Begun Decision Verdict) (reached : IsReached d depth m s) (p : PlanTree)
       (plan : IsPlanOf d p) where
@@ -95,7 +97,7 @@ module _ {Row Begun Decision Verdict : Type 0} (m : Source Row Begun Decision Ve
         (in_block n kind (known_kind n i after kind de.is_there) i x u)
     rows_else (Open n i) s' (after, kind, c, de, pass, to) x u =
         ap (λ (z : St). z.rows x) to
-        ∙ ap (λ o. or_else o (s.rows x)) (none_over kind (m.taken (m.decide (address n i) s.rows)) i x
+        ∙ ap (λ o. or_else o (s.rows x)) (none_over kind (λ q h. (inside_is_new d depth m s reached n i after kind de q h).0) (m.taken (m.decide (address n i) s.rows)) i x
         (second_not (nat_eq n x.name) (shows kind x.name) (same_at i x.at)
         (in_block n kind (known_kind n i after kind de.is_there) i x u)))
     rows_else (Begin n i) s' (after, kind, w, th, e, may, to) x u = ap (λ (z : St). z.rows x) to

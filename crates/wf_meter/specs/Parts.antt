@@ -1,10 +1,17 @@
 -- Sums over lists of a state, by what stands at some instances.
-use Rattle.std.specs.Prelude.{ℕ, ◌+◌, ◌*◌, List, [], ◌∷◌, Option, Some, None}
+use Rattle.std.specs.Prelude.{ℕ, ◌+◌, ◌*◌, Bool, false, true, List, [], ◌∷◌, Option, Some, None}
 use Rattle.wf_val.specs.Cut.{cut_u64}
 use Rattle.wf_layers.specs.Address.{Address, Table, address}
-use Rattle.wf_layers.specs.Machine.{Opening, Running}
+use Rattle.wf_layers.specs.Listed.{sum_of}
+use Rattle.wf_layers.specs.Machine.{Opening, Running, Event, Start, Try, End, Skip, Open, Begin, Test, Close}
+use Rattle.wf_asks.specs.Instances.{address_of}
+use Rattle.wf_asks.specs.Known.{open_tree}
+use Rattle.wf_asks.specs.declared.known.OpenAt.{OpenAt}
+use Rattle.wf_asks.specs.declared.known.RowAt.{RowAt}
 use Rattle.wf_plan.specs.Plan.{EntryTree, PlanTree, ShapeTree, leaf, scope, choice, foreach, until}
 use Rattle.wf_plan.specs.PlanSeen.{at_place}
+use Rattle.wf_tables.specs.Tables.{leaf_tree}
+use Rattle.wf_tables.specs.declared.entries.LeafAt.{LeafAt}
 use Rattle.wf_meter.specs.Cost.{leaf_cost}
 
 module _ {Y : Type 0} (w : Address → Y → ℕ) where
@@ -39,9 +46,20 @@ abbrev pub iterations_by : Option EntryTree → ℕ → ℕ → ℕ
 iterations_by None items next = next
 iterations_by (Some e) items next = shape_iterations e.shape items next
 
-abbrev pub open_cost_by : {Decision Verdict : Type 0} → PlanTree → (Decision → ℕ) → (Decision → ℕ) → Address → Opening Decision Verdict → ℕ
-open_cost_by p items weight x w =
-    64 * (1 + iterations_by (at_place p.entries x.name) (items w.decision) w.next) + weight w.decision
+-- for itself and for its iterations, without what it keeps of what it decided by
+abbrev pub turns_cost : {Decision Verdict : Type 0} → PlanTree → (Decision → ℕ) → Address → Opening Decision Verdict → ℕ
+turns_cost p items x w = 64 * (1 + iterations_by (at_place p.entries x.name) (items w.decision) w.next)
+
+-- Whether an event opens or closes a container. As any other event is taken, what open containers decided by stays as it was.
+abbrev pub decides : Event → Bool
+decides (Start n i) = false
+decides (Try n i) = false
+decides (End n i) = false
+decides (Skip n i) = false
+decides (Open n i) = true
+decides (Begin n i) = false
+decides (Test n i) = false
+decides (Close n i) = true
 
 -- ---- the parts that sums are kept of, each cut to the greatest u64
 
@@ -51,5 +69,26 @@ row_part cost x r = cut_u64 (cost r)
 abbrev pub leaf_part : {Begun : Type 0} → (Begun → ℕ) → Address → Running Begun → ℕ
 leaf_part weight x w = cut_u64 (leaf_cost weight w)
 
-abbrev pub open_part : {Decision Verdict : Type 0} → PlanTree → (Decision → ℕ) → (Decision → ℕ) → Address → Opening Decision Verdict → ℕ
-open_part p items weight x w = cut_u64 (open_cost_by p items weight x w)
+abbrev pub turns_part : {Decision Verdict : Type 0} → PlanTree → (Decision → ℕ) → Address → Opening Decision Verdict → ℕ
+turns_part p items x w = cut_u64 (turns_cost p items x w)
+
+-- what an open container keeps of what it decided by
+abbrev pub decision_part : {Decision Verdict : Type 0} → (Decision → ℕ) → Address → Opening Decision Verdict → ℕ
+decision_part weight x w = cut_u64 (weight w.decision)
+
+-- ---- the sums
+
+abbrev pub rows_sum : {Row Kept : Type 0} → (Row → Kept) → (Kept → ℕ) → List (RowAt Row) → ℕ
+rows_sum see cost rows = sum_of (λ r. row_part cost (address_of r.instance) (see r.row)) rows
+
+abbrev pub leaves_sum : {Begun Started : Type 0} → (Begun → Started) → (Started → ℕ) → List (LeafAt Begun) → ℕ
+leaves_sum started weight leaves = sum_of (λ l. leaf_part weight (address_of l.instance) (leaf_tree started l)) leaves
+
+abbrev pub turns_sum : {Decision Verdict Decided Told : Type 0} → (Decision → Decided) → (Verdict → Told) → PlanTree → (Decided → ℕ)
+    → List (OpenAt Decision Verdict) → ℕ
+turns_sum decided told p items opens = sum_of (λ o. turns_part p items (address_of o.instance) (open_tree decided told o)) opens
+
+abbrev pub decisions_sum : {Decision Verdict Decided Told : Type 0} → (Decision → Decided) → (Verdict → Told) → (Decided → ℕ)
+    → List (OpenAt Decision Verdict) → ℕ
+decisions_sum decided told weight opens =
+    sum_of (λ o. decision_part weight (address_of o.instance) (open_tree decided told o)) opens

@@ -3,24 +3,25 @@
 //! A state of the event machine costs what its rows cost, and for each running leaf and each open container a part of its own
 //! (`specs/Cost`). An engine that summed all of it in each turn would take a time that grows with the square of a run; so it keeps sums.
 //! The laws here say how the sums move as an event is taken: only by what stands at the event's own action and, of rows, at those inside it
-//! that stand in no loop there (`specs/Parts`), before the event and after it. And they say that sums of parts that are each cut to the
-//! greatest u64 give the whole, cut so.
+//! that stand in no loop there (`specs/Parts`), before the event and after it. What an open container keeps of what it decided by may be a
+//! list as long as the loop has iterations; so it has a sum of its own, which only moves where a container opens or closes. And the laws say
+//! that sums of parts that are each cut to the greatest u64 give the whole, cut so.
 //!
-//! A law is a public function with an empty body, whose contract it is. The other calls tell what stands at an action; when they are asked,
-//! and where the sums are kept, is the engine's part.
+//! A law is a public function with an empty body, whose contract it is. The other calls tell what stands at an action, and what lists come
+//! to that a run goes on from; when they are asked, and where the sums are kept, is the engine's part.
 #![tactic(auto)]
 
 mod parts;
+mod totals;
 
-ghost use Rattle.std.specs.Prelude.{◌*◌, ◌+◌, ◌-◌, ◌^◌, ◌≡◌, ◌≤◌, List, length, suc, ℕ};
+ghost use Rattle.std.specs.Prelude.{◌*◌, ◌+◌, ◌-◌, ◌^◌, ◌≡◌, ◌≤◌, List, false, length, option_map, suc, ℕ};
 ghost use Rattle.wf_val.specs.Cut.{cut_u64};
 ghost use Rattle.wf_lists.specs.KeyOrder.{IsInKeyOrder};
 ghost use Rattle.wf_layers.specs.Address.{Address};
 ghost use Rattle.wf_layers.specs.Bound.{TellsTurns};
 ghost use Rattle.wf_layers.specs.Definition.{Graph};
-ghost use Rattle.wf_layers.specs.Laws.{IsInstance};
 ghost use Rattle.wf_layers.specs.Listed.{sum_of};
-ghost use Rattle.wf_layers.specs.Machine.{Event, Opening, Running, Step, place_of};
+ghost use Rattle.wf_layers.specs.Machine.{Event, Opening, Running, State, Step, place_of};
 ghost use Rattle.wf_layers.specs.Meaning.{meaning};
 ghost use Rattle.wf_layers.specs.Source.{Source};
 ghost use Rattle.wf_kept.specs.Reached.{IsReached};
@@ -34,15 +35,16 @@ ghost use Rattle.wf_plan.specs.PlanOf.{IsPlanOf};
 ghost use Rattle.wf_tables.specs.Tables.{leaf_tree, running_in, state_of};
 ghost use Rattle.wf_tables.specs.declared.entries.LeafAt.{LeafAt};
 ghost use Rattle.wf_meter.specs.Cost.{opens_cost, rows_cost, running_cost};
-ghost use Rattle.wf_meter.specs.Parts.{block_of, block_worth, open_cost_by, worth};
+ghost use Rattle.wf_meter.specs.Parts.{block_of, block_worth, decides, turns_cost, worth};
 
-pub use parts::{block, block_part, leaf_part, open_part, total};
+pub use parts::{block, block_part, decides, decision_part, leaf_part, total, turns_part};
+pub use totals::{decisions_total, rows_total, turns_total};
 
 /// As an event is taken, the sum over the rows of a state moves by what its own action, and those inside it that stand in no loop there,
 /// had before and have now, whatever a row is worth.
 pub fn sums_of_rows_move<Row, Begun, Decision, Verdict, Kept, Started, Decided, Told>()
     ensures { (see : (Row → Kept)) (started : (Begun → Started)) (decided : (Decision → Decided)) (told : (Verdict → Told)) (d : Graph)
-        (depth : (ℕ → ℕ)) (m : Source Kept Started Decided Told) → IsInstance d m depth → (p : PlanTree) → IsPlanOf d p
+        (depth : (ℕ → ℕ)) (m : Source Kept Started Decided Told) → (p : PlanTree) → IsPlanOf d p
         → (rows rows' : List (RowAt Row)) (running running' : List (LeafAt Begun)) (opens opens' : List (OpenAt Decision Verdict))
         → IsReached d depth m (state_of see started decided told rows running opens) → (e : Event)
         → Step d m (state_of see started decided told rows running opens) e (state_of see started decided told rows' running' opens')
@@ -57,7 +59,7 @@ pub fn sums_of_rows_move<Row, Begun, Decision, Verdict, Kept, Started, Decided, 
 /// That over running leaves by what runs at the action itself, before and now.
 pub fn sums_of_leaves_move<Row, Begun, Decision, Verdict, Kept, Started, Decided, Told>()
     ensures { (see : (Row → Kept)) (started : (Begun → Started)) (decided : (Decision → Decided)) (told : (Verdict → Told)) (d : Graph)
-        (depth : (ℕ → ℕ)) (m : Source Kept Started Decided Told) → IsInstance d m depth → (p : PlanTree) → IsPlanOf d p
+        (depth : (ℕ → ℕ)) (m : Source Kept Started Decided Told) → (p : PlanTree) → IsPlanOf d p
         → (rows rows' : List (RowAt Row)) (running running' : List (LeafAt Begun)) (opens opens' : List (OpenAt Decision Verdict))
         → IsReached d depth m (state_of see started decided told rows running opens) → (e : Event)
         → Step d m (state_of see started decided told rows running opens) e (state_of see started decided told rows' running' opens')
@@ -72,7 +74,7 @@ pub fn sums_of_leaves_move<Row, Begun, Decision, Verdict, Kept, Started, Decided
 /// And that over open containers by what is open there.
 pub fn sums_of_containers_move<Row, Begun, Decision, Verdict, Kept, Started, Decided, Told>()
     ensures { (see : (Row → Kept)) (started : (Begun → Started)) (decided : (Decision → Decided)) (told : (Verdict → Told)) (d : Graph)
-        (depth : (ℕ → ℕ)) (m : Source Kept Started Decided Told) → IsInstance d m depth → (p : PlanTree) → IsPlanOf d p
+        (depth : (ℕ → ℕ)) (m : Source Kept Started Decided Told) → (p : PlanTree) → IsPlanOf d p
         → (rows rows' : List (RowAt Row)) (running running' : List (LeafAt Begun)) (opens opens' : List (OpenAt Decision Verdict))
         → IsReached d depth m (state_of see started decided told rows running opens) → (e : Event)
         → Step d m (state_of see started decided told rows running opens) e (state_of see started decided told rows' running' opens')
@@ -84,14 +86,23 @@ pub fn sums_of_containers_move<Row, Begun, Decision, Verdict, Kept, Started, Dec
         + worth w (place_of e) (opens_in decided told opens' (place_of e)) }
 {}
 
-/// A plan tells what the open containers of a state cost.
+/// What open containers decided by stays as an event is taken that neither opens nor closes one.
+pub fn decisions_stay<Row, Begun, Decision, Verdict>()
+    ensures { (d : Graph) (m : Source Row Begun Decision Verdict) (s : State Row Begun Decision Verdict) (e : Event)
+        (s' : State Row Begun Decision Verdict) → Step d m s e s' → decides e ≡ false → (x : Address)
+        → option_map (λ w. w.decision) (s'.opens x) ≡ option_map (λ w. w.decision) (s.opens x) }
+{}
+
+/// A plan tells what the open containers of a state cost, for themselves and for their iterations; beside it stands what they keep of what
+/// they decided by.
 pub fn plans_price_containers<Row, Begun, Decision, Verdict, Kept, Started, Decided, Told>()
     ensures { (see : (Row → Kept)) (started : (Begun → Started)) (decided : (Decision → Decided)) (told : (Verdict → Told)) (d : Graph)
         (depth : (ℕ → ℕ)) (m : Source Kept Started Decided Told) → (p : PlanTree) → IsPlanOf d p
         → (rows : List (RowAt Row)) (running : List (LeafAt Begun)) (opens : List (OpenAt Decision Verdict))
         → IsReached d depth m (state_of see started decided told rows running opens) → IsInKeyOrder instance_cmp (λ o. o.instance) opens
         → (items weight : (Decided → ℕ))
-        → sum_of (λ o. open_cost_by p items weight (address_of o.instance) (open_tree decided told o)) opens
+        → sum_of (λ o. turns_cost p items (address_of o.instance) (open_tree decided told o)) opens
+        + sum_of (λ o. weight (decided o.decision)) opens
         ≡ opens_cost decided told d items weight opens }
 {}
 

@@ -1,16 +1,18 @@
 //! What stands at an action, by its cost.
-ghost use Rattle.std.specs.Prelude.{◌≡◌, ◌<◌, ◌≤◌, ◌+◌, ◌-◌, ◌*◌, ◌^◌, ℕ, length};
+ghost use Rattle.std.specs.Prelude.{◌≡◌, ◌<◌, ◌≤◌, ◌+◌, ◌-◌, ◌*◌, ◌^◌, ℕ, List, length};
 ghost use Rattle.wf_val.specs.Cut.{cut_u64};
+ghost use Rattle.wf_layers.specs.Address.{address};
 ghost use Rattle.wf_asks.specs.Instances.{address_of, rows_in};
-ghost use Rattle.wf_asks.specs.Known.{opens_in};
+ghost use Rattle.wf_asks.specs.Known.{open_tree, opens_in};
 ghost use Rattle.wf_plan.specs.PlanSeen.{at_place, plan_tree, shape_tree};
-ghost use Rattle.wf_tables.specs.Tables.{running_in};
-ghost use Rattle.wf_meter.specs.Parts.{block_of, block_worth, iterations_by, leaf_part, open_part, row_part, shape_iterations, worth};
+ghost use Rattle.wf_tables.specs.Tables.{event_at, running_in};
+ghost use Rattle.wf_meter.specs.Parts.{block_of, block_worth, decides, decision_part, iterations_by, leaf_part, row_part};
+ghost use Rattle.wf_meter.specs.Parts.{shape_iterations, turns_part, worth};
 
 use wf_asks::{Acts, Instance, OpenAt, Opens, Rows};
 use wf_plan::{Plan, Shape};
 use wf_room::Roomy;
-use wf_tables::LeafAt;
+use wf_tables::{EventKind, LeafAt};
 
 // A part is at most the greatest u64, so a sum of as many as a list may have fits.
 fn cut(cost: u128) -> u128
@@ -98,22 +100,65 @@ fn iterations_at<A: Acts>(
     }
 }
 
-/// An open container, for itself, for iterations and by what it keeps of what it decided by.
-pub fn open_part<A: Acts>(
+// So many iterations, and the container itself.
+fn turned(count: u64) -> u128
+    ensures { result ≡ cut_u64 (64 * (1 + count)) }
+{
+    cut((count as u128 + 1) * 64)
+}
+
+// An open container that stands at an action of this number, for itself and for its iterations.
+pub(crate) fn turns_of<A: Acts>(
+    acts: &A,
+    plan: &Plan,
+    action: u32,
+    open: &OpenAt<A::Decision, A::Verdict>,
+) -> u128
+    ensures { result ≡ turns_part (plan_tree plan.now) (A.source acts.now).items (address action open.now.instance.at)
+        (open_tree A.decision_tree A.verdict_tree open.now) }
+{
+    turned(iterations_at(acts, plan, action, open))
+}
+
+/// An open container, for itself and for its iterations. What it keeps of what it decided by isn't looked at, however large that is.
+pub fn turns_part<A: Acts>(
     acts: &A,
     plan: &Plan,
     opens: &Opens<A::Decision, A::Verdict>,
     place: &Instance,
 ) -> u128
-    ensures part { result ≡ worth (open_part (plan_tree plan.now) (A.source acts.now).items (A.weight_of_decision acts.now))
-        (address_of place.now) (opens_in A.decision_tree A.verdict_tree opens.now.0 (address_of place.now)) }
+    ensures { result ≡ worth (turns_part (plan_tree plan.now) (A.source acts.now).items) (address_of place.now)
+        (opens_in A.decision_tree A.verdict_tree opens.now.0 (address_of place.now)) }
 {
     match opens.get(place) {
-        Some(found) => weighed(
-            iterations_at(acts, plan, place.action, found),
-            acts.decision_weight(&found.decision),
-        ),
+        Some(found) => turns_of(acts, plan, place.action, found),
         None => 0,
+    }
+}
+
+/// An open container by what it keeps of what it decided by.
+pub fn decision_part<A: Acts>(
+    acts: &A,
+    opens: &Opens<A::Decision, A::Verdict>,
+    place: &Instance,
+) -> u128
+    ensures { result ≡ worth (decision_part (A.weight_of_decision acts.now)) (address_of place.now)
+        (opens_in A.decision_tree A.verdict_tree opens.now.0 (address_of place.now)) }
+{
+    match opens.get(place) {
+        Some(found) => acts.decision_weight(&found.decision) as u128,
+        None => 0,
+    }
+}
+
+/// Whether an event of this kind opens or closes a container; any other leaves what containers decided by as it was.
+pub fn decides(kind: EventKind) -> bool
+    ensures { (n : ℕ) → (i : List ℕ) → result ≡ decides (event_at kind n i) }
+{
+    match kind {
+        EventKind::Open => true,
+        EventKind::Close => true,
+        _ => false,
     }
 }
 
@@ -128,8 +173,9 @@ pub fn block(plan: &Plan, action: u32) -> &[u32]
 }
 
 /// The greatest u64 where a sum of sums is above it.
-pub fn total(rows: u128, running: u128, opens: u128) -> u64
-    ensures { result ≡ cut_u64 (rows + running + opens) }
+pub fn total(rows: u128, running: u128, turns: u128, decisions: u128) -> u64
+    ensures { result ≡ cut_u64 (rows + running + (turns + decisions)) }
 {
+    let opens = turns.saturating_add(decisions);
     cut(rows.saturating_add(running).saturating_add(opens)) as u64
 }

@@ -1,31 +1,61 @@
 -- What the sums beside a state tell, and how they move.
-use Rattle.std.proofs.Common.{◌≡◌, ◌<◌, ◌≤◌, ℕ, ◌+◌, ◌-◌, ◌^◌, List, length, refl, sym, ap, ◌∙◌, arith}
+use Rattle.std.proofs.Common.{◌≡◌, ◌<◌, ◌≤◌, ℕ, ◌+◌, ◌-◌, ◌^◌, Bool, true, false, cond, List, Option, Some, None, option_map, length, refl, sym, subst, ap, ◌∙◌, arith}
 use Rattle.wf_val.specs.Cut.{cut_u64}
 use Rattle.wf_lists.specs.KeyOrder.{IsInKeyOrder}
 use Rattle.wf_layers.specs.Address.{Address}
 use Rattle.wf_layers.specs.Definition.{Graph}
-use Rattle.wf_layers.specs.Laws.{IsInstance}
 use Rattle.wf_layers.specs.Listed.{sum_of}
-use Rattle.wf_layers.specs.Machine.{Event, Step, place_of}
+use Rattle.wf_layers.specs.Machine.{Event, Opening, Step, place_of}
 use Rattle.wf_layers.specs.Source.{Source}
 use Rattle.wf_kept.specs.Reached.{IsReached}
-use Rattle.wf_asks.specs.Instances.{address_of, instance_cmp, rows_in}
+use Rattle.wf_asks.specs.Instances.{address_of, instance_cmp}
 use Rattle.wf_asks.specs.Known.{open_tree, opens_in}
 use Rattle.wf_asks.specs.declared.known.OpenAt.{OpenAt}
 use Rattle.wf_asks.specs.declared.known.RowAt.{RowAt}
 use Rattle.wf_plan.specs.Plan.{PlanTree}
 use Rattle.wf_plan.specs.PlanOf.{IsPlanOf}
-use Rattle.wf_tables.specs.Tables.{event_at, event_tree, leaf_tree, running_in, state_of}
+use Rattle.wf_tables.specs.Tables.{event_at, event_tree, leaf_tree, state_of}
 use Rattle.wf_tables.specs.declared.entries.EventAt.{EventAt}
 use Rattle.wf_tables.specs.declared.entries.EventKind.{EventKind}
 use Rattle.wf_tables.specs.declared.entries.EventKind.TheVariants.{Start, Try, End, Skip, Open, Begin, Test, Close}
 use Rattle.wf_tables.specs.declared.entries.LeafAt.{LeafAt}
 use Rattle.wf_meter.specs.Cost.{leaf_cost, opens_cost, rows_cost, running_cost}
-use Rattle.wf_meter.specs.Parts.{block_of, block_worth, leaf_part, open_cost_by, open_part, row_part, worth}
+use Rattle.wf_meter.specs.Parts.{decides, decision_part, leaf_part, row_part, turns_cost, turns_part, worth, decisions_sum, leaves_sum, rows_sum, turns_sum}
 use Rattle.wf_meter.proofs.CutLemmas.{cut_bound, cut_whole}
 use Rattle.wf_meter.proofs.MoveLemmas.{containers_move, containers_within, leaves_move, leaves_within, rows_move, rows_within}
 use Rattle.wf_meter.proofs.PriceLemmas.{all_priced}
-use Rattle.wf_metered.specs.Sums.{AreSums}
+use Rattle.wf_meter.proofs.StayLemmas.{decisions_stay}
+use Rattle.wf_metered.specs.Sums.{AreParts, AreSums, MayMove, moved}
+use Rattle.wf_metered.specs.declared.sums.Sums.{Sums}
+
+-- ---- numbers
+
+-- a sum from which a part goes and to which another comes
+exchanged : (sum before after old new gone come : ℕ) → sum ≡ old → before ≡ gone → after ≡ come → new + gone ≡ old + come → gone ≤ old
+    → (before ≤ sum) × (sum - before + after ≡ new)
+exchanged sum before after old new gone come s b a move within = (omega (arith, s, b, within), omega (arith, s, b, a, move, within))
+
+-- parts that are looked at only where they change
+where_asked : (weighs : Bool) (old new gone come : ℕ) → new + gone ≡ old + come → gone ≤ old → (weighs ≡ false → come ≡ gone)
+    → (new + cond weighs gone 0 ≡ old + cond weighs come 0) × (cond weighs gone 0 ≤ old)
+where_asked true old new gone come move within same = (move, within)
+where_asked false old new gone come move within same =
+    let stays = same refl in (omega (arith, move, stays), omega (arith, within))
+
+whole_of : (rows running turns decisions r l t w opens : ℕ) → cut_u64 rows ≡ cut_u64 r → cut_u64 running ≡ cut_u64 l
+    → cut_u64 turns ≡ cut_u64 t → cut_u64 decisions ≡ cut_u64 w → t + w ≡ opens
+    → cut_u64 (rows + running + (turns + decisions)) ≡ cut_u64 (r + l + opens)
+whole_of rows running turns decisions r l t w opens a b c e all = omega (arith, a, b, c, e, all)
+
+-- what is kept of a container by its decision alone
+abbrev weight_of : {Decision : Type 0} → (Decision → ℕ) → Option Decision → ℕ
+weight_of weight None = 0
+weight_of weight (Some c) = cut_u64 (weight c)
+
+by_decision : {Decision Verdict : Type 0} (weight : Decision → ℕ) (x : Address) (o : Option (Opening Decision Verdict))
+    → worth (decision_part weight) x o ≡ weight_of weight (option_map (λ (w : Opening Decision Verdict). w.decision) o)
+by_decision weight x None = refl
+by_decision weight x (Some w) = refl
 
 module _ {Row Begun Decision Verdict Kept Started Decided Told : Type 0} (see : Row → Kept) (started : Begun → Started)
     (decided : Decision → Decided) (told : Verdict → Told) (d : Graph) (depth : ℕ → ℕ) (m : Source Kept Started Decided Told)
@@ -35,117 +65,150 @@ module _ {Row Begun Decision Verdict Kept Started Decided Told : Type 0} (see : 
     (by_rows : IsInKeyOrder instance_cmp (λ (r : RowAt Row). r.instance) rows)
     (by_running : IsInKeyOrder instance_cmp (λ (l : LeafAt Begun). l.instance) running)
     (by_opens : IsInKeyOrder instance_cmp (λ (o : OpenAt Decision Verdict). o.instance) opens)
-    (of_rows of_running of_opens : ℕ)
-    (sums : AreSums see started decided told p cost begun_weight m.items weight rows running opens of_rows of_running of_opens) where
-  pub total_is : cut_u64 (of_rows + of_running + of_opens)
+    (sums : Sums) (are : AreSums see started decided told p cost begun_weight m.items weight rows running opens sums) where
+  pub total_is : cut_u64 (sums.rows + sums.running + (sums.turns + sums.decisions))
       ≡ cut_u64 (rows_cost see cost rows + running_cost started begun_weight running + opens_cost decided told d m.items weight opens)
   total_is =
-      let r = cut_whole (λ (x : RowAt Row). cost (see x.row)) rows in
-      let l = cut_whole (λ (x : LeafAt Begun). leaf_cost begun_weight (leaf_tree started x)) running in
-      let o = cut_whole (λ (x : OpenAt Decision Verdict). open_cost_by p m.items weight (address_of x.instance) (open_tree decided told x))
-      opens in
-      let by_kind = all_priced see started decided told d depth m p plan rows running opens reached by_opens m.items weight in
-      omega (arith, r, l, o, by_kind, sums.rows_are, sums.running_are, sums.opens_are)
+      whole_of sums.rows sums.running sums.turns sums.decisions
+      (rows_cost see cost rows) (running_cost started begun_weight running)
+      (sum_of (λ (o : OpenAt Decision Verdict). turns_cost p m.items (address_of o.instance) (open_tree decided told o)) opens)
+      (sum_of (λ (o : OpenAt Decision Verdict). weight (decided o.decision)) opens) (opens_cost decided told d m.items weight opens)
+      (ap cut_u64 are.rows_are ∙ cut_whole (λ (x : RowAt Row). cost (see x.row)) rows)
+      (ap cut_u64 are.running_are ∙ cut_whole (λ (x : LeafAt Begun). leaf_cost begun_weight (leaf_tree started x)) running)
+      (ap cut_u64 are.turns_are
+      ∙ cut_whole (λ (o : OpenAt Decision Verdict). turns_cost p m.items (address_of o.instance) (open_tree decided told o)) opens)
+      (ap cut_u64 are.decisions_are ∙ cut_whole (λ (o : OpenAt Decision Verdict). weight (decided o.decision)) opens)
+      (all_priced see started decided told d depth m p plan rows running opens reached by_opens m.items weight)
 
-  module _ (is : IsInstance d m depth) (rows' : List (RowAt Row)) (running' : List (LeafAt Begun))
-      (opens' : List (OpenAt Decision Verdict))
+  module _ (rows' : List (RowAt Row)) (running' : List (LeafAt Begun)) (opens' : List (OpenAt Decision Verdict))
       (by_rows' : IsInKeyOrder instance_cmp (λ (r : RowAt Row). r.instance) rows')
       (by_running' : IsInKeyOrder instance_cmp (λ (l : LeafAt Begun). l.instance) running')
       (by_opens' : IsInKeyOrder instance_cmp (λ (o : OpenAt Decision Verdict). o.instance) opens')
+      (few_rows : length rows' < 2 ^ 63) (few_running : length running' < 2 ^ 63) (few_opens : length opens' < 2 ^ 63)
       (e : Event)
       (st : Step d m (state_of see started decided told rows running opens) e (state_of see started decided told rows' running' opens'))
     where
-      pub rows_before : block_worth (row_part cost) (rows_in see rows) (place_of e).at (block_of p (place_of e).name) ≤ of_rows
-      rows_before =
-          let within = rows_within see started decided told d depth m is p plan rows rows' running running' opens opens' reached e st
-          by_rows (row_part cost) in
-          omega (arith, within, sums.rows_are)
-
       abbrev new_rows : ℕ
-      new_rows = sum_of (λ (r : RowAt Row). row_part cost (address_of r.instance) (see r.row)) rows'
+      new_rows = rows_sum see cost rows'
 
       abbrev new_running : ℕ
-      new_running = sum_of (λ (l : LeafAt Begun). leaf_part begun_weight (address_of l.instance) (leaf_tree started l)) running'
+      new_running = leaves_sum started begun_weight running'
 
-      abbrev new_opens : ℕ
-      new_opens =
-          sum_of (λ (o : OpenAt Decision Verdict). open_part p m.items weight (address_of o.instance) (open_tree decided told o)) opens'
+      abbrev new_turns : ℕ
+      new_turns = turns_sum decided told p m.items opens'
 
-      pub rows_after : of_rows - block_worth (row_part cost) (rows_in see rows) (place_of e).at (block_of p (place_of e).name)
-          + block_worth (row_part cost) (rows_in see rows') (place_of e).at (block_of p (place_of e).name) ≡ new_rows
-      rows_after =
-          let move = rows_move see started decided told d depth m is p plan rows rows' running running' opens opens' reached e st by_rows
-          by_rows' (row_part cost) in
-          omega (arith, move, rows_before, sums.rows_are)
+      abbrev new_decisions : ℕ
+      new_decisions = decisions_sum decided told weight opens'
 
-      pub rows_fit : length rows' < 2 ^ 63 → new_rows < 2 ^ 128
-      rows_fit few = let bound = cut_bound (λ (r : RowAt Row). cost (see r.row)) rows' in omega (arith, bound, few)
+      rows_fit : new_rows < 2 ^ 128
+      rows_fit = let bound = cut_bound (λ (r : RowAt Row). cost (see r.row)) rows' in omega (arith, bound, few_rows)
 
-      pub running_before : worth (leaf_part begun_weight) (place_of e) (running_in started running (place_of e)) ≤ of_running
-      running_before =
-          let within = leaves_within see started decided told d depth m is p plan rows rows' running running' opens opens' reached e st
-          by_running (leaf_part begun_weight) in
-          omega (arith, within, sums.running_are)
+      running_fit : new_running < 2 ^ 128
+      running_fit =
+          let bound = cut_bound (λ (l : LeafAt Begun). leaf_cost begun_weight (leaf_tree started l)) running' in
+          omega (arith, bound, few_running)
 
-      pub running_after : of_running - worth (leaf_part begun_weight) (place_of e) (running_in started running (place_of e))
-          + worth (leaf_part begun_weight) (place_of e) (running_in started running' (place_of e)) ≡ new_running
-      running_after =
-          let move = leaves_move see started decided told d depth m is p plan rows rows' running running' opens opens' reached e st
-          by_running by_running' (leaf_part begun_weight) in
-          omega (arith, move, running_before, sums.running_are)
-
-      pub running_fit : length running' < 2 ^ 63 → new_running < 2 ^ 128
-      running_fit few =
-          let bound = cut_bound (λ (l : LeafAt Begun). leaf_cost begun_weight (leaf_tree started l)) running' in omega (arith, bound, few)
-
-      pub opens_before : worth (open_part p m.items weight) (place_of e) (opens_in decided told opens (place_of e)) ≤ of_opens
-      opens_before =
-          let within = containers_within see started decided told d depth m is p plan rows rows' running running' opens opens' reached e st
-          by_opens (open_part p m.items weight) in
-          omega (arith, within, sums.opens_are)
-
-      pub opens_after : of_opens - worth (open_part p m.items weight) (place_of e) (opens_in decided told opens (place_of e))
-          + worth (open_part p m.items weight) (place_of e) (opens_in decided told opens' (place_of e)) ≡ new_opens
-      opens_after =
-          let move = containers_move see started decided told d depth m is p plan rows rows' running running' opens opens' reached e st
-          by_opens by_opens' (open_part p m.items weight) in
-          omega (arith, move, opens_before, sums.opens_are)
-
-      pub opens_fit : length opens' < 2 ^ 63 → new_opens < 2 ^ 128
-      opens_fit few =
+      turns_fit : new_turns < 2 ^ 128
+      turns_fit =
           let bound = cut_bound (λ (o : OpenAt Decision Verdict).
-          open_cost_by p m.items weight (address_of o.instance) (open_tree decided told o)) opens' in
-          omega (arith, bound, few)
+          turns_cost p m.items (address_of o.instance) (open_tree decided told o)) opens' in
+          omega (arith, bound, few_opens)
 
-      -- as they are read at the event's own address
-      pub rows_follow : (x : Address) → place_of e ≡ x → (b a : ℕ)
-          → b ≡ block_worth (row_part cost) (rows_in see rows) x.at (block_of p x.name)
-          → a ≡ block_worth (row_part cost) (rows_in see rows') x.at (block_of p x.name) → (b ≤ of_rows) × (of_rows - b + a ≡ new_rows)
-      rows_follow x here b a before after =
-          let old : b ≡ block_worth (row_part cost) (rows_in see rows) (place_of e).at (block_of p (place_of e).name) =
-          before ∙ ap (λ (y : Address). block_worth (row_part cost) (rows_in see rows) y.at (block_of p y.name)) (sym here) in
-          let new : a ≡ block_worth (row_part cost) (rows_in see rows') (place_of e).at (block_of p (place_of e).name) =
-          after ∙ ap (λ (y : Address). block_worth (row_part cost) (rows_in see rows') y.at (block_of p y.name)) (sym here) in
-          (omega (arith, rows_before, old), omega (arith, rows_after, old, new))
+      decisions_fit : new_decisions < 2 ^ 128
+      decisions_fit =
+          let bound = cut_bound (λ (o : OpenAt Decision Verdict). weight (decided o.decision)) opens' in omega (arith, bound, few_opens)
 
-      pub running_follow : (x : Address) → place_of e ≡ x → (b a : ℕ) → b ≡ worth (leaf_part begun_weight) x (running_in started running x)
-          → a ≡ worth (leaf_part begun_weight) x (running_in started running' x) → (b ≤ of_running) × (of_running - b + a ≡ new_running)
-      running_follow x here b a before after =
-          let old : b ≡ worth (leaf_part begun_weight) (place_of e) (running_in started running (place_of e)) =
-          before ∙ ap (λ (y : Address). worth (leaf_part begun_weight) y (running_in started running y)) (sym here) in
-          let new : a ≡ worth (leaf_part begun_weight) (place_of e) (running_in started running' (place_of e)) =
-          after ∙ ap (λ (y : Address). worth (leaf_part begun_weight) y (running_in started running' y)) (sym here) in
-          (omega (arith, running_before, old), omega (arith, running_after, old, new))
+      -- what a container at the event's own action decided by, where the event neither opens nor closes it
+      decision_stays : decides e ≡ false
+          → worth (decision_part weight) (place_of e) (opens_in decided told opens' (place_of e))
+          ≡ worth (decision_part weight) (place_of e) (opens_in decided told opens (place_of e))
+      decision_stays apart =
+          by_decision weight (place_of e) (opens_in decided told opens' (place_of e))
+          ∙ ap (weight_of weight)
+          (decisions_stay d m (state_of see started decided told rows running opens) e
+          (state_of see started decided told rows' running' opens') st apart (place_of e))
+          ∙ sym (by_decision weight (place_of e) (opens_in decided told opens (place_of e)))
 
-      pub opens_follow : (x : Address) → place_of e ≡ x → (b a : ℕ)
-          → b ≡ worth (open_part p m.items weight) x (opens_in decided told opens x)
-          → a ≡ worth (open_part p m.items weight) x (opens_in decided told opens' x) → (b ≤ of_opens) × (of_opens - b + a ≡ new_opens)
-      opens_follow x here b a before after =
-          let old : b ≡ worth (open_part p m.items weight) (place_of e) (opens_in decided told opens (place_of e)) =
-          before ∙ ap (λ (y : Address). worth (open_part p m.items weight) y (opens_in decided told opens y)) (sym here) in
-          let new : a ≡ worth (open_part p m.items weight) (place_of e) (opens_in decided told opens' (place_of e)) =
-          after ∙ ap (λ (y : Address). worth (open_part p m.items weight) y (opens_in decided told opens' y)) (sym here) in
-          (omega (arith, opens_before, old), omega (arith, opens_after, old, new))
+      module _ (before after : Sums)
+          (b : AreParts see started decided told p cost begun_weight m.items weight rows running opens (decides e) (place_of e) before)
+          (a : AreParts see started decided told p cost begun_weight m.items weight rows' running' opens' (decides e) (place_of e) after)
+        where
+          rows_follow : (before.rows ≤ sums.rows) × (sums.rows - before.rows + after.rows ≡ new_rows)
+          rows_follow =
+              exchanged sums.rows before.rows after.rows _ new_rows _ _ are.rows_are b.rows_are a.rows_are
+              (rows_move see started decided told d depth m p plan rows rows' running running' opens opens' reached e st by_rows
+              by_rows' (row_part cost))
+              (rows_within see started decided told d depth m p plan rows rows' running running' opens opens' reached e st by_rows
+              (row_part cost))
+
+          running_follow : (before.running ≤ sums.running) × (sums.running - before.running + after.running ≡ new_running)
+          running_follow =
+              exchanged sums.running before.running after.running _ new_running _ _ are.running_are b.running_are a.running_are
+              (leaves_move see started decided told d depth m p plan rows rows' running running' opens opens' reached e st by_running
+              by_running' (leaf_part begun_weight))
+              (leaves_within see started decided told d depth m p plan rows rows' running running' opens opens' reached e st by_running
+              (leaf_part begun_weight))
+
+          turns_follow : (before.turns ≤ sums.turns) × (sums.turns - before.turns + after.turns ≡ new_turns)
+          turns_follow =
+              exchanged sums.turns before.turns after.turns _ new_turns _ _ are.turns_are b.turns_are a.turns_are
+              (containers_move see started decided told d depth m p plan rows rows' running running' opens opens' reached e st by_opens
+              by_opens' (turns_part p m.items))
+              (containers_within see started decided told d depth m p plan rows rows' running running' opens opens' reached e st by_opens
+              (turns_part p m.items))
+
+          decisions_follow : (before.decisions ≤ sums.decisions)
+              × (sums.decisions - before.decisions + after.decisions ≡ new_decisions)
+          decisions_follow =
+              let asked = where_asked (decides e) _ new_decisions _ _
+              (containers_move see started decided told d depth m p plan rows rows' running running' opens opens' reached e st by_opens
+              by_opens' (decision_part weight))
+              (containers_within see started decided told d depth m p plan rows rows' running running' opens opens' reached e st by_opens
+              (decision_part weight))
+              decision_stays in
+              exchanged sums.decisions before.decisions after.decisions _ new_decisions _ _ are.decisions_are b.decisions_are
+              a.decisions_are asked.0 asked.1
+
+          may_move : MayMove sums before after
+          may_move = record {
+            rows_within = rows_follow.0;
+            running_within = running_follow.0;
+            turns_within = turns_follow.0;
+            decisions_within = decisions_follow.0;
+            rows_fit = subst (λ n. n < 2 ^ 128) (sym rows_follow.1) rows_fit;
+            running_fit = subst (λ n. n < 2 ^ 128) (sym running_follow.1) running_fit;
+            turns_fit = subst (λ n. n < 2 ^ 128) (sym turns_follow.1) turns_fit;
+            decisions_fit = subst (λ n. n < 2 ^ 128) (sym decisions_follow.1) decisions_fit;
+          }
+
+          follow : MayMove sums before after
+              × AreSums see started decided told p cost begun_weight m.items weight rows' running' opens' (moved sums before after)
+          follow = (
+            may_move,
+            record {
+              rows_are = rows_follow.1;
+              running_are = running_follow.1;
+              turns_are = turns_follow.1;
+              decisions_are = decisions_follow.1;
+            },
+          )
+
+      abbrev Before : Bool → Address → Sums → Type 0
+      Before = AreParts see started decided told p cost begun_weight m.items weight rows running opens
+
+      abbrev After : Bool → Address → Sums → Type 0
+      After = AreParts see started decided told p cost begun_weight m.items weight rows' running' opens'
+
+      -- SUMS THAT ARE MOVED by what stands at an event's action are those of the next state.
+      pub sums_follow : (weighs : Bool) → weighs ≡ decides e → (x : Address) → place_of e ≡ x → (before after : Sums)
+          → AreParts see started decided told p cost begun_weight m.items weight rows running opens weighs x before
+          → AreParts see started decided told p cost begun_weight m.items weight rows' running' opens' weighs x after
+          → MayMove sums before after
+          × AreSums see started decided told p cost begun_weight m.items weight rows' running' opens' (moved sums before after)
+      sums_follow weighs asked x here before after b a =
+          follow before after
+          (subst (λ w. Before w (place_of e) before) asked (subst (λ y. Before weighs y before) (sym here) b))
+          (subst (λ w. After w (place_of e) after) asked (subst (λ y. After weighs y after) (sym here) a))
 
 -- where an event is
 pub place_is : (e : EventAt) → place_of (event_tree e) ≡ address_of e.instance

@@ -1,20 +1,23 @@
 //! The state and its sums.
-ghost use Rattle.std.specs.Prelude.{◌≡◌, ◌<◌, ◌≤◌, ◌+◌, ◌-◌, ◌^◌, [], IfOk, OnOk, OnErr};
+ghost use Rattle.std.specs.Prelude.{◌≡◌, ◌+◌, [], ℕ, IfOk, OnOk, OnErr};
 ghost use Rattle.wf_val.specs.Cut.{cut_u64};
+ghost use Rattle.wf_layers.specs.Laws.{IsInstance};
 ghost use Rattle.wf_layers.specs.Machine.{fresh};
-ghost use Rattle.wf_asks.specs.Instances.{address_of, rows_in};
-ghost use Rattle.wf_asks.specs.Known.{opens_in};
+ghost use Rattle.wf_layers.specs.Variables.{IsLastWritten};
+ghost use Rattle.wf_kept.specs.Reached.{IsResumption};
+ghost use Rattle.wf_asks.specs.Instances.{rows_in};
+ghost use Rattle.wf_asks.specs.Known.{store_in, writer};
 ghost use Rattle.wf_plan.specs.PlanSeen.{plan_tree};
-ghost use Rattle.wf_tables.specs.Tables.{event_tree, running_in};
+ghost use Rattle.wf_tables.specs.Tables.{event_tree};
 ghost use Rattle.wf_meter.specs.Cost.{opens_cost, rows_cost, running_cost};
-ghost use Rattle.wf_meter.specs.Parts.{block_of, block_worth, leaf_part, open_part, row_part, worth};
 ghost use Rattle.wf_steps.specs.Kept.{Goes, IsEnabled, IsPlanned};
 ghost use Rattle.wf_steps.specs.Shown.{shown};
 
+use crate::sums::{Sums, moved, parts_at};
 use std::alloc::{AllocError, Global};
 use std::marker::Model;
-use wf_asks::{Acts, Instance, Rows, Store};
-use wf_meter::{block, block_part, leaf_part, open_part, total};
+use wf_asks::{Acts, Opens, Rows, Store};
+use wf_meter::{decides, decisions_total, rows_total, total, turns_total};
 use wf_plan::Plan;
 use wf_steps::State;
 use wf_tables::EventAt;
@@ -24,9 +27,7 @@ use wf_tables::EventAt;
 pub struct Metered<'a, A: Acts> {
     state: State<'a, A>,
     plan: &'a Plan,
-    rows: u128,
-    running: u128,
-    opens: u128,
+    sums: Sums,
 }
 
 impl<'a, A: Acts> Model for Metered<'a, A> {
@@ -46,65 +47,53 @@ impl<'a, A: Acts> Model for Metered<'a, A> {
     ghost invariant = { λ s. IsPlanned (A.graph s.state.0) (plan_tree s.plan.now)
         × AreSums A.row_tree A.begun_tree A.decision_tree A.verdict_tree (plan_tree s.plan.now) (A.cost_of_row s.state.0)
         (A.weight_of_begun s.state.0) (A.source s.state.0).items (A.weight_of_decision s.state.0) s.state.1.0 s.state.1.1.0
-        s.state.1.1.1.0 s.rows s.running s.opens };
-}
-
-// What stands at an action, and of rows, at those inside it that stand in no loop there.
-#[derive(Clone, Copy)]
-struct Parts {
-    rows: u128,
-    running: u128,
-    opens: u128,
-}
-
-fn parts_at<A: Acts>(
-    state: &State<'_, A>,
-    plan: &Plan,
-    place: &Instance,
-    probe: &mut Instance,
-) -> Parts
-    requires { probe.old.at ≡ place.now.at }
-    ensures rows { result.rows ≡ block_worth (row_part (A.cost_of_row state.now.0)) (rows_in A.row_tree state.now.1.0) place.now.at
-        (block_of (plan_tree plan.now) place.now.action) }
-    ensures running { result.running ≡ worth (leaf_part (A.weight_of_begun state.now.0)) (address_of place.now)
-        (running_in A.begun_tree state.now.1.1.0 (address_of place.now)) }
-    ensures opens { result.opens
-        ≡ worth (open_part (plan_tree plan.now) (A.source state.now.0).items (A.weight_of_decision state.now.0)) (address_of place.now)
-        (opens_in A.decision_tree A.verdict_tree state.now.1.1.1.0 (address_of place.now)) }
-    ensures at { probe.new.at ≡ probe.old.at }
-{
-    let acts = state.acts();
-    Parts {
-        rows: block_part(acts, state.rows(), block(plan, place.action), probe),
-        running: leaf_part(acts, state.leaves(), place),
-        opens: open_part(acts, plan, state.containers(), place),
-    }
-}
-
-fn moved(sum: u128, before: u128, after: u128) -> u128
-    requires within { before ≤ sum }
-    requires fits { sum - before + after < 2 ^ 128 }
-    ensures { result ≡ sum - before + after }
-{
-    sum - before + after
+        s.state.1.1.1.0 s.sums };
 }
 
 impl<'a, A: Acts> Metered<'a, A> {
     /// The state of a run that begins.
     pub fn fresh(alloc: Global, acts: &'a A, plan: &'a Plan) -> Result<Metered<'a, A>, AllocError>
-        requires { IsPlanned (A.graph acts.now) (plan_tree plan.now) }
+        requires planned { IsPlanned (A.graph acts.now) (plan_tree plan.now) }
+        requires instance { IsInstance (A.graph acts.now) (A.source acts.now) (A.depth acts.now) }
         ensures acts { IfOk result (λ s. s.0 ≡ acts.now) }
         ensures first { IfOk result (λ s. shown A.row_tree A.begun_tree A.decision_tree A.verdict_tree s.1 ≡ fresh) }
         ensures lists { IfOk result (λ s. s.1 ≡ ([], ([], ([], [])))) }
     {
         let state = State::fresh(alloc, acts, plan)?;
-        Ok(Metered {
-            state,
-            plan,
+        let sums = Sums {
             rows: 0,
             running: 0,
-            opens: 0,
-        })
+            turns: 0,
+            decisions: 0,
+        };
+        Ok(Metered { state, plan, sums })
+    }
+
+    /// The state from which an old record is gone on: its kept rows, the containers that are closed again, and the last writers of those.
+    pub fn resumed(
+        alloc: Global,
+        acts: &'a A,
+        plan: &'a Plan,
+        rows: Rows<A::Row>,
+        opens: Opens<A::Decision, A::Verdict>,
+        store: Store,
+    ) -> Result<Metered<'a, A>, AllocError>
+        requires planned { IsPlanned (A.graph acts.now) (plan_tree plan.now) }
+        requires resumed { IsResumption (A.graph acts.now) (A.depth acts.now) (A.source acts.now)
+            (shown A.row_tree A.begun_tree A.decision_tree A.verdict_tree (rows.0, ([], (opens.0, store.0)))) }
+        requires last { (v : ℕ) → IsLastWritten (A.graph acts.now) (A.source acts.now) (writer (A.writes acts.now) v)
+            (rows_in A.row_tree rows.0) (store_in store.0 v) }
+        ensures acts { IfOk result (λ s. s.0 ≡ acts.now) }
+        ensures lists { IfOk result (λ s. s.1 ≡ (rows.0, ([], (opens.0, store.0)))) }
+    {
+        let sums = Sums {
+            rows: rows_total(acts, &rows),
+            running: 0,
+            turns: turns_total(acts, plan, &opens),
+            decisions: decisions_total(acts, &opens),
+        };
+        let state = State::resumed(alloc, acts, plan, rows, opens, store)?;
+        Ok(Metered { state, plan, sums })
     }
 
     /// The state itself.
@@ -131,7 +120,12 @@ impl<'a, A: Acts> Metered<'a, A> {
     {
         self.state.is_reached();
         self.state.is_listed();
-        total(self.rows, self.running, self.opens)
+        total(
+            self.sums.rows,
+            self.sums.running,
+            self.sums.turns,
+            self.sums.decisions,
+        )
     }
 
     /// An event that may happen happens. Where memory runs out nothing has happened.
@@ -147,16 +141,14 @@ impl<'a, A: Acts> Metered<'a, A> {
         ensures err { OnErr result (self.new ≡ self.old) }
     {
         let mut probe = event.instance.copy(alloc)?;
-        self.state.acts().is_instance();
+        let weighs = decides(event.kind);
         self.state.is_reached();
         self.state.is_listed();
-        let before = parts_at(&self.state, self.plan, &event.instance, &mut probe);
+        let before = parts_at(&self.state, self.plan, &event.instance, weighs, &mut probe);
         self.state.step(alloc, event)?;
         self.state.is_listed();
-        let after = parts_at(&self.state, self.plan, &event.instance, &mut probe);
-        self.rows = moved(self.rows, before.rows, after.rows);
-        self.running = moved(self.running, before.running, after.running);
-        self.opens = moved(self.opens, before.opens, after.opens);
+        let after = parts_at(&self.state, self.plan, &event.instance, weighs, &mut probe);
+        self.sums = moved(self.sums, before, after);
         Ok(())
     }
 }

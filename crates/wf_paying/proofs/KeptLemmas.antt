@@ -21,12 +21,13 @@ use Rattle.wf_record.specs.Record.{Row}
 use Rattle.wf_record.specs.declared.status.Status.{Status}
 use Rattle.wf_connect.specs.Attempts.{ends, repeated, tried}
 use Rattle.wf_connect.specs.Last.{Answered, IsLast, answered_at, is_final, last_attempt}
-use Rattle.wf_opening.specs.Decisions.{held, branch_from, chosen_as, decided, each, each_as, held_as, taken, too_many}
+use Rattle.wf_opening.specs.Decisions.{nothing, held, branch_from, chosen_as, decided, each, each_as, held_as, taken, too_many}
 use Rattle.wf_opening.specs.Verdicts.{VerdictTree, astray, met}
 use Rattle.wf_done.specs.Leaf.{BegunTree, acted, calling, done_by, ended}
 use Rattle.wf_doing.specs.Weights.{begun_inputs, decided_by}
 use Rattle.wf_meant.specs.Containers.{any_terminated, case_status, close_branch, close_foreach, close_until, closed, closed_as, cut_short}
 use Rattle.wf_meant.specs.Containers.{iterations_value, last_status, status_of, unless_cut}
+use Rattle.wf_meant.specs.Resubmitted.{said}
 
 -- ---- of a leaf
 
@@ -128,3 +129,59 @@ closed_keeps (switch_else on cases default) l at n v known =
 closed_keeps (foreach items repetitions graph) l at n v known = foreach_keeps graph at known (tree_value l items 0).0
 closed_keeps (until test count fails graph) l at n v known =
     until_keeps fails (last_status graph at known n) (iterations_value n) v
+
+-- ---- of a container that is closed again, by what a row of it says
+
+-- one of which nothing is said keeps null
+pub nothing_keeps : (kind : KindTree) (at : List ℕ) (n : ℕ) (v : Option VerdictTree) (known : Table Row)
+    → (closed kind at nothing n v known).inputs ≡ null
+nothing_keeps (compose inputs) at n v known = refl
+nothing_keeps (connector inputs policy) at n v known = refl
+nothing_keeps (wait inputs) at n v known = refl
+nothing_keeps (response inputs) at n v known = refl
+nothing_keeps (terminate inputs) at n v known = refl
+nothing_keeps (select from item) at n v known = refl
+nothing_keeps (query from filter) at n v known = refl
+nothing_keeps (join from with') at n v known = refl
+nothing_keeps (parse_json content schema) at n v known = refl
+nothing_keeps (initialize variables) at n v known = refl
+nothing_keeps (set_to name value) at n v known = refl
+nothing_keeps (increment name value) at n v known = refl
+nothing_keeps (decrement name value) at n v known = refl
+nothing_keeps (append_array name value) at n v known = refl
+nothing_keeps (append_string name value) at n v known = refl
+nothing_keeps (scope graph) at n v known = unless_keeps at known (scope graph) null (status_of at known graph)
+nothing_keeps (branch test yes' no') at n v known = unless_keeps at known (branch test yes' no') null Status.Succeeded
+nothing_keeps (switch on cases) at n v known = unless_keeps at known (switch on cases) null Status.Succeeded
+nothing_keeps (switch_else on cases default) at n v known = unless_keeps at known (switch_else on cases default) null Status.Succeeded
+nothing_keeps (foreach items repetitions graph) at n v known = refl
+nothing_keeps (until test count fails graph) at n v known =
+    until_keeps fails (last_status graph at known n) (iterations_value n) v
+
+pub said_keeps : (kind : KindTree) (row : Row) (at : List ℕ) (n : ℕ) (v : Option VerdictTree) (known : Table Row)
+    → (closed kind at (said kind row) n v known).inputs ≡ decided_by (said kind row)
+said_keeps (compose inputs) row at n v known = refl
+said_keeps (connector inputs policy) row at n v known = refl
+said_keeps (wait inputs) row at n v known = refl
+said_keeps (response inputs) row at n v known = refl
+said_keeps (terminate inputs) row at n v known = refl
+said_keeps (select from item) row at n v known = refl
+said_keeps (query from filter) row at n v known = refl
+said_keeps (join from with') row at n v known = refl
+said_keeps (parse_json content schema) row at n v known = refl
+said_keeps (initialize variables) row at n v known = refl
+said_keeps (set_to name value) row at n v known = refl
+said_keeps (increment name value) row at n v known = refl
+said_keeps (decrement name value) row at n v known = refl
+said_keeps (append_array name value) row at n v known = refl
+said_keeps (append_string name value) row at n v known = refl
+said_keeps (scope graph) row at n v known = nothing_keeps (scope graph) at n v known
+said_keeps (branch test yes' no') row at n v known =
+    held_keeps at known (branch test yes' no') (λ k. if nat_eq k 1 then status_of at known yes' else status_of at known no') (Ok row.inputs)
+said_keeps (switch on cases) row at n v known =
+    chosen_keeps at known (switch on cases) (λ k. case_status at known cases k Status.Succeeded) cases (Ok row.inputs)
+said_keeps (switch_else on cases default) row at n v known =
+    chosen_keeps at known (switch_else on cases default) (λ k. case_status at known cases k (status_of at known default)) cases
+    (Ok row.inputs)
+said_keeps (foreach items repetitions graph) row at n v known = refl
+said_keeps (until test count fails graph) row at n v known = nothing_keeps (until test count fails graph) at n v known

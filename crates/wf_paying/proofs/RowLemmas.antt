@@ -1,4 +1,4 @@
--- The rows that a definition means, in one list.
+-- The rows that a source means, in one list.
 use Rattle.std.proofs.Common.{◌≡◌, ℕ, ◌+◌, List, [], ◌∷◌, map, sum_by, refl, ap, ◌∙◌, arith}
 use Rattle.std.proofs.lemmas.List.Sums.{sum_by-cons}
 use Rattle.wf_layers.specs.Address.{Table}
@@ -10,10 +10,9 @@ use Rattle.wf_record.specs.Record.{Row}
 use Rattle.wf_done.specs.DoneSeen.{begun_tree}
 use Rattle.wf_doing.specs.Weights.{begun_weight, decision_weight}
 use Rattle.wf_opening.specs.DecisionSeen.{decision_tree, verdict_tree}
-use Rattle.wf_environment.specs.Environment.{Environment}
+use Rattle.wf_meant.specs.Answering.{RowSource, table_by}
 use Rattle.wf_meant.specs.Points.{graph_of}
 use Rattle.wf_meant.specs.Record.{depth_of, rows_of}
-use Rattle.wf_meant.specs.Source.{source, table_of}
 use Rattle.wf_meant_laws.specs.Listed.{Entry, StandFor, told_as}
 use Rattle.wf_views.specs.Seen.{row_content}
 use Rattle.wf_priced.specs.Priced.{PaysItsParts, TellsRows}
@@ -37,19 +36,19 @@ told d f stand = (
 )
 
 -- THE LAW
-pub priced : (d : DefTree) (e : Environment) → Turns (graph_of d)
-    → PaysItsParts (source d e) (graph_of d) (table_of d e (depth_of d)) cost_of_row begun_weight decision_weight
-    → (entries : List Entry) → TellsRows (λ (x : Entry). x.0) (λ (x : Entry). x.1) (table_of d e (depth_of d)) entries
-    → rows_meant d e ≡ sum_of (λ (x : Entry). cost_of_row x.1) entries
-    → IsPriced row_content begun_tree decision_tree verdict_tree (graph_of d) (depth_of d) (source d e) cost_of_row begun_weight
-    decision_weight (rows_meant d e)
-priced d e turns pays entries tells meant = record {
+pub priced : (d : DefTree) (m : RowSource) → Turns (graph_of d)
+    → PaysItsParts m (graph_of d) (table_by d m) cost_of_row begun_weight decision_weight
+    → (entries : List Entry) → TellsRows (λ (x : Entry). x.0) (λ (x : Entry). x.1) (table_by d m) entries
+    → rows_meant d (table_by d m) ≡ sum_of (λ (x : Entry). cost_of_row x.1) entries
+    → IsPriced row_content begun_tree decision_tree verdict_tree (graph_of d) (depth_of d) m cost_of_row begun_weight decision_weight
+    (rows_meant d (table_by d m))
+priced d m turns pays entries tells meant = record {
   within = λ rows running opens reached by_rows by_running by_opens.
-      let most = within row_content begun_tree decision_tree verdict_tree (graph_of d) (depth_of d) (source d e) rows running opens reached
+      let most = within row_content begun_tree decision_tree verdict_tree (graph_of d) (depth_of d) m rows running opens reached
       by_rows by_running by_opens cost_of_row begun_weight decision_weight pays (λ (x : Entry). x.0) (λ (x : Entry). x.1) entries tells in
       omega (arith, meant, most);
   whole = λ rows running opens reached by_rows by_running by_opens over.
-      let all = all_there row_content begun_tree decision_tree verdict_tree (graph_of d) (depth_of d) (source d e) rows running opens
+      let all = all_there row_content begun_tree decision_tree verdict_tree (graph_of d) (depth_of d) m rows running opens
       reached by_rows by_running by_opens cost_of_row begun_weight decision_weight pays (λ (x : Entry). x.0) (λ (x : Entry). x.1) entries
       tells turns over in
       omega (arith, meant, all);

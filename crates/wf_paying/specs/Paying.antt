@@ -1,11 +1,10 @@
--- WHAT A DEFINITION COSTS: what its run was started with, and the rows that it means.
+-- WHAT A DEFINITION COSTS: what its run was started with, and the rows that it means, or that a resubmission means.
 use Rattle.std.specs.Prelude.{ℕ, ◌+◌, [], sum_by}
 use Rattle.wf_val.specs.ValueTree.{members, object, weight}
+use Rattle.wf_layers.specs.Address.{Table}
 use Rattle.wf_def.specs.DefTree.{DefTree}
 use Rattle.wf_doing.specs.Places.{named}
-use Rattle.wf_environment.specs.Environment.{Environment}
-use Rattle.wf_meant.specs.Record.{depth_of, rows_of}
-use Rattle.wf_meant.specs.Source.{table_of}
+use Rattle.wf_meant.specs.Record.{rows_of}
 use Rattle.wf_record.specs.Cost.{row_cost}
 use Rattle.wf_record.specs.Record.{Row}
 use Rattle.wf_trigger.specs.Starts.{StartTree}
@@ -18,6 +17,6 @@ cost_of_row row = row_cost (record { address = named [] []; row = row })
 abbrev pub first_cost : StartTree → ℕ
 first_cost start = 64 + weight start.trigger + weight (object (members start.parameters))
 
--- what all rows cost together that a definition means
-abbrev pub rows_meant : DefTree → Environment → ℕ
-rows_meant d e = sum_by row_cost (rows_of d (table_of d e (depth_of d)))
+-- what all rows of a table cost together
+abbrev pub rows_meant : DefTree → Table Row → ℕ
+rows_meant d known = sum_by row_cost (rows_of d known)

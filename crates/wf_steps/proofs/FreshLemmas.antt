@@ -39,7 +39,7 @@ all_waited A [] i = refl
 all_waited A (n ∷ ns) i = ap suc (all_waited A ns i)
 
 -- who is of a graph's own actions stands in it
-own_there : (g : Graph) (q : ℕ) → has_own g q ≡ true → (a : List Need) × (c : Kind) × In g q a c
+pub own_there : (g : Graph) (q : ℕ) → has_own g q ≡ true → (a : List Need) × (c : Kind) × In g q a c
 own_there done q h = absurd (true≢false (sym h))
 own_there (add n after kind rest) q h =
     ⊎_elim

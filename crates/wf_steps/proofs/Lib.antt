@@ -10,3 +10,5 @@ pub mod BeginLemmas
 pub mod FreshLemmas
 pub mod WholeLemmas
 pub mod SkipLemmas
+pub mod ResumedLemmas
+pub mod ResumedRows

@@ -1,10 +1,9 @@
 -- What an Open makes of what a state keeps.
 use Rattle.std.proofs.Common.{◌≡◌, ℕ, ◌-◌, Bool, true, false, cond, List, [], ◌∷◌, ◌++◌, Option, Some, None, option_map, length, map, refl, sym, ap, ◌∙◌, subst}
 use Rattle.wf_lists.specs.KeyOrder.{find_key, put_key}
-use Rattle.wf_layers.specs.Definition.{Kind, Graph, kind_of}
+use Rattle.wf_layers.specs.Definition.{Kind, Graph, holds, kind_of}
 use Rattle.wf_layers.specs.Address.{Address, Table, address, is_own}
 use Rattle.wf_layers.specs.Changes.{next_of}
-use Rattle.wf_layers.specs.Laws.{IsFresh}
 use Rattle.wf_layers.specs.Machine as machine
 use Rattle.wf_layers.specs.Machine.{IsContainer, Opening, State, opened, passed_over, place}
 use Rattle.wf_layers.specs.Meaning.{meaning}
@@ -17,6 +16,7 @@ use Rattle.wf_kept.specs.Event.{AreLeft}
 use Rattle.wf_kept.specs.Ready.{IsReady}
 use Rattle.wf_kept.proofs.Informed.{kinds_are_known}
 use Rattle.wf_kept.proofs.Known.{goes_on}
+use Rattle.wf_kept.proofs.Resumed.{decided_is_new, inside_is_new}
 use Rattle.wf_kept.proofs.Stored.{store_goes_on}
 use Rattle.wf_step_laws.proofs.Entered.{openings_are_counted}
 use Rattle.wf_asks.specs.Instances.{address_of, instance_cmp, instance_of, rows_in, table_of}
@@ -100,7 +100,14 @@ module _ {Row Begun Decision Verdict Kept Started Decided Told : Type 0} (see : 
         decided_holds_last d depth m s kept.reached writes order (store_in store) kept.stored at.action at.at may.1.0 kind may.1.3,
       )
 
-  module _ (fresh : IsFresh m) (p : PlanTree) (planned : IsPlanned d p) (decision : Decision)
+  -- it is asked anew, and nothing inside it is kept from an old record
+  pub decide_is_anew : m.reclosed at.action ≡ false
+  decide_is_anew = (decided_is_new d depth m s kept.reached at.action at.at may.1.0 kind may.1.3).1
+
+  inside_new : (q : ℕ) → holds kind q ≡ true → m.pinned q ≡ false
+  inside_new q h = (inside_is_new d depth m s kept.reached at.action at.at may.1.0 kind may.1.3 q h).0
+
+  module _ (p : PlanTree) (planned : IsPlanned d p) (decision : Decision)
       (gives : decided decision ≡ m.decide (address_of at) (rows_in see rows)) (taken : ℕ) (takes : taken ≡ m.taken (decided decision))
       (block : List (RowAt Row))
       (blocks : map (λ (r : RowAt Row). (r.instance, see r.row)) block ≡ skipped_at m.skipped at.at (passed_at p at.action taken)) where
@@ -129,7 +136,7 @@ module _ {Row Begun Decision Verdict Kept Started Decided Told : Type 0} (see : 
         ≡ place (passed_over m kind (m.taken (m.decide (address at.action at.at) s.rows)) at.at) s.rows
     rows_then =
         block_placed see m.skipped at.at block (passed_at p at.action taken) rows blocks
-        ∙ ap (λ (t : Table Kept). place t s.rows) (passed_is m fresh kind taken at.at (passed_at p at.action taken) passes_are)
+        ∙ ap (λ (t : Table Kept). place t s.rows) (passed_is m kind taken at.at (passed_at p at.action taken) inside_new passes_are)
         ∙ ap (λ c. place (passed_over m kind c at.at) s.rows) (takes ∙ ap m.taken gives)
 
     opens_at : (x : Address) → opens_in decided told then_opens x ≡ opened at.action at.at (Some w) s.opens x

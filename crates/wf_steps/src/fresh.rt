@@ -1,6 +1,7 @@
 //! The state of a run that begins.
 ghost use Rattle.std.specs.Prelude.{◌≡◌, ◌&&◌, [], IfOk, None, cond, length};
 ghost use Rattle.wf_layers.specs.Address.{Address, same_at};
+ghost use Rattle.wf_layers.specs.Laws.{IsInstance};
 ghost use Rattle.wf_layers.specs.Machine.{fresh};
 ghost use Rattle.wf_kept.specs.Counted.{nonzero};
 ghost use Rattle.wf_asks.specs.Instances.{rows_in};
@@ -58,12 +59,12 @@ fn first_ready<A: Acts>(
 impl<'a, A: Acts> State<'a, A> {
     /// The state of a run that begins: nothing has happened, and the definition's own graph is open.
     pub fn fresh(alloc: Global, acts: &'a A, plan: &'a Plan) -> Result<State<'a, A>, AllocError>
-        requires { IsPlanned (A.graph acts.now) (plan_tree plan.now) }
+        requires planned { IsPlanned (A.graph acts.now) (plan_tree plan.now) }
+        requires instance { IsInstance (A.graph acts.now) (A.source acts.now) (A.depth acts.now) }
         ensures acts { IfOk result (λ s. s.0 ≡ acts.now) }
         ensures first { IfOk result (λ s. shown A.row_tree A.begun_tree A.decision_tree A.verdict_tree s.1 ≡ fresh) }
         ensures lists { IfOk result (λ s. s.1 ≡ ([], ([], ([], [])))) }
     {
-        acts.is_instance();
         let rows = Roomy::new(alloc);
         let opens = Roomy::new(alloc);
         let store = Roomy::new(alloc);

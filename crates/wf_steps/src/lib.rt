@@ -4,6 +4,9 @@
 //! Beside the tables of the machine (rows, running leaves, open containers) a state keeps what `wf_kept` says an engine keeps: counts of
 //! what is waited for, and the ready set, so that a step looks at no more than it changes. Its type keeps that a run leads to it and that
 //! counts and ready set are those of its tables. What actions do is asked of `wf_asks::Acts`, and what may happen next of `wf_events`.
+//!
+//! A run begins from `State::fresh`, or goes on from an old record from `State::resumed`, of which rows and open containers are given and
+//! counts and ready set are made by one walk over the graphs that are open then (`specs/Resumed`). The steps know no difference.
 #![tactic(auto)]
 
 mod begin;
@@ -11,8 +14,11 @@ mod close;
 mod end;
 mod fresh;
 mod opening;
+mod recount;
+mod resumed;
 mod seen;
 mod skip;
+mod standing;
 mod state;
 mod step;
 

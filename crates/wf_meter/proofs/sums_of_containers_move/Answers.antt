@@ -2,5 +2,5 @@ use Rattle.wf_meter.proofs.MoveLemmas.{containers_move}
 use Rattle.wf_meter.proofs.sums_of_containers_move.Goals as goal
 
 pub returns : goal.returns
-returns g c = λ see started decided told d depth m is p plan rows rows' running running' opens opens' reached e st ox oy w.
-    containers_move see started decided told d depth m is p plan rows rows' running running' opens opens' reached e st ox oy w
+returns g c = λ see started decided told d depth m p plan rows rows' running running' opens opens' reached e st ox oy w.
+    containers_move see started decided told d depth m p plan rows rows' running running' opens opens' reached e st ox oy w

@@ -11,5 +11,5 @@ returns-clause-first g c =
     let k = c.args.acts.now in
     subst (λ s. IsFirst (a.graph k) (a.source k) (a.depth k) s) (sym c.in_ok-metered.ensures.first) (record {
       not_begun = record { running = λ x. refl; opens = λ x w found. absurd (none-some w found) };
-      none_taken = events_are_counted (a.graph k) (a.source k) (a.depth k) c.is_instance.ensures.sound [] fresh refl;
+      none_taken = events_are_counted (a.graph k) (a.source k) (a.depth k) c.requires.instance [] fresh refl;
     })

@@ -11,5 +11,5 @@ returns g c =
     rw (← c.self.view_is) (c.total.ensures
     ∙ total_is a.row_tree a.begun_tree a.decision_tree a.verdict_tree (a.graph t.0) (a.depth t.0) (a.source t.0)
     (plan_tree s.plan.now) c.self.invariant.0.plan (a.cost_of_row t.0) (a.weight_of_begun t.0) (a.weight_of_decision t.0) t.1.0 t.1.1.0
-    t.1.1.1.0 c.is_reached.ensures c.is_listed.ensures.rows c.is_listed.ensures.running c.is_listed.ensures.opens s.rows s.running s.opens
+    t.1.1.1.0 c.is_reached.ensures c.is_listed.ensures.rows c.is_listed.ensures.running c.is_listed.ensures.opens s.sums
     c.self.invariant.1)

@@ -1,5 +1,5 @@
 use Rattle.wf_plan.specs.PlanSeen.{plan_tree}
-use Rattle.wf_steps.proofs.OpeningLemmas.{decide_is_informed, open_goes, open_kept, open_last}
+use Rattle.wf_steps.proofs.OpeningLemmas.{decide_is_anew, decide_is_informed, open_goes, open_kept, open_last}
 use Rattle.wf_steps.proofs.state.State.open_up.Goals as goal
 
 pub decide-requires : goal.decide-requires
@@ -10,6 +10,9 @@ decide-requires g c =
       informed = decide_is_informed a.row_tree a.begun_tree a.decision_tree a.verdict_tree (a.graph s.acts.now) (a.source s.acts.now)
           (a.depth s.acts.now) (a.writes s.acts.now) s.rows.0 s.running.0 s.opens.0 s.store.0 s.waits.0 s.lacks.0 s.ready.0
           c.self.invariant.1 c.args.place.now may c.is_instance.ensures.ordered;
+      anew = decide_is_anew a.row_tree a.begun_tree a.decision_tree a.verdict_tree (a.graph s.acts.now) (a.source s.acts.now)
+          (a.depth s.acts.now) (a.writes s.acts.now) s.rows.0 s.running.0 s.opens.0 s.store.0 s.waits.0 s.lacks.0 s.ready.0
+          c.self.invariant.1 c.args.place.now may;
     }
 
 pub enter_graph-requires-clause-last : goal.enter_graph-requires-clause-last
@@ -19,7 +22,7 @@ enter_graph-requires-clause-last g c =
     let may = rw (← c.self.view_is) at c.requires in
     open_last a.row_tree a.begun_tree a.decision_tree a.verdict_tree (a.graph s.acts.now) (a.source s.acts.now)
     (a.depth s.acts.now) (a.writes s.acts.now) s.rows.0 s.running.0 s.opens.0 s.store.0 s.waits.0 s.lacks.0 s.ready.0
-    c.self.invariant.1 c.args.place.now may c.is_instance.ensures.sound.own (plan_tree s.plan.now) c.self.invariant.0
+    c.self.invariant.1 c.args.place.now may (plan_tree s.plan.now) c.self.invariant.0
     c.in_ok-decision.decision c.in_ok-decision.ensures c.taken-taken.result c.taken-taken.ensures c.in_ok-passed.passed.items
     c.in_ok-passed.ensures
     c.in_ok-entering.entering c.in_ok-entering.ensures c.put.new.self.0
@@ -48,7 +51,7 @@ invariant_of-self-2 g c =
       c.self.invariant.0,
       open_kept a.row_tree a.begun_tree a.decision_tree a.verdict_tree (a.graph s.acts.now) (a.source s.acts.now)
           (a.depth s.acts.now) (a.writes s.acts.now) s.rows.0 s.running.0 s.opens.0 s.store.0 s.waits.0 s.lacks.0 s.ready.0
-          c.self.invariant.1 c.args.place.now may c.is_instance.ensures.sound.own (plan_tree s.plan.now) c.self.invariant.0
+          c.self.invariant.1 c.args.place.now may (plan_tree s.plan.now) c.self.invariant.0
           c.in_ok-decision.decision c.in_ok-decision.ensures c.taken-taken.result c.taken-taken.ensures c.in_ok-passed.passed.items
           c.in_ok-passed.ensures
           c.in_ok-entering.entering c.in_ok-entering.ensures c.enter_graph.new.waits.0 c.enter_graph.new.lacks.0 c.enter_graph.new.ready.0
@@ -71,6 +74,6 @@ returns-clause-ok g c =
     )
     (open_goes a.row_tree a.begun_tree a.decision_tree a.verdict_tree (a.graph s.acts.now) (a.source s.acts.now)
     (a.depth s.acts.now) (a.writes s.acts.now) s.rows.0 s.running.0 s.opens.0 s.store.0 s.waits.0 s.lacks.0 s.ready.0
-    c.self.invariant.1 c.args.place.now may c.is_instance.ensures.sound.own (plan_tree s.plan.now) c.self.invariant.0
+    c.self.invariant.1 c.args.place.now may (plan_tree s.plan.now) c.self.invariant.0
     c.in_ok-decision.decision c.in_ok-decision.ensures c.taken-taken.result c.taken-taken.ensures c.in_ok-passed.passed.items
     c.in_ok-passed.ensures)

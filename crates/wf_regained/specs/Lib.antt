@@ -1,0 +1,4 @@
+pub mod First
+pub mod Kept
+pub mod Reopened
+pub mod Last
