@@ -12,8 +12,7 @@ use Rattle.wf_layers.specs.Source.{Source}
 use Rattle.wf_environment.specs.Environment.{Environment, fresh}
 use Rattle.wf_meant.specs.Points.{graph_of}
 use Rattle.wf_meant.specs.Record.{depth_of}
-use Rattle.wf_meant.specs.Source as meant
-use Rattle.wf_meant.specs.Source.{table_of}
+use Rattle.wf_meant.specs.Answering.{table_by}
 use Rattle.wf_opening.specs.Decisions.{DecisionTree}
 use Rattle.wf_opening.specs.Verdicts.{VerdictTree}
 use Rattle.wf_reading.specs.ReadSeen.{def_tree}
@@ -24,6 +23,7 @@ use Rattle.wf_trigger.specs.StartsSeen.{start_tree}
 use Rattle.wf_paying.specs.Paying as paying
 use Rattle.wf_paying.specs.Paying.{first_cost}
 use Rattle.wf_actions.specs.declared.actions.Actions.{Actions}
+use Rattle.wf_actions.specs.Origin.{source_by}
 
 abbrev pub definition_of : Actions → DefTree
 definition_of a = def_tree a.ready.now.checked.now.def
@@ -35,7 +35,7 @@ abbrev pub graph : Actions → Graph
 graph a = graph_of (definition_of a)
 
 abbrev pub source : Actions → Source Row BegunTree DecisionTree VerdictTree
-source a = meant.source (definition_of a) (environment_of a)
+source a = source_by (definition_of a) (start_tree a.start.now) (inputs_tree a.inputs.now) a.old
 
 abbrev pub depth : Actions → ℕ → ℕ
 depth a = depth_of (definition_of a)
@@ -48,11 +48,11 @@ abbrev pub fee : Actions → ℕ
 fee a = first_cost (start_tree a.start.now)
 
 abbrev pub rows_meant : Actions → ℕ
-rows_meant a = paying.rows_meant (definition_of a) (environment_of a)
+rows_meant a = paying.rows_meant (definition_of a) (table_by (definition_of a) (source a))
 
 -- What a trace tells of an event of a number, by the rows that the definition means.
 abbrev pub told : Actions → Event → ℕ → List ℕ
-told a = trace.told (definition_of a) (source a) (table_of (definition_of a) (environment_of a) (depth a))
+told a = trace.told (definition_of a) (source a) (table_by (definition_of a) (source a))
 
 -- What closing asks of the action of a number; of a number that no action has it asks nothing.
 abbrev pub inside_by : Option ActionTree → InsideTree

@@ -1,28 +1,28 @@
 //! What the actions of a run do, as the machine asks for it.
-ghost use Rattle.std.specs.Prelude.{◌≡◌, ◌<◌, ◌^◌, ℕ, IfOk, Some, nat_lt, option_map};
+ghost use Rattle.std.specs.Prelude.{◌≡◌, ◌<◌, ◌^◌, ℕ, IfOk, option_map};
 ghost use Rattle.wf_val.specs.Cut.{cut_u64};
-ghost use Rattle.wf_layers.specs.Definition.{Graph, Kind, Leaf, Until, kind_of};
-ghost use Rattle.wf_layers.specs.Machine.{IsContainer};
-ghost use Rattle.wf_asks.specs.Instances.{address_of, rows_in};
-ghost use Rattle.wf_asks.specs.Known.{HoldsLast, HoldsLastAtTest, IsInformed, IsInformedAtTest, is_among, opens_in, store_in};
+ghost use Rattle.wf_asks.specs.Instances.{address_of};
+ghost use Rattle.wf_asks.specs.Known.{is_among};
 ghost use Rattle.wf_asks.specs.Statuses.{status_tree};
-ghost use Rattle.wf_done.specs.DoneSeen.{begun_tree};
-ghost use Rattle.wf_opening.specs.DecisionSeen.{decision_tree, verdict_tree};
-ghost use Rattle.wf_views.specs.Seen.{row_content};
 ghost use Rattle.wf_closing.specs.Inside.{inside_of};
 ghost use Rattle.wf_closing.specs.InsideSeen.{inside_tree};
 ghost use Rattle.wf_def.specs.ActionSeen.{action_tree};
 ghost use Rattle.wf_def.specs.ActionTree.{action_kind};
 ghost use Rattle.wf_def.specs.AllActions.{numbered};
-ghost use Rattle.wf_reading.specs.ReadSeen.{def_tree};
-ghost use Rattle.wf_actions.specs.Meant.{inside_by};
-ghost use Rattle.wf_actions.specs.Meant.{depth, graph, source, writes};
 ghost use Rattle.wf_doing.specs.Seen as setting;
+ghost use Rattle.wf_done.specs.DoneSeen.{begun_tree};
+ghost use Rattle.wf_layers.specs.Definition.{Leaf};
+ghost use Rattle.wf_meant.specs.Rows as rows;
+ghost use Rattle.wf_opening.specs.DecisionSeen.{decision_tree, verdict_tree};
 ghost use Rattle.wf_paying.specs.Paying.{cost_of_row};
-ghost use Rattle.wf_actions.specs.Meant.{definition_of, environment_of};
+ghost use Rattle.wf_reading.specs.ReadSeen.{def_tree};
+ghost use Rattle.wf_views.specs.Seen.{row_content};
+ghost use Rattle.wf_actions.specs.Asked.{Informed, InformedInside, InformedToOpen, InformedToTest, IsAnew, Last, close_of, decision_of};
+ghost use Rattle.wf_actions.specs.Asked.{finish_of, halt_of, start_of, test_of, tries_another};
+ghost use Rattle.wf_actions.specs.Meant.{definition_of, environment_of, inside_by, source, writes};
 
 use crate::actions::Actions;
-use crate::opened::was_read;
+use crate::opened::{are_answered, was_read};
 use std::alloc::{AllocError, Global};
 use wf_asks::{Instance, Known};
 use wf_catalog::Places;
@@ -53,13 +53,11 @@ pub(crate) fn start(
     place: &Instance,
     known: Known<'_, Row, Decision, Verdict>,
 ) -> Result<Begun, AllocError>
-    requires informed { IsInformed (graph actions.now) (depth actions.now) (source actions.now) (rows_in row_content known.rows.now.0)
-        (opens_in decision_tree verdict_tree known.opens.now.0) place.now.action place.now.at Leaf }
-    requires last { HoldsLast (graph actions.now) (depth actions.now) (source actions.now) (writes actions.now)
-        (rows_in row_content known.rows.now.0) (store_in known.store.now.0) place.now.action Leaf place.now.at }
-    ensures { IfOk result (λ b. begun_tree b
-        ≡ (source actions.now).start (address_of place.now) (rows_in row_content known.entry.rows.now.0)) }
+    requires informed { Informed actions.now known.rows.now.0 known.opens.now.0 Leaf place.now }
+    requires last { Last actions.now known.rows.now.0 known.opens.now.0 known.store.now.0 Leaf place.now }
+    ensures { IfOk result (λ b. begun_tree b ≡ start_of actions.now place.now known.entry.rows.now.0) }
 {
+    are_answered(actions);
     was_read(&actions.ready.checked.def);
     actions.ready.checked.always_checked();
     wf_sight_laws::what_is_done_in_a_sight_is_meant();
@@ -68,8 +66,9 @@ pub(crate) fn start(
 
 /// Whether a running leaf that made so many attempts makes another.
 pub(crate) fn has_try(actions: &Actions<'_>, place: &Instance, begun: &Begun, made: u64) -> bool
-    ensures { result ≡ nat_lt made ((source actions.now).tries (address_of place.now) (begun_tree begun.now)) }
+    ensures { result ≡ tries_another actions.now place.now (begun_tree begun.now) made }
 {
+    are_answered(actions);
     wf_doing::what_is_done_is_the_source();
     wf_doing::makes_another(&setting(actions), place, begun, made)
 }
@@ -82,16 +81,25 @@ pub(crate) fn finish(
     begun: &Begun,
     known: Known<'_, Row, Decision, Verdict>,
 ) -> Result<Row, AllocError>
-    requires informed { IsInformed (graph actions.now) (depth actions.now) (source actions.now) (rows_in row_content known.rows.now.0)
-        (opens_in decision_tree verdict_tree known.opens.now.0) place.now.action place.now.at Leaf }
-    ensures { IfOk result (λ r. row_content r
-        ≡ (source actions.now).finish (address_of place.now) (begun_tree begun.now) (rows_in row_content known.entry.rows.now.0)) }
+    requires informed { Informed actions.now known.rows.now.0 known.opens.now.0 Leaf place.now }
+    ensures { IfOk result (λ r. row_content r ≡ finish_of actions.now place.now (begun_tree begun.now) known.entry.rows.now.0) }
 {
+    are_answered(actions);
     was_read(&actions.ready.checked.def);
     actions.ready.checked.always_checked();
     wf_sight_laws::what_is_done_in_a_sight_is_meant();
     wf_doing::what_is_done_is_the_source();
     wf_doing::finish(alloc, &setting(actions), place, begun, known)
+}
+
+// The row of an action of a number that doesn't run.
+fn skipped_row(alloc: Global, places: &Places<'_>, place: &Instance) -> Result<Row, AllocError>
+    ensures { IfOk result (λ r. row_content r ≡ rows.skipped) }
+{
+    match places.action(place.action) {
+        Some(action) => wf_doing::skipped(alloc, &action.name, &place.at),
+        None => wf_doing::skipped(alloc, &Text::of(alloc, "")?, &place.at),
+    }
 }
 
 /// The row of an action that doesn't run.
@@ -102,10 +110,8 @@ pub(crate) fn skipped(
 ) -> Result<Row, AllocError>
     ensures { IfOk result (λ r. row_content r ≡ (source actions.now).skipped) }
 {
-    match actions.ready.places.action(place.action) {
-        Some(action) => wf_doing::skipped(alloc, &action.name, &place.at),
-        None => wf_doing::skipped(alloc, &Text::of(alloc, "")?, &place.at),
-    }
+    are_answered(actions);
+    skipped_row(alloc, &actions.ready.places, place)
 }
 
 /// What a container finds as it opens.
@@ -115,14 +121,11 @@ pub(crate) fn decide(
     place: &Instance,
     known: Known<'_, Row, Decision, Verdict>,
 ) -> Result<Decision, AllocError>
-    requires informed { (kind : Kind) → kind_of (graph actions.now) place.now.action ≡ Some kind → IsContainer kind
-        × IsInformed (graph actions.now) (depth actions.now) (source actions.now) (rows_in row_content known.rows.now.0)
-        (opens_in decision_tree verdict_tree known.opens.now.0) place.now.action place.now.at kind
-        × HoldsLast (graph actions.now) (depth actions.now) (source actions.now) (writes actions.now)
-        (rows_in row_content known.rows.now.0) (store_in known.store.now.0) place.now.action kind place.now.at }
-    ensures { IfOk result (λ d. decision_tree d
-        ≡ (source actions.now).decide (address_of place.now) (rows_in row_content known.entry.rows.now.0)) }
+    requires informed { InformedToOpen actions.now known.rows.now.0 known.opens.now.0 known.store.now.0 place.now }
+    requires anew { IsAnew actions.now place.now }
+    ensures { IfOk result (λ d. decision_tree d ≡ decision_of actions.now place.now known.entry.rows.now.0) }
 {
+    are_answered(actions);
     was_read(&actions.ready.checked.def);
     actions.ready.checked.always_checked();
     wf_known_laws::numbers_stand_once();
@@ -138,14 +141,10 @@ pub(crate) fn test(
     index: u64,
     known: Known<'_, Row, Decision, Verdict>,
 ) -> Result<Verdict, AllocError>
-    requires informed { (most : ℕ) → (g : Graph) → kind_of (graph actions.now) place.now.action ≡ Some (Until most g)
-        → IsInformedAtTest (graph actions.now) (depth actions.now) (source actions.now) (rows_in row_content known.rows.now.0)
-        (opens_in decision_tree verdict_tree known.opens.now.0) place.now.action place.now.at most g index
-        × HoldsLastAtTest (graph actions.now) (depth actions.now) (source actions.now) (writes actions.now)
-        (rows_in row_content known.rows.now.0) (store_in known.store.now.0) place.now.action most g place.now.at index }
-    ensures { IfOk result (λ v. verdict_tree v
-        ≡ (source actions.now).test (address_of place.now) index (rows_in row_content known.entry.rows.now.0)) }
+    requires informed { InformedToTest actions.now known.rows.now.0 known.opens.now.0 known.store.now.0 place.now index }
+    ensures { IfOk result (λ v. verdict_tree v ≡ test_of actions.now place.now index known.entry.rows.now.0) }
 {
+    are_answered(actions);
     was_read(&actions.ready.checked.def);
     actions.ready.checked.always_checked();
     wf_known_laws::numbers_stand_once();
@@ -184,13 +183,12 @@ pub(crate) fn close(
     test: Option<&Verdict>,
     known: Known<'_, Row, Decision, Verdict>,
 ) -> Result<Row, AllocError>
-    requires informed { (kind : Kind) → kind_of (graph actions.now) place.now.action ≡ Some kind → IsContainer kind
-        × IsInformed (graph actions.now) (depth actions.now) (source actions.now) (rows_in row_content known.rows.now.0)
-        (opens_in decision_tree verdict_tree known.opens.now.0) place.now.action place.now.at kind }
+    requires informed { InformedInside actions.now known.rows.now.0 known.opens.now.0 place.now }
     requires count { count < 2 ^ 63 }
-    ensures { IfOk result (λ r. row_content r ≡ (source actions.now).close (address_of place.now) (decision_tree decision.now) count
-        (option_map (λ v. verdict_tree v.now) test.entry) (rows_in row_content known.entry.rows.now.0)) }
+    ensures { IfOk result (λ r. row_content r ≡ close_of actions.now place.now (decision_tree decision.now) count
+        (option_map (λ v. verdict_tree v.now) test.entry) known.entry.rows.now.0) }
 {
+    are_answered(actions);
     was_read(&actions.ready.checked.def);
     actions.ready.checked.always_checked();
     wf_known_laws::numbers_stand_once();
@@ -210,10 +208,35 @@ pub(crate) fn close(
     )
 }
 
+/// The number of the branch that a decision means, counted from 1; another number means none.
+pub(crate) fn taken(actions: &Actions<'_>, decision: &Decision) -> u64
+    ensures { result ≡ (source actions.now).taken (decision_tree decision.now) }
+{
+    are_answered(actions);
+    wf_opening::taken(decision)
+}
+
+/// How many iterations of a Foreach a decision means.
+pub(crate) fn items(actions: &Actions<'_>, decision: &Decision) -> u64
+    ensures { result ≡ (source actions.now).items (decision_tree decision.now) }
+{
+    are_answered(actions);
+    wf_opening::items_of(decision)
+}
+
+/// Whether a test ends its loop.
+pub(crate) fn ends(actions: &Actions<'_>, verdict: &Verdict) -> bool
+    ensures { result ≡ (source actions.now).ends (verdict_tree verdict.now) }
+{
+    are_answered(actions);
+    wf_opening::ends(verdict)
+}
+
 /// How an action ended whose row this is.
 pub(crate) fn status(actions: &Actions<'_>, row: &Row) -> Status
     ensures { status_tree result ≡ (source actions.now).status (row_content row.now) }
 {
+    are_answered(actions);
     row.status
 }
 
@@ -230,8 +253,9 @@ pub(crate) fn halts(
     place: &Instance,
     known: Known<'_, Row, Decision, Verdict>,
 ) -> bool
-    ensures { result ≡ (source actions.now).halts (address_of place.now) (rows_in row_content known.entry.rows.now.0) }
+    ensures { result ≡ halt_of actions.now place.now known.entry.rows.now.0 }
 {
+    are_answered(actions);
     wf_doing::terminates_halt();
     actions.ready.checked.always_checked();
     wf_doing::halts(

@@ -1,15 +1,22 @@
 //! The actions of a run.
 ghost use Rattle.std.specs.Prelude.{◌≡◌, map};
+ghost use Rattle.wf_answers.specs.InputsSeen.{inputs_tree};
 ghost use Rattle.wf_asks.specs.Instances.{address_of};
 ghost use Rattle.wf_def.specs.AllActions.{all_actions};
 ghost use Rattle.wf_doing.specs.Halting.{terminates_in};
+ghost use Rattle.wf_environment.specs.Environment.{fresh};
+ghost use Rattle.wf_meant_laws.specs.Answered.{IsAnswered};
 ghost use Rattle.wf_reading.specs.ReadSeen.{def_tree};
+ghost use Rattle.wf_trigger.specs.StartsSeen.{start_tree};
+ghost use Rattle.wf_actions.specs.Origin.{source_by};
 
 use wf_answers::Inputs;
 use wf_asks::Instance;
 use wf_catalog::Places;
+use wf_record::Record;
 use wf_rules::Checked;
 use wf_trigger::Start;
+use wf_val::Schedule;
 
 /// A definition that breaks no rule, made ready for its runs.
 #[derive(Drop)]
@@ -21,10 +28,20 @@ pub struct Ready<'a> {
     ghost halting: { map address_of terminates.items ≡ terminates_in (all_actions (def_tree checked.now.def).top) },
 }
 
-/// What the actions of a definition do in a run that isn't made from another.
+/// The record of an older run, and the numbers of the actions from which it is resubmitted.
+#[derive(Clone, Copy)]
+pub struct Old<'a> {
+    pub log: &'a Record,
+    pub from: &'a Schedule,
+}
+
+/// What the actions of a definition do in a run that begins so: in one of its own, or in one that is made from an older one.
 #[derive(Drop)]
 pub struct Actions<'a> {
     pub ready: &'a Ready<'a>,
     pub start: &'a Start,
     pub inputs: &'a Inputs,
+    pub(crate) old: Option<Old<'a>>,
+    ghost answered: { ∥ IsAnswered (def_tree ready.now.checked.now.def) (fresh (start_tree start.now) (inputs_tree inputs.now))
+        (source_by (def_tree ready.now.checked.now.def) (start_tree start.now) (inputs_tree inputs.now) old) ∥₁ },
 }

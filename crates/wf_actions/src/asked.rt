@@ -1,7 +1,7 @@
 //! The actions of a run as the machine asks them.
 use crate::acting;
 use crate::actions::Actions;
-use crate::laws::are_an_instance;
+use crate::laws::keep_order;
 use std::alloc::{AllocError, Global};
 use wf_asks::{Acts, Instance, Known};
 use wf_done::Begun;
@@ -9,7 +9,7 @@ use wf_opening::{Decision, Verdict};
 use wf_record::{Row, Status};
 
 impl<'a> Acts for Actions<'a> {
-    ghost use Rattle.std.specs.Prelude.{◌≡◌, ◌<◌, ◌^◌, ℕ, IfOk, Some, option_map};
+    ghost use Rattle.std.specs.Prelude.{◌≡◌, ◌<◌, ◌^◌, ℕ, IfOk, Some, false, option_map};
     ghost use Rattle.wf_asks.specs.Instances.{address_of, rows_in};
     ghost use Rattle.wf_asks.specs.Known.{HoldsLast, HoldsLastAtTest, IsInformed, IsInformedAtTest, opens_in, store_in};
     ghost use Rattle.wf_layers.specs.Definition.{Kind, Leaf, Until, kind_of};
@@ -68,7 +68,7 @@ impl<'a> Acts for Actions<'a> {
     ghost turns = { λ a. told.turns };
 
     fn is_instance(&self) {
-        are_an_instance(self);
+        keep_order(self);
     }
 
     fn start(
@@ -125,6 +125,7 @@ impl<'a> Acts for Actions<'a> {
             (opens_in decision_tree verdict_tree known.opens.now.0) place.now.action place.now.at kind
             × HoldsLast (meant.graph self.now) (meant.depth self.now) (meant.source self.now) (meant.writes self.now)
             (rows_in row_content known.rows.now.0) (store_in known.store.now.0) place.now.action kind place.now.at }
+        requires anew { (meant.source self.now).reclosed place.now.action ≡ false }
         ensures { IfOk result (λ d. decision_tree d
             ≡ (meant.source self.now).decide (address_of place.now) (rows_in row_content known.entry.rows.now.0)) }
     {
@@ -132,11 +133,11 @@ impl<'a> Acts for Actions<'a> {
     }
 
     fn taken(&self, decision: &Decision) -> u64 {
-        wf_opening::taken(decision)
+        acting::taken(self, decision)
     }
 
     fn items(&self, decision: &Decision) -> u64 {
-        wf_opening::items_of(decision)
+        acting::items(self, decision)
     }
 
     fn test(
@@ -159,7 +160,7 @@ impl<'a> Acts for Actions<'a> {
     }
 
     fn ends(&self, verdict: &Verdict) -> bool {
-        wf_opening::ends(verdict)
+        acting::ends(self, verdict)
     }
 
     fn close(

@@ -17,8 +17,10 @@ mod actions;
 mod asked;
 mod laws;
 mod opened;
+mod origin;
 mod pays;
 mod ready;
 mod tells;
 
 pub use actions::{Actions, Ready};
+pub use laws::runs_cost_no_more_than_their_records;

@@ -1,7 +1,10 @@
-//! That a definition was read.
+//! That a definition was read, and that the actions of a run answer.
+ghost use Rattle.wf_meant_laws.specs.Answered.{IsAnswered};
 ghost use Rattle.wf_reading.specs.Read.{IsRead};
 ghost use Rattle.wf_reading.specs.ReadSeen.{def_tree};
+ghost use Rattle.wf_actions.specs.Meant.{definition_of, environment_of, source};
 
+use crate::actions::Actions;
 use wf_reading::Def;
 
 /// Tells a caller that the definition was read, and does nothing.
@@ -9,4 +12,11 @@ pub(crate) fn was_read(def: &Def)
     ensures { IsRead (def_tree def.now) }
 {
     let _ = &def.top;
+}
+
+/// Tells a caller that the rows of the run come from the answers of its actions, and does nothing.
+pub(crate) fn are_answered(actions: &Actions<'_>)
+    ensures { IsAnswered (definition_of actions.now) (environment_of actions.now) (source actions.now) }
+{
+    let _ = &actions.ready;
 }

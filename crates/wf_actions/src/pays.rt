@@ -11,7 +11,7 @@ ghost use Rattle.wf_views.specs.Seen.{row_content};
 ghost use Rattle.wf_actions.specs.Meant.{depth, fee, graph, rows_meant, source};
 
 use crate::actions::Actions;
-use crate::opened::was_read;
+use crate::opened::{are_answered, was_read};
 use wf_making::Pays;
 use wf_trigger::Start;
 
@@ -32,6 +32,7 @@ fn are_paid(actions: &Actions<'_>)
     ensures priced { IsPriced row_content begun_tree decision_tree verdict_tree (graph actions.now) (depth actions.now)
         (source actions.now) cost_of_row begun_weight decision_weight (rows_meant actions.now) }
 {
+    are_answered(actions);
     was_read(&actions.ready.checked.def);
     actions.ready.checked.always_checked();
     wf_paying::runs_cost_what_rows_are_meant();

@@ -1,6 +1,7 @@
 //! What a trace tells of the actions of a run.
 use crate::acting::setting;
 use crate::actions::Actions;
+use crate::opened::are_answered;
 use std::alloc::{AllocError, Global};
 use wf_asks::OpenAt;
 use wf_done::Begun;
@@ -22,6 +23,7 @@ impl<'a> Tells for Actions<'a> {
         leaf: Option<&LeafAt<Begun>>,
         container: Option<&OpenAt<Decision, Verdict>>,
     ) -> Result<Vec<u8>, AllocError> {
+        are_answered(self);
         let line = wf_telling::tell(alloc, &setting(self), event, row, leaf, container)?;
         Ok(line)
     }

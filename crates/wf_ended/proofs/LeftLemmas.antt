@@ -1,14 +1,14 @@
--- What is left is what the definition means.
-use Rattle.std.proofs.Common.{◌≡◌, List, ap, sym, ◌∙◌}
+-- What is left is what the record of these rows has.
+use Rattle.std.proofs.Common.{◌≡◌, List, ap, ◌∙◌}
 use Rattle.wf_val.specs.ValueTree.{ValueTree}
-use Rattle.wf_layers.specs.Address.{Address, Table}
+use Rattle.wf_layers.specs.Address.{Table}
 use Rattle.wf_def.specs.DefTree.{DefTree}
 use Rattle.wf_answers.specs.Inputs.{InputsTree}
 use Rattle.wf_trigger.specs.Starts.{StartTree}
 use Rattle.wf_record.specs.Record.{Row, RowTree}
 use Rattle.wf_environment.specs.Ending.{Ending}
 use Rattle.wf_environment.specs.Environment.{Environment, fresh}
-use Rattle.wf_meant.specs.Record.{ending_of, first_succeeded, is_response, meaning, record_of_table, responded, rows_of}
+use Rattle.wf_meant.specs.Record.{ending_of, first_succeeded, is_response, record_of_table, responded, rows_of}
 use Rattle.wf_ended.specs.Left.{LeftTree, left_by, recorded}
 
 abbrev left_as : Ending → ValueTree → List RowTree → LeftTree
@@ -21,8 +21,6 @@ left_is d e known l ending response rows =
     ∙ ap (λ (v : ValueTree). left_as (ending_of d e known) v l.rows) response
     ∙ ap (λ (rs : List RowTree). left_as (ending_of d e known) (responded (first_succeeded d is_response known)) rs) rows
 
-pub left_is_meant : (d : DefTree) (s : StartTree) (i : InputsTree) (known t : Table Row) (l : LeftTree) → l ≡ left_by d (fresh s i) known
-    → ((y : Address) → known y ≡ t y) → meaning d (fresh s i) ≡ record_of_table d (fresh s i) t
-    → recorded d.digest s l ≡ meaning d (fresh s i)
-left_is_meant d s i known t l is same meant =
-    ap (recorded d.digest s) is ∙ ap (record_of_table d (fresh s i)) (λ k y. same y k) ∙ sym meant
+pub left_is_recorded : (d : DefTree) (s : StartTree) (i : InputsTree) (known : Table Row) (l : LeftTree) → l ≡ left_by d (fresh s i) known
+    → recorded d.digest s l ≡ record_of_table d (fresh s i) known
+left_is_recorded d s i known l is = ap (recorded d.digest s) is

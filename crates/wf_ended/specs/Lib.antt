@@ -1,3 +1,4 @@
+pub mod Ended
 pub mod First
 pub mod Left
 pub mod LeftSeen

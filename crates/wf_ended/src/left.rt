@@ -1,17 +1,13 @@
 //! What a run leaves.
-ghost use Rattle.std.specs.Prelude.{◌≡◌, ◌+◌, ℕ, [], IfOk, map, option_map, sum_by};
+ghost use Rattle.std.specs.Prelude.{◌≡◌, ◌+◌, [], IfOk, map, option_map, sum_by};
 ghost use Rattle.wf_answers.specs.InputsSeen.{inputs_tree};
-ghost use Rattle.wf_asks.specs.Known.{store_in, writer};
+ghost use Rattle.wf_asks.specs.Known.{store_in};
 ghost use Rattle.wf_def.specs.ActionTree.{actions_in};
-ghost use Rattle.wf_layers.specs.Address.{Address};
-ghost use Rattle.wf_layers.specs.Variables.{IsLastWritten};
 ghost use Rattle.wf_environment.specs.Ending.{section};
 ghost use Rattle.wf_environment.specs.Environment.{fresh, last_facts};
 ghost use Rattle.wf_meant.specs.Containers.{is_terminate};
 ghost use Rattle.wf_meant.specs.Look.{told_to_outputs};
-ghost use Rattle.wf_meant.specs.Points.{graph_of};
-ghost use Rattle.wf_meant.specs.Record.{depth_of, ending_of, first_succeeded, is_response, meaning, plain_ending, responded, rows_of};
-ghost use Rattle.wf_meant.specs.Source.{source, table_of};
+ghost use Rattle.wf_meant.specs.Record.{ending_of, first_succeeded, is_response, plain_ending, record_of_table, responded, rows_of};
 ghost use Rattle.wf_meant.specs.Status.{graph_status};
 ghost use Rattle.wf_reading.specs.ReadSeen.{def_tree};
 ghost use Rattle.wf_record.specs.Cost.{cost, row_cost};
@@ -20,10 +16,10 @@ ghost use Rattle.wf_meant_laws.specs.Tables.{AreWhole};
 ghost use Rattle.wf_sight.specs.Laws.{run_of};
 ghost use Rattle.wf_views.specs.Seen.{row_content, rows_seen};
 ghost use Rattle.wf_sight.specs.SightSeen.{run_tree};
-ghost use Rattle.wf_sight_laws.specs.Writes.{writes};
 ghost use Rattle.wf_trigger.specs.StartsSeen.{start_tree};
 ghost use Rattle.wf_val.specs.Seen.{tree};
 ghost use Rattle.wf_val.specs.ValueTree.{weight};
+ghost use Rattle.wf_ended.specs.Ended.{HasEnded};
 ghost use Rattle.wf_ended.specs.Found.{cost_of};
 ghost use Rattle.wf_ended.specs.Left.{left_by, recorded, first_cost};
 ghost use Rattle.wf_ended.specs.LeftSeen.{ending_tree, left_tree};
@@ -117,11 +113,8 @@ impl<'a> Ends<'a> {
         rows: &Rows<Row>,
         store: &Store,
     ) -> Result<Result<Fields, EvalFault>, AllocError>
-        requires whole { (y : Address) → rows_seen rows.now.0 y ≡ table_of (def_tree self.now.checked.now.def)
-            (fresh (start_tree start.now) (inputs_tree inputs.now)) (depth_of (def_tree self.now.checked.now.def)) y }
-        requires last { (v : ℕ) → IsLastWritten (graph_of (def_tree self.now.checked.now.def))
-            (source (def_tree self.now.checked.now.def) (fresh (start_tree start.now) (inputs_tree inputs.now)))
-            (writer (writes (def_tree self.now.checked.now.def)) v) (rows_seen rows.now.0) (store_in store.now.0 v) }
+        requires { HasEnded (def_tree self.now.checked.now.def) (fresh (start_tree start.now) (inputs_tree inputs.now))
+            (rows_seen rows.now.0) (store_in store.now.0) }
         ensures { IfOk result (λ s. s ≡ section (told_to_outputs (def_tree self.now.checked.now.def)
             (fresh (start_tree start.now) (inputs_tree inputs.now)) (rows_seen rows.now.0)) (def_tree self.now.checked.now.def).outputs) }
     {
@@ -148,11 +141,8 @@ impl<'a> Ends<'a> {
         rows: &Rows<Row>,
         store: &Store,
     ) -> Result<Ending, AllocError>
-        requires whole { (y : Address) → rows_seen rows.now.0 y ≡ table_of (def_tree self.now.checked.now.def)
-            (fresh (start_tree start.now) (inputs_tree inputs.now)) (depth_of (def_tree self.now.checked.now.def)) y }
-        requires last { (v : ℕ) → IsLastWritten (graph_of (def_tree self.now.checked.now.def))
-            (source (def_tree self.now.checked.now.def) (fresh (start_tree start.now) (inputs_tree inputs.now)))
-            (writer (writes (def_tree self.now.checked.now.def)) v) (rows_seen rows.now.0) (store_in store.now.0 v) }
+        requires { HasEnded (def_tree self.now.checked.now.def) (fresh (start_tree start.now) (inputs_tree inputs.now))
+            (rows_seen rows.now.0) (store_in store.now.0) }
         ensures { IfOk result (λ e. ending_tree e ≡ plain_ending (def_tree self.now.checked.now.def)
             (fresh (start_tree start.now) (inputs_tree inputs.now)) (rows_seen rows.now.0)) }
     {
@@ -171,11 +161,8 @@ impl<'a> Ends<'a> {
         rows: &Rows<Row>,
         store: &Store,
     ) -> Result<Ending, AllocError>
-        requires whole { (y : Address) → rows_seen rows.now.0 y ≡ table_of (def_tree self.now.checked.now.def)
-            (fresh (start_tree start.now) (inputs_tree inputs.now)) (depth_of (def_tree self.now.checked.now.def)) y }
-        requires last { (v : ℕ) → IsLastWritten (graph_of (def_tree self.now.checked.now.def))
-            (source (def_tree self.now.checked.now.def) (fresh (start_tree start.now) (inputs_tree inputs.now)))
-            (writer (writes (def_tree self.now.checked.now.def)) v) (rows_seen rows.now.0) (store_in store.now.0 v) }
+        requires { HasEnded (def_tree self.now.checked.now.def) (fresh (start_tree start.now) (inputs_tree inputs.now))
+            (rows_seen rows.now.0) (store_in store.now.0) }
         ensures { IfOk result (λ e. ending_tree e ≡ ending_of (def_tree self.now.checked.now.def)
             (fresh (start_tree start.now) (inputs_tree inputs.now)) (rows_seen rows.now.0)) }
     {
@@ -236,8 +223,8 @@ impl<'a> Ends<'a> {
         Ok(there)
     }
 
-    /// What a run leaves that was started so, once nothing may happen any more: from its rows, which are those that the definition means,
-    /// and from who wrote last to each variable.
+    /// What a run leaves that was started so, once nothing may happen any more, whether it was started anew or made from an older one: from
+    /// its rows, and from who wrote last to each variable.
     pub fn left(
         &self,
         alloc: Global,
@@ -246,21 +233,15 @@ impl<'a> Ends<'a> {
         rows: Rows<Row>,
         store: &Store,
     ) -> Result<Left, AllocError>
-        requires whole { (y : Address) → rows_seen rows.0 y ≡ table_of (def_tree self.now.checked.now.def)
-            (fresh (start_tree start.now) (inputs_tree inputs.now)) (depth_of (def_tree self.now.checked.now.def)) y }
-        requires last { (v : ℕ) → IsLastWritten (graph_of (def_tree self.now.checked.now.def))
-            (source (def_tree self.now.checked.now.def) (fresh (start_tree start.now) (inputs_tree inputs.now)))
-            (writer (writes (def_tree self.now.checked.now.def)) v) (rows_seen rows.0) (store_in store.now.0 v) }
+        requires { HasEnded (def_tree self.now.checked.now.def) (fresh (start_tree start.now) (inputs_tree inputs.now))
+            (rows_seen rows.0) (store_in store.now.0) }
         ensures left { IfOk result (λ l. left_tree l ≡ left_by (def_tree self.now.checked.now.def)
             (fresh (start_tree start.now) (inputs_tree inputs.now)) (rows_seen rows.0)) }
-        ensures meant { IfOk result (λ l. recorded (def_tree self.now.checked.now.def).digest (start_tree start.now) (left_tree l)
-            ≡ meaning (def_tree self.now.checked.now.def) (fresh (start_tree start.now) (inputs_tree inputs.now))) }
+        ensures record { IfOk result (λ l. recorded (def_tree self.now.checked.now.def).digest (start_tree start.now) (left_tree l)
+            ≡ record_of_table (def_tree self.now.checked.now.def) (fresh (start_tree start.now) (inputs_tree inputs.now))
+            (rows_seen rows.0)) }
         ensures cost { IfOk result (λ l. sum_by row_cost (left_tree l).rows ≡ sum_by cost_of rows.0) }
     {
-        was_read(&self.checked.def);
-        self.checked.always_checked();
-        wf_meant_laws::meant_rows_are_whole();
-        wf_meant::a_record_is_of_the_table();
         let ending = self.ending(alloc, start, inputs, &rows, store)?;
         let response = self.response(alloc, &rows)?;
         let there = self.rows(alloc, rows)?;

@@ -4,14 +4,21 @@
 //! schedule, counts its events and how many leaves were running at a time at most, keeps a line for each event where that is asked for, and
 //! makes the record that the run leaves. It gives up where the run costs too much, and says so exactly then.
 //!
+//! `resubmit` makes one from the record of an older run, in the same way: it begins with the rows that are kept, and with what is closed
+//! again.
+//!
 //! What a run is, without any state that the machine keeps, is said by `wf_told`: one list of events, by which all is told but the record,
-//! which is the definition's meaning whatever the events are.
+//! which is the definition's meaning, or what the resubmission means, whatever the events are.
 //!
 //! What actions do is said below (`wf_actions`), and so is how the machine keeps what has happened (`wf_making`). What a `Runnable` is made of
 //! is handed on, so that who makes runs names no crate below this one for it.
 #![tactic(auto)]
 
+mod again;
+mod driven;
+mod fresh;
 mod made;
+mod opened;
 mod run;
 mod runnable;
 

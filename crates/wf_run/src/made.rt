@@ -1,15 +1,5 @@
 //! Runs whose events have happened.
-ghost use Rattle.std.specs.Prelude.{◌≡◌, ℕ};
-ghost use Rattle.wf_asks.specs.Known.{store_in, writer};
-ghost use Rattle.wf_layers.specs.Address.{Address};
-ghost use Rattle.wf_layers.specs.Machine.{IsOver};
-ghost use Rattle.wf_layers.specs.Meaning.{meaning};
-ghost use Rattle.wf_layers.specs.Variables.{IsLastWritten};
-ghost use Rattle.wf_done.specs.DoneSeen.{begun_tree};
-ghost use Rattle.wf_opening.specs.DecisionSeen.{decision_tree, verdict_tree};
-ghost use Rattle.wf_views.specs.Seen.{row_content, rows_seen};
-ghost use Rattle.wf_steps.specs.Shown.{shown};
-ghost use Rattle.wf_actions.specs.Meant.{depth, graph, source, writes};
+ghost use Rattle.wf_run.specs.Made.{AreLeft, IsAtLast};
 
 use wf_actions::Actions;
 use wf_asks::{Rows, Store};
@@ -27,13 +17,10 @@ pub(crate) struct Made {
     pub trace: Vec<u8>,
 }
 
-/// The rows and the last writers of a run in which nothing may happen any more. The rows are those that the definition means.
+/// The rows and the last writers of a run in which nothing may happen any more.
 pub(crate) fn given_up(making: Making<'_, Actions<'_>>) -> (Rows<Row>, Store)
-    requires { IsOver (graph making.0) (source making.0) (shown row_content begun_tree decision_tree verdict_tree making.1) }
-    ensures whole { (y : Address) → rows_seen result.0.0 y
-        ≡ meaning (source making.entry.0) (depth making.entry.0) (graph making.entry.0) y }
-    ensures last { (v : ℕ) → IsLastWritten (graph making.entry.0) (source making.entry.0) (writer (writes making.entry.0) v)
-        (rows_seen result.0.0) (store_in result.1.0 v) }
+    requires { IsAtLast making.0 making.1 }
+    ensures { AreLeft making.entry.0 result.0.0 result.1.0 }
 {
     let kept = making.state();
     kept.is_whole();

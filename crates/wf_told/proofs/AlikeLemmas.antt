@@ -14,10 +14,10 @@ use Rattle.wf_meant.specs.Source.{source}
 use Rattle.wf_told.specs.Under.{IsRunUnder, lines_of, Told}
 
 -- what is told has four parts
-abbrev told : List ℕ → RecordTree → ℕ → ℕ → Told
+abbrev pub told : List ℕ → RecordTree → ℕ → ℕ → Told
 told events left steps most = record { events = events; left = left; steps = steps; peak = most }
 
-same_parts : (a a' : List ℕ) (b b' : RecordTree) (c c' n n' : ℕ) → a ≡ a' → b ≡ b' → c ≡ c' → n ≡ n'
+pub same_parts : (a a' : List ℕ) (b b' : RecordTree) (c c' n n' : ℕ) → a ≡ a' → b ≡ b' → c ≡ c' → n ≡ n'
     → told a b c n ≡ told a' b' c' n'
 same_parts a a' b b' c c' n n' events left steps most = rw (events, left, steps, most) refl
 

@@ -1,11 +1,12 @@
 -- Runs of a definition without actions: they have no event, whatever the schedule.
-use Rattle.std.proofs.Common.{◌≡◌, ℕ, Bool, true, false, List, [], ◌∷◌, Ok, cond, length, map}
+use Rattle.std.proofs.Common.{◌≡◌, ℕ, Bool, true, false, List, [], ◌∷◌, None, Ok, cond, length, map}
 use Rattle.std.proofs.Common.{refl, sym, ap, ◌∙◌, subst}
 use Rattle.std.proofs.lemmas.Option.{none-some}
 use Rattle.wf_answers.specs.Inputs.{InputsTree}
 use Rattle.wf_def.specs.DefTree.{DefTree}
 use Rattle.wf_environment.specs.Environment.{Environment, fresh}
 use Rattle.wf_layers.specs.Definition.{Graph, Kind, Need, done}
+use Rattle.wf_layers.specs.Address.{Table}
 use Rattle.wf_layers.specs.Machine as machine
 use Rattle.wf_layers.specs.Machine.{Event, Start, Try, End, Skip, Open, Begin, Test, Close, In, IsOpen, IsOver, IsThere, State, Step}
 use Rattle.wf_layers.specs.Source.{Source}
@@ -23,9 +24,10 @@ use Rattle.wf_told.specs.Text.{text_of}
 use Rattle.wf_told.proofs.RunLemmas.{same-runs, started}
 use Rattle.wf_told.proofs.WrittenLemmas.{records-told}
 
-module _ {Row Begun Decision Verdict : Type 0} (m : Source Row Begun Decision Verdict) where
+module _ {Row Begun Decision Verdict : Type 0} (m : Source Row Begun Decision Verdict) (rows : Table Row) where
+  -- a state with rows, in which nothing runs and no container is open: a run begins with one of no rows
   abbrev begun : State Row Begun Decision Verdict
-  begun = machine.fresh
+  begun = record { rows = rows; running = λ x. None; opens = λ x. None }
 
   -- only the empty graph at the top is open, and no action stands in it
   only_top : (g : Graph) (i : List ℕ) → IsOpen m.taken done begun.opens g i → g ≡ done
@@ -52,19 +54,26 @@ module _ {Row Begun Decision Verdict : Type 0} (m : Source Row Begun Decision Ve
   nothing_may (Test n i) s' (after, kind, w, j, there', is, may, to) = none-some w is
   nothing_may (Close n i) s' (after, kind, w, there', is, may, to) = none-some w is
 
-  no_event : (schedule : List ℕ) (es : List Event) → IsRun done m schedule begun es → es ≡ []
+  pub no_event : (schedule : List ℕ) (es : List Event) → IsRun done m schedule begun es → es ≡ []
   no_event schedule es run = go es run.turns
     where
       go : (es : List Event) → Turns done m schedule 0 begun es run.last → es ≡ []
       go [] turns = refl
       go (e ∷ es) (mid, t, later) = absurd (nothing_may e mid t.goes)
 
-  idle_turns : (schedule : List ℕ) → IsRun done m schedule begun []
+  pub idle_turns : (schedule : List ℕ) → IsRun done m schedule begun []
   idle_turns schedule = record { last = begun; turns = refl; over = nothing_may }
 
 -- what is told of a run that left this record and had no event
 abbrev pub idle : RecordTree → Told
 idle r = record { events = []; left = r; steps = 0; peak = 0 }
+
+pub told_by : (t : Told) (r : RecordTree) → t.events ≡ [] → t.left ≡ r → t.steps ≡ 0 → t.peak ≡ 0 → t ≡ idle r
+told_by t r events left steps peak =
+    ap (λ es. record { events = es; left = t.left; steps = t.steps; peak = t.peak }) events
+    ∙ ap (λ l. record { events = []; left = l; steps = t.steps; peak = t.peak }) left
+    ∙ ap (λ n. record { events = []; left = r; steps = n; peak = t.peak }) steps
+    ∙ ap (λ n. record { events = []; left = r; steps = 0; peak = n }) peak
 
 module _ (d : DefTree) (empty : graph_of d ≡ done) where
   either_way : (traced : Bool) → [] ≡ cond {A = List ℕ} traced [] []
@@ -74,25 +83,18 @@ module _ (d : DefTree) (empty : graph_of d ≡ done) where
   idle_run : (e : Environment) (schedule : List ℕ) (traced : Bool) → IsRunUnder d e schedule traced (idle (meaning d e))
   idle_run e schedule traced = record {
     events = [];
-    run = subst (λ g. IsRun g (source d e) schedule machine.fresh []) (sym empty) (idle_turns (source d e) schedule);
+    run = subst (λ g. IsRun g (source d e) schedule machine.fresh []) (sym empty) (idle_turns (source d e) (λ x. None) schedule);
     left_is = refl;
     steps_are = refl;
     peak_is = refl;
     lines_are = either_way traced;
   }
 
-  told_by : (t : Told) (r : RecordTree) → t.events ≡ [] → t.left ≡ r → t.steps ≡ 0 → t.peak ≡ 0 → t ≡ idle r
-  told_by t r events left steps peak =
-      ap (λ es. record { events = es; left = t.left; steps = t.steps; peak = t.peak }) events
-      ∙ ap (λ l. record { events = []; left = l; steps = t.steps; peak = t.peak }) left
-      ∙ ap (λ n. record { events = []; left = r; steps = n; peak = t.peak }) steps
-      ∙ ap (λ n. record { events = []; left = r; steps = 0; peak = n }) peak
-
   only_idle : (e : Environment) (schedule : List ℕ) (traced : Bool) (t : Told) → IsRunUnder d e schedule traced t
       → t ≡ idle (meaning d e)
   only_idle e schedule traced t run =
       let none : run.events ≡ [] =
-      no_event (source d e) schedule run.events (subst (λ g. IsRun g (source d e) schedule machine.fresh run.events) empty run.run) in
+      no_event (source d e) (λ x. None) schedule run.events (subst (λ g. IsRun g (source d e) schedule machine.fresh run.events) empty run.run) in
       told_by t (meaning d e)
       (run.lines_are ∙ ap (λ es. cond traced (lines_of d e es) []) none ∙ sym (either_way traced)) run.left_is
       (run.steps_are ∙ ap length none) (run.peak_is ∙ ap peak none)

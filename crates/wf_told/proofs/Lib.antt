@@ -2,6 +2,8 @@ pub mod TextLemmas
 pub mod WrittenLemmas
 pub mod AlikeLemmas
 pub mod RunLemmas
+pub mod ResubmissionLemmas
 pub mod IdleLemmas
 mod RunRows
+mod ResubmissionRows
 mod WorkedRows

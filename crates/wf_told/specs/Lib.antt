@@ -4,4 +4,5 @@ pub mod Text
 pub mod Records
 pub mod Runs
 pub mod Written
+pub mod Resubmissions
 pub mod Seen

@@ -1,16 +1,20 @@
-//! What makes runs, as what prints their text or says why there is none.
+//! What makes runs and resubmissions, as what prints their text or says why there is none.
 ghost use Rattle.std.specs.Prelude.{◌≡◌, ◌≢◌, Err, IfErr, IfOk};
 ghost use Rattle.wf_answers.specs.InputsSeen.{inputs_tree};
 ghost use Rattle.wf_reading.specs.ReadSeen.{def_tree};
+ghost use Rattle.wf_record.specs.Seen.{record_tree};
 ghost use Rattle.wf_told.specs.Records.{runs_records};
+ghost use Rattle.wf_told.specs.Resubmissions.{IsNotResubmitted, TellsResubmission};
 ghost use Rattle.wf_told.specs.Runs.{TellsRuns};
+ghost use Rattle.wf_told.specs.declared.fault.ResubmissionFault.{ResubmissionFault};
 ghost use Rattle.wf_told.specs.declared.fault.RunsFault.{RunsFault};
 
-use crate::fault::RunsFault;
+use crate::fault::{ResubmissionFault, RunsFault};
 use std::alloc::Global;
 use wf_answers::Inputs;
+use wf_record::Record;
 use wf_rules::Checked;
-use wf_val::Schedule;
+use wf_val::{Name, Schedule};
 
 /// What makes the runs of accepted definitions.
 pub trait Engine {
@@ -27,4 +31,20 @@ pub trait Engine {
         ensures text { IfOk result (λ text. TellsRuns (def_tree checked.now.def) (inputs_tree inputs.now) schedule.now traced text.items) }
         ensures fault { IfErr result (λ f. f ≢ RunsFault.Memory
             → runs_records (def_tree checked.now.def) (inputs_tree inputs.now) ≡ Err f) };
+
+    /// The text of the resubmission of a record from the actions of these names, with new inputs, under the schedule: the new record's line
+    /// and a summary line; or why there is none.
+    fn resubmission_text(
+        &self,
+        alloc: Global,
+        checked: &Checked,
+        log: &Record,
+        names: &[Name],
+        inputs: &Inputs,
+        schedule: &Schedule,
+    ) -> Result<Vec<u8>, ResubmissionFault>
+        ensures text { IfOk result (λ text. TellsResubmission (def_tree checked.now.def) (record_tree log.now) names.now
+            (inputs_tree inputs.now) schedule.now text.items) }
+        ensures fault { IfErr result (λ f. f ≢ ResubmissionFault.Memory
+            → IsNotResubmitted (def_tree checked.now.def) (record_tree log.now) names.now (inputs_tree inputs.now) f) };
 }

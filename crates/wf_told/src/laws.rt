@@ -1,16 +1,23 @@
 //! What the definitions of this crate say, in other words. Each call tells a caller so, and does nothing.
-ghost use Rattle.std.specs.Prelude.{◌≡◌, ◌≢◌, ◌<◌, ◌++◌, ◌↔◌, ℕ, Bool, List, [], None, Ok, Err, codes};
+ghost use Rattle.std.specs.Prelude.{◌≡◌, ◌≢◌, ◌<◌, ◌≤◌, ◌++◌, ◌↔◌, ℕ, Bool, List, [], None, Ok, Err, codes};
 ghost use Rattle.wf_answers.specs.Inputs.{InputsTree};
 ghost use Rattle.wf_def.specs.DefTree.{DefTree};
 ghost use Rattle.wf_environment.specs.Environment.{Environment};
+ghost use Rattle.wf_meant.specs.Resubmitted.{pinned};
+ghost use Rattle.wf_prepare.specs.Prepared.{MayBeResubmitted};
 ghost use Rattle.wf_reading.specs.Read.{IsRead};
+ghost use Rattle.wf_record.specs.Cost.{cost};
+ghost use Rattle.wf_record.specs.Record.{RecordTree};
+ghost use Rattle.wf_resubmit.specs.Refused.{numbers_of};
 ghost use Rattle.wf_rules.specs.Broken.{broken_of};
 ghost use Rattle.wf_told.specs.Under.{IsRunUnder, Told};
 ghost use Rattle.wf_trigger.specs.Starts.{StartTree};
 ghost use Rattle.wf_trigger.specs.declared.fault.TriggerFault.{TriggerFault};
 ghost use Rattle.wf_told.specs.Records.{records_of, runs_records, starts_of};
+ghost use Rattle.wf_told.specs.Resubmissions.{IsNotResubmitted, TellsResubmission};
 ghost use Rattle.wf_told.specs.Runs.{TellsRuns};
 ghost use Rattle.wf_told.specs.Text.{runs_in_a_row, total_cost};
+ghost use Rattle.wf_told.specs.declared.fault.ResubmissionFault.{ResubmissionFault};
 ghost use Rattle.wf_told.specs.declared.fault.RunsFault.{RunsFault};
 
 /// Of an accepted definition one thing is told in an environment under a schedule: how many steps a run takes, its peak, its lines and its
@@ -56,4 +63,33 @@ pub fn runs_want_no_memory()
 /// The texts of runs stand in the order of the runs.
 pub fn texts_stand_in_a_row()
     ensures { (rs ss : List Told) → runs_in_a_row (rs ++ ss) ≡ runs_in_a_row rs ++ runs_in_a_row ss }
+{}
+
+/// One text is told of the resubmission of a record from actions of an accepted definition, with new inputs, under a schedule.
+pub fn one_resubmission_is_told()
+    ensures { (d : DefTree) → IsRead d → broken_of d ≡ None → (r : RecordTree) (names : List (List ℕ)) (i : InputsTree)
+        (schedule text other : List ℕ) → TellsResubmission d r names i schedule text → TellsResubmission d r names i schedule other
+        → text ≡ other }
+{
+    wf_instance::a_definition_is_an_instance();
+    wf_prepare::record_is_an_old_table();
+}
+
+/// Why there is no resubmission is one thing; there is no such reason where one is told, nor where the record may be resubmitted and the
+/// new one doesn't cost too much.
+pub fn one_reason_against_a_resubmission()
+    ensures one { (d : DefTree) (r : RecordTree) (names : List (List ℕ)) (i : InputsTree) (f g : ResubmissionFault)
+        → IsNotResubmitted d r names i f → IsNotResubmitted d r names i g → f ≡ g }
+    ensures none { (d : DefTree) (r : RecordTree) (names : List (List ℕ)) (i : InputsTree) (schedule text : List ℕ)
+        (f : ResubmissionFault) → TellsResubmission d r names i schedule text → IsNotResubmitted d r names i f → ⊥ }
+    ensures nothing { (d : DefTree) (r : RecordTree) (names : List (List ℕ)) (i : InputsTree) (f : ResubmissionFault)
+        → MayBeResubmitted d r names → cost (pinned d r i (numbers_of d.top names)) ≤ 67108864 → IsNotResubmitted d r names i f → ⊥ }
+{
+    wf_prepare::one_fault_is_told();
+}
+
+/// That memory ran out is no reason against a resubmission: that is an answer of the code alone.
+pub fn a_resubmission_wants_no_memory()
+    ensures { (d : DefTree) (r : RecordTree) (names : List (List ℕ)) (i : InputsTree)
+        → IsNotResubmitted d r names i ResubmissionFault.Memory → ⊥ }
 {}

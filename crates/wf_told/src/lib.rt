@@ -1,9 +1,10 @@
-//! What is told of the runs of a definition that start with inputs.
+//! What is told of the runs of a definition that start with inputs, and of the resubmission of a run.
 //!
 //! `specs/Under` says what a run under a schedule is, without any state that an engine keeps: one list of events, by which all is told but
 //! the record, which is the definition's meaning whatever the events are. `specs/Text` says what is written of runs, `specs/Summary` the
 //! line below a record, `specs/Runs` what is told of all runs that start, one after the other, each under the schedule from its beginning.
 //! Which records they leave, and whether they cost too much, rests on no schedule (`specs/Records`). The laws say that all of it is one.
+//! `specs/Resubmissions` says the same of a resubmission: it is a run that begins with what is kept of an old record.
 //!
 //! `Engine` is what makes them. The top call is lent one, and knows nothing of how runs are made; `wf_printed` has the one that there is.
 #![tactic(auto)]
@@ -13,9 +14,10 @@ mod fault;
 mod laws;
 
 pub use engine::Engine;
-pub use fault::RunsFault;
+pub use fault::{ResubmissionFault, RunsFault};
 pub use laws::{
-    a_fault_of_the_trigger_is_told, no_run_is_said_where_none_starts, one_text_is_told,
-    runs_are_told_alike, runs_are_too_large_where_they_cost_more, runs_want_no_memory,
-    texts_stand_in_a_row,
+    a_fault_of_the_trigger_is_told, a_resubmission_wants_no_memory,
+    no_run_is_said_where_none_starts, one_reason_against_a_resubmission, one_resubmission_is_told,
+    one_text_is_told, runs_are_told_alike, runs_are_too_large_where_they_cost_more,
+    runs_want_no_memory, texts_stand_in_a_row,
 };

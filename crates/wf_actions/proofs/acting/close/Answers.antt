@@ -1,4 +1,4 @@
-use Rattle.std.proofs.Common.{◌≡◌, IfOk, Option, option_map, ap, subst, ◌∙◌}
+use Rattle.std.proofs.Common.{◌≡◌, IfOk, Option, option_map, ap, subst, sym, ◌∙◌}
 use Rattle.wf_asks.specs.Instances.{address_of}
 use Rattle.wf_def.specs.AllActions.{numbered}
 use Rattle.wf_def.specs.DefTree.{DefTree}
@@ -17,7 +17,7 @@ use Rattle.wf_sight.specs.Sight.{KnownTree, seen_at}
 use Rattle.wf_doing.specs.Acting.{closed_by}
 use Rattle.wf_doing.specs.Seen as setting
 use Rattle.wf_sight_laws.specs.Done as laws
-use Rattle.wf_actions.specs.Meant.{definition_of, environment_of}
+use Rattle.wf_actions.specs.Meant.{definition_of, environment_of, source}
 use Rattle.wf_actions.proofs.DoneLemmas.{closes_as}
 use Rattle.wf_actions.proofs.acting.close.Goals as goal
 
@@ -44,7 +44,8 @@ returns c =
     (λ a view found.
     let kind = layered_kind (action_kind a) in
     let asked = c.requires.informed kind (kinds d (c.numbers_stand_once.ensures d c.was_read.ensures) place.action a found) in
-    c.what_is_done_in_a_sight_is_meant.ensures.tracks d c.was_read.ensures c.always_checked.ensures.holds e x kind known a view found
-    asked.1)
-    ∙ c.what_is_done_is_the_source.ensures.close d e x decision n verdict known.rows)
+    c.what_is_done_in_a_sight_is_meant.ensures.tracks d c.was_read.ensures c.always_checked.ensures.holds e (source actions) c.are_answered.ensures.answers x kind
+    known a view found asked.1)
+    ∙ c.what_is_done_is_the_source.ensures.close d e x decision n verdict known.rows
+    ∙ sym (ap (λ f. f x decision n verdict known.rows) c.are_answered.ensures.answers.close))
     c.close.ensures

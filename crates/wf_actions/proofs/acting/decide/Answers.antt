@@ -1,4 +1,4 @@
-use Rattle.std.proofs.Common.{◌≡◌, IfOk, ap, subst, ◌∙◌}
+use Rattle.std.proofs.Common.{◌≡◌, IfOk, ap, subst, sym, ◌∙◌}
 use Rattle.wf_asks.specs.Instances.{address_of}
 use Rattle.wf_def.specs.AllActions.{numbered}
 use Rattle.wf_def.specs.DefTree.{DefTree}
@@ -14,7 +14,7 @@ use Rattle.wf_meant.specs.Look.{decided_by, told_at}
 use Rattle.wf_instance.proofs.KindLemmas.{kinds}
 use Rattle.wf_doing.specs.Seen as setting
 use Rattle.wf_sight_laws.specs.Done as laws
-use Rattle.wf_actions.specs.Meant.{definition_of, environment_of}
+use Rattle.wf_actions.specs.Meant.{definition_of, environment_of, source}
 use Rattle.wf_actions.proofs.DoneLemmas.{decides_by}
 use Rattle.wf_actions.proofs.acting.decide.Goals as goal
 
@@ -35,6 +35,7 @@ returns c =
     (λ a found.
     let kind = layered_kind (action_kind a) in
     let asked = c.requires.informed kind (kinds d (c.numbers_stand_once.ensures d c.was_read.ensures) place.action a found) in
-    c.what_is_done_in_a_sight_is_meant.ensures.decides d c.was_read.ensures c.always_checked.ensures.holds e x kind known a found
-    asked.1 asked.2))
+    c.what_is_done_in_a_sight_is_meant.ensures.decides d c.was_read.ensures c.always_checked.ensures.holds e (source actions) c.are_answered.ensures x
+    kind known a found asked.1 asked.2)
+    ∙ sym (c.are_answered.ensures.answers.decide x known.rows c.requires.anew))
     c.decide.ensures

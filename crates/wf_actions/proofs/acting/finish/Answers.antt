@@ -1,4 +1,4 @@
-use Rattle.std.proofs.Common.{◌≡◌, IfOk, ap, subst, ◌∙◌}
+use Rattle.std.proofs.Common.{◌≡◌, IfOk, ap, subst, sym, ◌∙◌}
 use Rattle.wf_answers.specs.InputsSeen.{inputs_tree}
 use Rattle.wf_asks.specs.Instances.{address_of}
 use Rattle.wf_def.specs.AllActions.{numbered}
@@ -16,7 +16,7 @@ use Rattle.wf_trigger.specs.StartsSeen.{start_tree}
 use Rattle.wf_doing.specs.Acting.{finished_by}
 use Rattle.wf_doing.specs.Seen as setting
 use Rattle.wf_sight_laws.specs.Done as laws
-use Rattle.wf_actions.specs.Meant.{definition_of, environment_of}
+use Rattle.wf_actions.specs.Meant.{definition_of, environment_of, source}
 use Rattle.wf_actions.proofs.DoneLemmas.{finishes_as}
 use Rattle.wf_actions.proofs.acting.finish.Goals as goal
 
@@ -37,7 +37,8 @@ returns c =
     b)
     c.setting.ensures.environment
     ∙ finishes_as (laws.seen d e x known) (told_at d e x known.rows) (numbered place.action d.top) e.inputs.answers place.at b
-    (λ a view found. c.what_is_done_in_a_sight_is_meant.ensures.tracks d c.was_read.ensures c.always_checked.ensures.holds e x Leaf known a view
-    found c.requires.informed)
-    ∙ c.what_is_done_is_the_source.ensures.finish d (start_tree actions.start.now) (inputs_tree actions.inputs.now) x b known.rows)
+    (λ a view found. c.what_is_done_in_a_sight_is_meant.ensures.tracks d c.was_read.ensures c.always_checked.ensures.holds e (source actions) c.are_answered.ensures.answers x Leaf
+    known a view found c.requires.informed)
+    ∙ c.what_is_done_is_the_source.ensures.finish d (start_tree actions.start.now) (inputs_tree actions.inputs.now) x b known.rows
+    ∙ sym (ap (λ f. f x b known.rows) c.are_answered.ensures.answers.finish))
     c.finish.ensures

@@ -1,4 +1,4 @@
-use Rattle.std.proofs.Common.{ap, map, List, ◌∙◌}
+use Rattle.std.proofs.Common.{ap, map, List, sym, ◌∙◌}
 use Rattle.wf_asks.specs.Instances.{address_of, rows_in}
 use Rattle.wf_def.specs.AllActions.{all_actions}
 use Rattle.wf_layers.specs.Address.{Address, Table}
@@ -22,3 +22,4 @@ returns c =
     ∙ ap (λ (xs : List Address). any_halts order n rows xs) actions.ready.now.halting
     ∙ ap (λ (o : OrderTree). any_halts o n rows (terminates_in (all_actions d.top))) c.always_checked.ensures.ordered
     ∙ c.terminates_halt.ensures d (environment_of actions) n rows
+    ∙ sym (ap (λ f. f (address_of c.args.place.now) rows) c.are_answered.ensures.answers.halts)

@@ -1,4 +1,4 @@
-use Rattle.std.proofs.Common.{ap, nat_lt, ◌∙◌}
+use Rattle.std.proofs.Common.{ap, nat_lt, sym, ◌∙◌}
 use Rattle.wf_answers.specs.InputsSeen.{inputs_tree}
 use Rattle.wf_asks.specs.Instances.{address_of}
 use Rattle.wf_def.specs.AllActions.{numbered}
@@ -22,4 +22,5 @@ returns c =
     (ap (λ (q : DefTree). attempts_by (numbered place.action q.top) (setting.environment_of c.setting.result).inputs.answers place.at b)
     c.setting.ensures.definition
     ∙ ap (λ (e : Environment). attempts_by (numbered place.action d.top) e.inputs.answers place.at b) c.setting.ensures.environment
-    ∙ c.what_is_done_is_the_source.ensures.tries d (start_tree actions.start.now) (inputs_tree actions.inputs.now) (address_of place) b)
+    ∙ c.what_is_done_is_the_source.ensures.tries d (start_tree actions.start.now) (inputs_tree actions.inputs.now) (address_of place) b
+    ∙ sym (ap (λ f. f (address_of place) b) c.are_answered.ensures.answers.tries))

@@ -1,4 +1,4 @@
-use Rattle.std.proofs.Common.{◌≡◌, IfOk, ap, subst, ◌∙◌}
+use Rattle.std.proofs.Common.{◌≡◌, IfOk, ap, subst, sym, ◌∙◌}
 use Rattle.wf_asks.specs.Instances.{address_of}
 use Rattle.wf_def.specs.AllActions.{numbered}
 use Rattle.wf_def.specs.DefTree.{DefTree}
@@ -11,7 +11,7 @@ use Rattle.wf_sight.specs.Sight.{KnownTree, seen_at}
 use Rattle.wf_doing.specs.Acting.{begun_by}
 use Rattle.wf_doing.specs.Seen as setting
 use Rattle.wf_sight_laws.specs.Done as laws
-use Rattle.wf_actions.specs.Meant.{definition_of, environment_of}
+use Rattle.wf_actions.specs.Meant.{definition_of, environment_of, source}
 use Rattle.wf_actions.proofs.DoneLemmas.{starts_by}
 use Rattle.wf_actions.proofs.acting.start.Goals as goal
 
@@ -29,6 +29,8 @@ returns c =
     ∙ ap (λ (g : Environment). begun_by (numbered place.action d.top) (seen_at d (run_of g (first_facts g)) x known))
     c.setting.ensures.environment
     ∙ starts_by d e x known.rows (laws.seen d e x known) (numbered place.action d.top)
-    (λ a found. c.what_is_done_in_a_sight_is_meant.ensures.starts d c.was_read.ensures c.always_checked.ensures.holds e x known a found
-    c.requires.informed c.requires.last))
+    (λ a found. c.what_is_done_in_a_sight_is_meant.ensures.starts d c.was_read.ensures c.always_checked.ensures.holds e (source actions) c.are_answered.ensures x
+    known a found
+    c.requires.informed c.requires.last)
+    ∙ sym (ap (λ f. f x known.rows) c.are_answered.ensures.answers.start))
     c.start.ensures

@@ -1,4 +1,4 @@
-use Rattle.std.proofs.Common.{◌≡◌, IfOk, Some, ap, subst, ◌∙◌}
+use Rattle.std.proofs.Common.{◌≡◌, IfOk, Some, ap, subst, sym, ◌∙◌}
 use Rattle.wf_asks.specs.Instances.{address_of}
 use Rattle.wf_def.specs.AllActions.{numbered}
 use Rattle.wf_def.specs.DefTree.{DefTree}
@@ -16,7 +16,7 @@ use Rattle.wf_instance.proofs.KindLemmas.{kinds}
 use Rattle.wf_meant.specs.Source.{test_of}
 use Rattle.wf_doing.specs.Seen as setting
 use Rattle.wf_sight_laws.specs.Done as laws
-use Rattle.wf_actions.specs.Meant.{definition_of, environment_of}
+use Rattle.wf_actions.specs.Meant.{definition_of, environment_of, source}
 use Rattle.wf_actions.proofs.DoneLemmas.{tests_as}
 use Rattle.wf_actions.proofs.acting.test.Goals as goal
 
@@ -37,8 +37,9 @@ returns c =
     (λ a found test count fails graph is.
     let asked = c.requires.informed count (layered graph)
     (kinds d (c.numbers_stand_once.ensures d c.was_read.ensures) place.action a found ∙ ap (λ k. Some (layered_kind k)) is) in
-    c.what_is_done_in_a_sight_is_meant.ensures.tests d c.was_read.ensures c.always_checked.ensures.holds e x count (layered graph)
-    c.args.index known a found asked.0 asked.1
+    c.what_is_done_in_a_sight_is_meant.ensures.tests d c.was_read.ensures c.always_checked.ensures.holds e (source actions) c.are_answered.ensures x count
+    (layered graph) c.args.index known a found asked.0 asked.1
     ∙ ap (λ o. test_of d e o x c.args.index known.rows) found)
-    ∙ c.what_is_done_is_the_source.ensures.test d e x c.args.index known.rows)
+    ∙ c.what_is_done_is_the_source.ensures.test d e x c.args.index known.rows
+    ∙ sym (ap (λ f. f x c.args.index known.rows) c.are_answered.ensures.answers.test))
     c.test_until.ensures

@@ -10,7 +10,7 @@ use Rattle.wf_views.specs.Seen.{row_content}
 use Rattle.wf_doing.specs.Seen as setting
 use Rattle.wf_telling.specs.Lines.{Container, Leaf}
 use Rattle.wf_telling.specs.Telling.{IsTold}
-use Rattle.wf_actions.specs.Meant.{environment_of}
+use Rattle.wf_actions.specs.Meant.{environment_of, source}
 use Rattle.wf_actions.proofs.tells.ActionsTells.tell.Goals as goal
 
 pub returns : goal.returns
@@ -20,6 +20,7 @@ returns c =
     let container : Option Container = option_map (λ o. open_tree decision_tree verdict_tree o.now) c.args.container in
     let event = event_tree c.args.event.now in
     let line : List ℕ = c.in_ok-line.line.items in
-    subst (λ (d : DefTree). IsTold d (environment_of c.args.self.now) row leaf container event line) c.setting.ensures.definition
+    let told = subst (λ (d : DefTree). IsTold d (environment_of c.args.self.now) row leaf container event line) c.setting.ensures.definition
     (subst (λ (e : Environment). IsTold (setting.definition_of c.setting.result) e row leaf container event line)
-    c.setting.ensures.environment c.in_ok-line.ensures)
+    c.setting.ensures.environment c.in_ok-line.ensures) in
+    told (source c.args.self.now) c.are_answered.ensures.answers

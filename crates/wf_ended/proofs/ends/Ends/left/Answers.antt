@@ -2,24 +2,21 @@ use Rattle.std.proofs.Common.{◌≡◌, sym, subst}
 use Rattle.wf_answers.specs.InputsSeen.{inputs_tree}
 use Rattle.wf_layers.specs.Address.{Table}
 use Rattle.wf_environment.specs.Environment.{Environment, fresh}
-use Rattle.wf_meant.specs.Record.{depth_of}
-use Rattle.wf_meant.specs.Source.{table_of}
+use Rattle.wf_meant.specs.Answering.{table_by}
 use Rattle.wf_meant_laws.specs.Tables.{AreWhole}
 use Rattle.wf_reading.specs.ReadSeen.{def_tree}
 use Rattle.wf_record.specs.Record as record_of
 use Rattle.wf_views.specs.Seen.{rows_seen}
 use Rattle.wf_trigger.specs.StartsSeen.{start_tree}
 use Rattle.wf_ended.specs.LeftSeen.{left_tree}
-use Rattle.wf_ended.proofs.LeftLemmas.{left_is, left_is_meant}
+use Rattle.wf_ended.proofs.LeftLemmas.{left_is, left_is_recorded}
 use Rattle.wf_ended.proofs.ends.Ends.left.Goals as goal
 
 pub rows-requires : goal.rows-requires
 rows-requires c =
     let d = def_tree c.args.self.now.checked.now.def in
-    let e : Environment = fresh (start_tree c.args.start.now) (inputs_tree c.args.inputs.now) in
-    let same : rows_seen c.args.rows.0 ≡ table_of d e (depth_of d) = λ k y. c.requires.whole y k in
-    subst (λ (t : Table record_of.Row). AreWhole d t) (sym same)
-    (c.meant_rows_are_whole.ensures d c.was_read.ensures c.always_checked.ensures.holds e)
+    let same : rows_seen c.args.rows.0 ≡ table_by d c.requires.answers = λ k y. c.requires.whole y k in
+    subst (λ (t : Table record_of.Row). AreWhole d t) (sym same) c.requires.answered.whole
 
 pub returns-clause-left : goal.returns-clause-left
 returns-clause-left c =
@@ -29,13 +26,11 @@ returns-clause-left c =
     (left_tree (record { ending = c.in_ok-ending.ending; response = c.in_ok-response.response; rows = c.in_ok-there.there }))
     c.in_ok-ending.ensures c.in_ok-response.ensures c.in_ok-there.ensures.rows
 
-pub returns-clause-meant : goal.returns-clause-meant
-returns-clause-meant c =
+pub returns-clause-record : goal.returns-clause-record
+returns-clause-record c =
     let d = def_tree c.args.self.now.checked.now.def in
     let s = start_tree c.args.start.now in
     let i = inputs_tree c.args.inputs.now in
-    let e : Environment = fresh s i in
     let l = left_tree (record { ending = c.in_ok-ending.ending; response = c.in_ok-response.response; rows = c.in_ok-there.there }) in
-    left_is_meant d s i (rows_seen c.args.rows.0) (table_of d e (depth_of d)) l
-    (left_is d e (rows_seen c.args.rows.0) l c.in_ok-ending.ensures c.in_ok-response.ensures c.in_ok-there.ensures.rows)
-    c.requires.whole (c.a_record_is_of_the_table.ensures.record d e)
+    left_is_recorded d s i (rows_seen c.args.rows.0) l
+    (left_is d (fresh s i) (rows_seen c.args.rows.0) l c.in_ok-ending.ensures c.in_ok-response.ensures c.in_ok-there.ensures.rows)

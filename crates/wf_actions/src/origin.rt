@@ -1,0 +1,46 @@
+//! What a run is made from.
+ghost use Rattle.wf_actions.specs.Acting.{ActAgain, ActForItself, AnswersAgain};
+
+use crate::actions::{Actions, Old, Ready};
+use crate::opened::was_read;
+use wf_answers::Inputs;
+use wf_record::Record;
+use wf_trigger::Start;
+use wf_val::Schedule;
+
+impl<'a> Actions<'a> {
+    /// Of a run that isn't made from another.
+    pub fn of(ready: &'a Ready<'a>, start: &'a Start, inputs: &'a Inputs) -> Actions<'a>
+        ensures { ActForItself ready.now start.now inputs.now result }
+    {
+        was_read(&ready.checked.def);
+        ready.checked.always_checked();
+        wf_instance::a_definition_is_an_instance();
+        wf_sight_laws::a_definition_is_answered();
+        Actions {
+            ready,
+            start,
+            inputs,
+            old: None,
+        }
+    }
+
+    /// Of a run that is made from an older one, whose record is `log`: what is redone with the actions of these numbers has these inputs.
+    pub fn resumed(
+        ready: &'a Ready<'a>,
+        start: &'a Start,
+        inputs: &'a Inputs,
+        log: &'a Record,
+        from: &'a Schedule,
+    ) -> Actions<'a>
+        requires { AnswersAgain ready.now start.now inputs.now log.now from.now }
+        ensures { ActAgain ready.now start.now inputs.now log.now from.now result }
+    {
+        Actions {
+            ready,
+            start,
+            inputs,
+            old: Some(Old { log, from }),
+        }
+    }
+}

@@ -1,0 +1,43 @@
+//! A run that is driven to its end.
+ghost use Rattle.std.specs.Prelude.{◌≢◌, ◌≤◌, IfErr, IfOk};
+ghost use Rattle.wf_drive.specs.declared.fault.DriveFault.{DriveFault};
+ghost use Rattle.wf_run.specs.Made.{AreFew, AreLeft, IsAtFirst, IsMade, IsTooMuch, moment, price};
+
+use crate::made::{Made, given_up};
+use std::alloc::Global;
+use wf_actions::Actions;
+use wf_drive::{DriveFault, Driven, drive};
+use wf_making::Making;
+use wf_val::Schedule;
+
+/// Makes a run's events from its first state on, until nothing may happen any more, where other runs have cost `spent`. Its rows are then
+/// those that its actions mean, whatever the schedule.
+pub(crate) fn driven(
+    alloc: Global,
+    making: Making<'_, Actions<'_>>,
+    schedule: &Schedule,
+    spent: u64,
+    traced: bool,
+) -> Result<Made, DriveFault>
+    requires first { IsAtFirst making.0 making.1 }
+    requires spent { spent ≤ 67108864 }
+    ensures made { IfOk result (λ m. IsMade making.entry.0 (moment making.entry.1) schedule.now traced m.steps m.peak m.trace.items) }
+    ensures left { IfOk result (λ m. AreLeft making.entry.0 m.rows.0 m.store.0) }
+    ensures few { IfOk result (λ m. AreFew m.steps (price making.entry.0)) }
+    ensures large { IfErr result (λ f. f ≢ DriveFault.Memory → IsTooMuch spent (price making.entry.0)) }
+{
+    let Driven {
+        machine,
+        steps,
+        peak,
+        trace,
+    } = drive(alloc, making, schedule, spent, traced)?;
+    let (rows, store) = given_up(machine);
+    Ok(Made {
+        rows,
+        store,
+        steps,
+        peak,
+        trace,
+    })
+}

@@ -1,0 +1,12 @@
+//! That a definition was read.
+ghost use Rattle.wf_reading.specs.Read.{IsRead};
+ghost use Rattle.wf_reading.specs.ReadSeen.{def_tree};
+
+use wf_reading::Def;
+
+/// Tells a caller that the definition was read, and does nothing.
+pub(crate) fn was_read(def: &Def)
+    ensures { IsRead (def_tree def.now) }
+{
+    let _ = &def.top;
+}
