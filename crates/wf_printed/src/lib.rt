@@ -5,11 +5,15 @@
 //! it says why no run can start, or that all of them together cost too much. Which runs start is said by `wf_trigger`, how one is made by
 //! `wf_run`, what a record costs and how it is printed by `wf_record`.
 //!
+//! Of a resubmission it writes the new record's line and the summary line; or it says why the record can't be resubmitted (`wf_prepare`), or
+//! that the new record would cost too much.
+//!
 //! Each run begins the schedule anew. Of a run only its text is kept, and no start is made before its turn, so a split of many items takes
 //! the memory of its text and its items. The text is handed out whole: where the runs cost too much there is none.
 #![tactic(auto)]
 
 mod printer;
+mod resubmission;
 mod runs;
 mod summary;
 mod written;

@@ -1,10 +1,12 @@
 //! The engine that prints runs.
+use crate::resubmission::resubmission_text;
 use crate::runs::runs_text;
 use std::alloc::Global;
 use wf_answers::Inputs;
+use wf_record::Record;
 use wf_rules::Checked;
-use wf_told::{Engine, RunsFault};
-use wf_val::Schedule;
+use wf_told::{Engine, ResubmissionFault, RunsFault};
+use wf_val::{Name, Schedule};
 
 /// Makes runs by the event machine, and prints them. Runs are made and written one after the other, and of each its text alone is kept. Once
 /// they cost too much, no further one is made.
@@ -21,5 +23,17 @@ impl Engine for Printer {
         traced: bool,
     ) -> Result<Vec<u8>, RunsFault> {
         runs_text(alloc, checked, inputs, schedule, traced)
+    }
+
+    fn resubmission_text(
+        &self,
+        alloc: Global,
+        checked: &Checked,
+        log: &Record,
+        names: &[Name],
+        inputs: &Inputs,
+        schedule: &Schedule,
+    ) -> Result<Vec<u8>, ResubmissionFault> {
+        resubmission_text(alloc, checked, log, names, inputs, schedule)
     }
 }

@@ -1,19 +1,10 @@
 //! The runs of a definition that start with inputs.
-ghost use Rattle.std.specs.Prelude.{◌≡◌, ◌≢◌, ◌+◌, ◌≤◌, ◌<◌, Err, IfErr, IfOk};
-ghost use Rattle.wf_answers.specs.InputsSeen.{inputs_tree};
-ghost use Rattle.wf_environment.specs.Environment.{fresh};
-ghost use Rattle.wf_meant.specs.Record.{meaning};
-ghost use Rattle.wf_reading.specs.ReadSeen.{def_tree};
-ghost use Rattle.wf_record.specs.Cost.{cost};
-ghost use Rattle.wf_record.specs.Seen.{record_tree};
+ghost use Rattle.std.specs.Prelude.{◌≡◌, ◌≢◌, ◌≤◌, IfErr, IfOk};
+ghost use Rattle.wf_run.specs.Made.{IsTooMuch};
+ghost use Rattle.wf_run.specs.Runs.{IsTheRun, IsWithin, cost_of, meant_cost};
 ghost use Rattle.wf_run.specs.Seen.{told};
-ghost use Rattle.wf_told.specs.Under.{IsRunUnder};
-ghost use Rattle.wf_trigger.specs.StartsSeen.{start_tree, starts_seen};
-ghost use Rattle.wf_told.specs.Records.{records_of, records_within, runs_records};
-ghost use Rattle.wf_told.specs.Runs.{TellsRuns};
-ghost use Rattle.wf_told.specs.Text.{total_cost};
-ghost use Rattle.wf_told.specs.Written.{AreWritten, TellsStarts};
 ghost use Rattle.wf_told.specs.declared.fault.RunsFault.{RunsFault};
+ghost use Rattle.wf_printed.specs.Written.{CostTooMuch, NoRunsAreTold, NoStartsAreTold, RunsAreTold, StartsAreTold, StartsAreWritten};
 
 use crate::written::Written;
 use std::alloc::Global;
@@ -35,9 +26,9 @@ pub(crate) fn runs_text(
     schedule: &Schedule,
     traced: bool,
 ) -> Result<Vec<u8>, RunsFault>
-    ensures text { IfOk result (λ text. TellsRuns (def_tree checked.now.def) (inputs_tree inputs.now) schedule.now traced text.items) }
+    ensures text { IfOk result (λ text. RunsAreTold checked.now inputs.now schedule.now traced text.items) }
     ensures fault { IfErr result (λ f. f ≢ RunsFault.Memory
-        → runs_records (def_tree checked.now.def) (inputs_tree inputs.now) ≡ Err f) }
+        → NoRunsAreTold checked.now inputs.now f) }
 {
     let starts = runs(
         alloc,
@@ -59,10 +50,9 @@ fn text_of(
     traced: bool,
     starts: &Starts,
 ) -> Result<Vec<u8>, RunsFault>
-    ensures text { IfOk result (λ text. TellsStarts (def_tree checked.now.def) (inputs_tree inputs.now) schedule.now traced
-        (starts_seen starts.now) text.items) }
+    ensures text { IfOk result (λ text. StartsAreTold checked.now inputs.now schedule.now traced starts.now text.items) }
     ensures fault { IfErr result (λ f. f ≢ RunsFault.Memory
-        → records_within (records_of (def_tree checked.now.def) (inputs_tree inputs.now) (starts_seen starts.now)) ≡ Err f) }
+        → NoStartsAreTold checked.now inputs.now starts.now f) }
 {
     if starts.len() == 0 {
         return Ok(b"# no run\n".to_vec(alloc)?);
@@ -80,11 +70,10 @@ fn made_ready(
     traced: bool,
     starts: &Starts,
 ) -> Result<Written, RunsFault>
-    ensures written { IfOk result (λ w. AreWritten (def_tree checked.now.def) (inputs_tree inputs.now) schedule.now traced
-        (starts_seen starts.now) w.text.items w.cost) }
+    ensures written { IfOk result (λ w. StartsAreWritten checked.now inputs.now schedule.now traced starts.now w.text.items w.cost) }
     ensures fault { IfErr result (λ f. f ≢ RunsFault.Memory → f ≡ RunsFault.TooLarge) }
     ensures too_large { IfErr result (λ f. f ≢ RunsFault.Memory
-        → 67108864 < total_cost (records_of (def_tree checked.now.def) (inputs_tree inputs.now) (starts_seen starts.now))) }
+        → CostTooMuch checked.now inputs.now starts.now) }
 {
     let ready = Ready::of(alloc, checked)?;
     let written = planned(alloc, &ready, inputs, schedule, traced, starts)?;
@@ -100,11 +89,10 @@ fn planned(
     traced: bool,
     starts: &Starts,
 ) -> Result<Written, RunsFault>
-    ensures written { IfOk result (λ w. AreWritten (def_tree ready.now.checked.now.def) (inputs_tree inputs.now) schedule.now traced
-        (starts_seen starts.now) w.text.items w.cost) }
+    ensures written { IfOk result (λ w. StartsAreWritten ready.now.checked.now inputs.now schedule.now traced starts.now w.text.items w.cost) }
     ensures fault { IfErr result (λ f. f ≢ RunsFault.Memory → f ≡ RunsFault.TooLarge) }
     ensures too_large { IfErr result (λ f. f ≢ RunsFault.Memory
-        → 67108864 < total_cost (records_of (def_tree ready.now.checked.now.def) (inputs_tree inputs.now) (starts_seen starts.now))) }
+        → CostTooMuch ready.now.checked.now inputs.now starts.now) }
 {
     let ends = Ends::of(alloc, ready.checked, &ready.places)?;
     let plan = plan(alloc, &ready.checked.def)?;
@@ -122,11 +110,10 @@ fn all_written(
     traced: bool,
     starts: &Starts,
 ) -> Result<Written, RunsFault>
-    ensures written { IfOk result (λ w. AreWritten (def_tree runnable.now.checked.now.def) (inputs_tree inputs.now) schedule.now traced
-        (starts_seen starts.now) w.text.items w.cost) }
+    ensures written { IfOk result (λ w. StartsAreWritten runnable.now.checked.now inputs.now schedule.now traced starts.now w.text.items w.cost) }
     ensures fault { IfErr result (λ f. f ≢ RunsFault.Memory → f ≡ RunsFault.TooLarge) }
     ensures too_large { IfErr result (λ f. f ≢ RunsFault.Memory
-        → 67108864 < total_cost (records_of (def_tree runnable.now.checked.now.def) (inputs_tree inputs.now) (starts_seen starts.now))) }
+        → CostTooMuch runnable.now.checked.now inputs.now starts.now) }
 {
     let mut written = Written::new(alloc);
     for k in 0..starts.len() {
@@ -156,12 +143,10 @@ fn ended(
     spent: u64,
 ) -> Result<Ended, RunsFault>
     requires { spent ≤ 67108864 }
-    ensures told { IfOk result (λ e. IsRunUnder (def_tree runnable.now.checked.now.def)
-        (fresh (start_tree start) (inputs_tree inputs.now)) schedule.now traced (told e)) }
-    ensures small { IfOk result (λ e. spent + cost (record_tree e.finished) ≤ 67108864) }
+    ensures told { IfOk result (λ e. IsTheRun runnable.now.checked.now start inputs.now schedule.now traced (told e)) }
+    ensures small { IfOk result (λ e. IsWithin spent (cost_of e.finished)) }
     ensures fault { IfErr result (λ f. f ≢ RunsFault.Memory → f ≡ RunsFault.TooLarge) }
-    ensures too_large { IfErr result (λ f. f ≢ RunsFault.Memory → 67108864 < spent
-        + cost (meaning (def_tree runnable.now.checked.now.def) (fresh (start_tree start) (inputs_tree inputs.now)))) }
+    ensures too_large { IfErr result (λ f. f ≢ RunsFault.Memory → IsTooMuch spent (meant_cost runnable.now.checked.now start inputs.now)) }
 {
     let ended = runnable.run(alloc, start, inputs, schedule, spent, traced)?;
     Ok(ended)

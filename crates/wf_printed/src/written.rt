@@ -42,9 +42,9 @@ impl Written {
     }
 }
 
-// A text, and behind it that of a run.
+/// A text, and behind it that of a run.
 #[tactic(auto, using(std::proofs::Common::append_assoc))]
-fn with_run(alloc: Global, text: Vec<u8>, ended: &Ended) -> Result<Vec<u8>, AllocError>
+pub(crate) fn with_run(alloc: Global, text: Vec<u8>, ended: &Ended) -> Result<Vec<u8>, AllocError>
     ensures { IfOk result (λ more. more.items ≡ text.items ++ run_text (told ended.now)) }
 {
     let mut more = text;
