@@ -23,9 +23,10 @@ USAGE = (
     " | list HISTORY | drill N | session DEF INPUTS | fires DEF TRIGGER FROM N\n"
 )
 # How many words each command has; and what is read, with bytes that it can't be.
-COUNTS = {"check": (2,), "run": (3, 4), "trace": (4,), "list": (2,), "fires": (5,)}
+COUNTS = {"check": (2,), "run": (3, 4), "trace": (4,), "list": (2,), "fires": (5,), "resubmit": (6, 7), "resubmit-set": range(7, 507)}
 ESCAPED = {"n": "\n", "r": "\r", "t": "\t", "\\": "\\"}
 STAGES = [(b"definition", b""), (b"inputs", b""), (b"schedule", b"\n")]
+AGAIN = [(b"definition", b""), (b"history", b"x"), (b"inputs", b""), (b"schedule", b"\n")]
 
 
 class Unread(Exception):
@@ -65,6 +66,22 @@ def fired(files, definition, name, moment, count):
     return 0, "".join(recurrences.printed(one) + "\n" for one in listed).encode() or b"# none\n"
 
 
+# The commands that resubmit, by the engine: the files in the order in which they are read, whatever that of the words is.
+def resubmitted(files, words, engine):
+    if engine is None:
+        return None, b""
+    single = words[0] == "resubmit"
+    named = words[1:3] + ([words[5]] + words[6:] if single else words[4:6])
+    names = [stage.decode() for stage, _ in AGAIN]
+    call = [words[0]] + names[:2] + [words[3]] + ([words[4]] + names[2:len(named)] if single else names[2:] + words[6:])
+    held = {name: unfit for name, (_, unfit) in zip(names, AGAIN)}
+    for place, file in enumerate(named):
+        held[names[place]] = files.read(file)
+        owed = engine(call, held)
+        if place + 1 == len(named) or not owed[1].startswith(AGAIN[place + 1][0] + b" "):
+            return owed
+
+
 # A file is read once those before it are taken, which shows by what is refused where the next one is unfit.
 def said(files, words, engine):
     if len(words) not in COUNTS.get(words[0], ()):
@@ -75,6 +92,8 @@ def said(files, words, engine):
             return histories.said(files.read(words[1]))
         if command == "fires":
             return fired(files, *words[1:])
+        if command in ("resubmit", "resubmit-set"):
+            return resubmitted(files, words, engine)
         for name, (next_stage, _) in zip(words[1:-1], STAGES[1:]):
             held.append(files.read(name))
             refused = wanted(command, *held, *(unfit for _, unfit in STAGES[len(held):]))

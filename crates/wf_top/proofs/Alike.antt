@@ -1,12 +1,15 @@
 -- What words say over files that tell is one thing, where the definition that they hold was read.
-use Rattle.std.proofs.Common.{◌≡◌, ℕ, List, Bool, Option, None, Some, Result, Ok, Err, inl, inr, refl, ap, subst, sym, ◌∙◌}
+use Rattle.std.proofs.Common.{◌≡◌, ℕ, List, [], Bool, Option, None, Some, Result, Ok, Err, inl, inr, refl, ap, subst, sym, ◌∙◌}
+use Rattle.std.specs.Prelude.{codes}
 use Rattle.std.specs.Option.{option_map}
 use Rattle.wf_answers.specs.Inputs.{InputsTree}
 use Rattle.wf_def.specs.DefTree.{DefTree}
 use Rattle.wf_history.specs.History.{ListedTree}
 use Rattle.wf_json.specs.Read.{read_value}
 use Rattle.wf_json.specs.declared.fault.JsonFault.{JsonFault}
+use Rattle.wf_told.specs.Resubmissions.{IsNotResubmitted, TellsResubmission}
 use Rattle.wf_told.specs.Runs.{TellsRuns}
+use Rattle.wf_told.specs.declared.fault.ResubmissionFault.{ResubmissionFault}
 use Rattle.wf_told.specs.declared.fault.RunsFault.{RunsFault}
 use Rattle.wf_reading.specs.Meant as read
 use Rattle.wf_reading.specs.Read.{IsRead}
@@ -20,19 +23,23 @@ use Rattle.wf_val.specs.ValueTree.{ValueTree}
 use Rattle.wf_top.specs.Commands.{accepted, defined, judged_definition, judged_history, judged_inputs, judged_schedule, judged_value, plan}
 use Rattle.wf_top.specs.Commands.{recurs, scheduled, triggered}
 use Rattle.wf_top.specs.Fires.{trigger_in}
-use Rattle.wf_top.specs.Form.{broken_in, checked, definition_form, definition_of, formed, found, inputs_form, listing_form, schedule_form}
-use Rattle.wf_top.specs.Form.{value_form}
+use Rattle.wf_files.specs.Form.{broken_in, checked, definition_form, definition_of, formed, found, inputs_form, listing_form, schedule_form}
+use Rattle.wf_files.specs.Form.{history_form, value_form}
+use Rattle.wf_files.specs.declared.fault.FindFault.{FindFault}
+use Rattle.wf_record.specs.Record.{RecordTree}
 use Rattle.wf_top.specs.Limits.{definition_bytes}
-use Rattle.wf_top.specs.Plan.{Plan, Says, Reads, Makes, MaySay, within}
+use Rattle.wf_top.specs.Plan.{Plan, Says, Reads, Makes, Remakes, MaySay, within}
 use Rattle.wf_top.specs.Ran.{HoldsDefinition}
+use Rattle.wf_top.specs.Resubmit.{judged, remade, remade_under, remade_with, resubmit}
 use Rattle.wf_top.specs.Served.{PlanSays, Say, number}
-use Rattle.wf_top.specs.Told.{MayTell, SaysFault}
-use Rattle.wf_top.specs.Words.{command_of, is_traced, schedule_word, word}
+use Rattle.wf_top.specs.Told.{MayTell, MayTellAgain, SaysFault, SaysRefusal}
+use Rattle.wf_top.specs.Words.{AskedTree, command_of, is_traced, one_asked, schedule_word, set_asked, word}
 use Rattle.wf_top.proofs.CommandOutcomes.{read_on}
-use Rattle.wf_top.specs.declared.fault.FormFault.{FormFault}
+use Rattle.wf_files.specs.declared.fault.FormFault.{FormFault}
 use Rattle.wf_top.specs.declared.said.Verdict.{Verdict}
+use Rattle.wf_top.specs.declared.said.Verdict.TheVariants.{History, Inputs}
 use Rattle.wf_top.specs.declared.words.Command.{Command}
-use Rattle.wf_top.specs.declared.words.Command.TheVariants.{Check, Run, Trace, Fires}
+use Rattle.wf_top.specs.declared.words.Command.TheVariants.{Check, Run, Trace, Resubmit, ResubmitSet, Fires}
 
 -- ---- an accepted definition breaks no rule
 
@@ -83,18 +90,64 @@ told_alike one d was unbroken traced i schedule v w text other first second = el
   ]
 ]
 
+-- ---- what is said of a resubmission
+
+abbrev pub OneResubmissionIsTold : Type 0
+OneResubmissionIsTold =
+    (d : DefTree) → IsRead d → broken_of d ≡ None → (r : RecordTree) (names : List (List ℕ)) (i : InputsTree) (schedule text other : List ℕ)
+    → TellsResubmission d r names i schedule text → TellsResubmission d r names i schedule other → text ≡ other
+
+abbrev pub OneReason : Type 0
+OneReason =
+    (d : DefTree) (r : RecordTree) (names : List (List ℕ)) (i : InputsTree) (f g : ResubmissionFault) → IsNotResubmitted d r names i f
+    → IsNotResubmitted d r names i g → f ≡ g
+
+abbrev pub NoReasonBeside : Type 0
+NoReasonBeside =
+    (d : DefTree) (r : RecordTree) (names : List (List ℕ)) (i : InputsTree) (schedule text : List ℕ) (f : ResubmissionFault)
+    → TellsResubmission d r names i schedule text → IsNotResubmitted d r names i f → ⊥
+
+-- what is known of resubmissions
+pub record AreOneThing : Type 0 where
+  pub text : OneResubmissionIsTold
+  pub reason : OneReason
+  pub beside : NoReasonBeside
+
+refusal_alike : (fault : ResubmissionFault) (v w : Verdict) (text other : List ℕ) → SaysRefusal fault v text → SaysRefusal fault w other →
+    (v ≡ w) × (text ≡ other)
+refusal_alike (ResubmissionFault.Refused fault) v w text other first second = (first.0 ∙ sym second.0, first.1 ∙ sym second.1)
+refusal_alike ResubmissionFault.TooLarge v w text other first second = (first.0 ∙ sym second.0, first.1 ∙ sym second.1)
+refusal_alike ResubmissionFault.Memory v w text other first second = absurd first
+
+pub told_again_alike : AreOneThing → (d : DefTree) → IsRead d → broken_of d ≡ None → (r : RecordTree) (names : List (List ℕ)) (i : InputsTree)
+    (schedule : List ℕ) (v w : Verdict) (text other : List ℕ) → MayTellAgain d r names i schedule v text →
+    MayTellAgain d r names i schedule w other → (v ≡ w) × (text ≡ other)
+told_again_alike one d was unbroken r names i schedule v w text other first second = elim first [
+  | inl told ↦ elim second [
+    | inl again ↦ (told.0 ∙ sym again.0, one.text d was unbroken r names i schedule text other told.1 again.1)
+    | inr none ↦ absurd (one.beside d r names i schedule text none.0 told.1 none.1)
+  ]
+  | inr none ↦ elim second [
+    | inl told ↦ absurd (one.beside d r names i schedule other none.0 told.1 none.1)
+    | inr again ↦
+        let same : none.0 ≡ again.0 = one.reason d r names i none.0 again.0 none.1 again.1 in
+        refusal_alike again.0 v w text other (subst (λ fault. SaysRefusal fault v text) same none.2) again.2
+  ]
+]
+
 -- what a read gave, where the files tell
 given : (limit : ℕ) (held : Option (List ℕ)) (file : Option (List ℕ)) → option_map (within limit) held ≡ Some file →
     (bytes : List ℕ) × (held ≡ Some bytes)
 given limit None file is = absurd cc
 given limit (Some bytes) file is = (bytes, refl)
 
-module _ (one : OneTextIsTold) (bytes_of : List ℕ → Option (List ℕ)) (words : List (List ℕ)) where
+module _ (one : OneTextIsTold) (again : AreOneThing) (bytes_of : List ℕ → Option (List ℕ)) (words : List (List ℕ)) where
   -- each definition whose runs are made was read, and breaks no rule
   abbrev AreOfRead : Plan → Type 0
   AreOfRead (Says verdict text) = Unit {0}
   AreOfRead (Reads name limit next) = (bytes : List ℕ) → bytes_of name ≡ Some bytes → AreOfRead (next (within limit bytes))
   AreOfRead (Makes traced d inputs schedule) = IsRead d × (broken_of d ≡ None)
+  AreOfRead (Remakes d r names inputs schedule) = IsRead d × (broken_of d ≡ None)
 
   plan_alike : (plan : Plan) → AreOfRead plan → (v w : Verdict) (text other : List ℕ) → MaySay (Some bytes_of) plan v text →
       MaySay (Some bytes_of) plan w other → (v ≡ w) × (text ≡ other)
@@ -106,6 +159,8 @@ module _ (one : OneTextIsTold) (bytes_of : List ℕ → Option (List ℕ)) (word
       (read_on bytes_of words w other name limit next file.0 file.1 second)
   plan_alike (Makes traced d inputs schedule) of_read v w text other first second =
       told_alike one d of_read.0 of_read.1 traced inputs schedule v w text other first second
+  plan_alike (Remakes d r names inputs schedule) of_read v w text other first second =
+      told_again_alike again d of_read.0 of_read.1 r names inputs schedule v w text other first second
 
   module _ (traced : Bool) (d : DefTree) (was : IsRead d) (unbroken : broken_of d ≡ None) where
     schedule_read : (inputs : InputsTree) (form : Result (List ℕ) FormFault) → AreOfRead (judged_schedule traced d inputs form)
@@ -120,12 +175,41 @@ module _ (one : OneTextIsTold) (bytes_of : List ℕ → Option (List ℕ)) (word
     inputs_read named (Ok inputs) = under_read inputs named
     inputs_read named (Err fault) = tt
 
+  judged_read : {T : Type 0} (verdict : Verdict) (part : List ℕ) (next : T → Plan) (form : Result T FormFault) →
+      ((t : T) → AreOfRead (next t)) → AreOfRead (judged verdict part next form)
+  judged_read verdict part next (Ok t) all = all t
+  judged_read verdict part next (Err fault) all = tt
+
+  module _ (asked : AskedTree) (d : DefTree) (was : IsRead d) (unbroken : broken_of d ≡ None) where
+    remade_read : (inputs : InputsTree) (schedule : List ℕ) (found : Result RecordTree FindFault) →
+        AreOfRead (remade asked d inputs schedule found)
+    remade_read inputs schedule (Ok r) = (was, unbroken)
+    remade_read inputs schedule (Err fault) = tt
+
+    remade_under_read : (named : Option (List ℕ)) (found : Result RecordTree FindFault) (inputs : InputsTree) →
+        AreOfRead (remade_under asked d named found inputs)
+    remade_under_read None found inputs = remade_read inputs [] found
+    remade_under_read (Some name) found inputs = λ bytes there.
+        judged_read Inputs (codes "schedule ") (λ numbers. remade asked d inputs numbers found) (schedule_form (within _ bytes))
+        (λ numbers. remade_read inputs numbers found)
+
+    remade_with_read : (found : Result RecordTree FindFault) → AreOfRead (remade_with asked d found)
+    remade_with_read found = λ bytes there.
+        judged_read Inputs (codes "inputs ") (remade_under asked d asked.schedule found) (inputs_form (within _ bytes))
+        (remade_under_read asked.schedule found)
+
+    resubmit_read : AreOfRead (resubmit asked d)
+    resubmit_read = λ bytes there.
+        judged_read History (codes "history ") (remade_with asked d) (history_form asked.run (within _ bytes)) remade_with_read
+
   accepted_read : (command : Command) (d : DefTree) → IsRead d → broken_of d ≡ None → AreOfRead (accepted command words d)
   accepted_read Check d was unbroken = tt
   accepted_read Run d was unbroken = λ bytes there.
       inputs_read (is_traced Run) d was unbroken (schedule_word words) (inputs_form (within _ bytes))
   accepted_read Trace d was unbroken = λ bytes there.
       inputs_read (is_traced Trace) d was unbroken (schedule_word words) (inputs_form (within _ bytes))
+  accepted_read Resubmit d was unbroken = resubmit_read (one_asked words) d was unbroken
+  accepted_read ResubmitSet d was unbroken = resubmit_read (set_asked words) d was unbroken
   accepted_read Command.List d was unbroken = tt
   accepted_read (Fires from count) d was unbroken = tt
 
@@ -164,6 +248,8 @@ module _ (one : OneTextIsTold) (bytes_of : List ℕ → Option (List ℕ)) (word
     plan_read Check names = defined_read Check names
     plan_read Run names = defined_read Run names
     plan_read Trace names = defined_read Trace names
+    plan_read Resubmit names = defined_read Resubmit names
+    plan_read ResubmitSet names = defined_read ResubmitSet names
     plan_read (Fires from count) names = λ bytes there. value_read (word words 2) from count (value_form (within _ bytes))
     plan_read Command.List names = λ bytes there. history_read (listing_form (within _ bytes))
 

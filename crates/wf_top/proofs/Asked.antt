@@ -1,14 +1,14 @@
 -- A command asks for no file but those that its words name.
-use Rattle.std.proofs.Common.{◌≡◌, ◌<◌, ℕ, List, [], length, Bool, true, Option, None, Some, Result, Ok, Err, inl, inr, refl, subst, sym}
+use Rattle.std.proofs.Common.{◌≡◌, ◌⊎◌, ◌<◌, ℕ, List, [], length, Bool, true, Option, None, Some, Result, Ok, Err, inl, inr, refl, subst, sym}
 use Rattle.std.proofs.Common.{arith}
-use Rattle.std.specs.Prelude.{Contains}
+use Rattle.std.specs.Prelude.{Contains, codes, slice_get}
 use Rattle.std.specs.Option.{IfSome}
 use Rattle.std.specs.Option.{option_map}
 use Rattle.std.proofs.lemmas.Grind.{common_steps}
 use Rattle.std.proofs.lemmas.List.Elements.{Contains-get_or}
 use Rattle.std.proofs.lemmas.Option.{get_or_from_slice_get, slice_get_within}
 use Rattle.wf_outside.specs.Outside.{Held}
-use Rattle.wf_top.specs.Plan.{Plan, Says, Reads, Makes, ComesTo, AsksAmong}
+use Rattle.wf_top.specs.Plan.{Plan, Says, Reads, Makes, Remakes, ComesTo, AsksAmong}
 use Rattle.wf_answers.specs.Inputs.{InputsTree}
 use Rattle.wf_def.specs.DefTree.{DefTree}
 use Rattle.wf_history.specs.History.{ListedTree}
@@ -17,15 +17,20 @@ use Rattle.wf_recur.specs.declared.fault.RecurrenceFault.{RecurrenceFault}
 use Rattle.wf_recur.specs.declared.recurrence.Recurrence.{Recurrence}
 use Rattle.wf_val.specs.ValueTree.{ValueTree}
 use Rattle.wf_top.specs.Fires.{trigger_in}
-use Rattle.wf_top.specs.Form.{definition_form, inputs_form, listing_form, schedule_form, value_form}
+use Rattle.wf_files.specs.Form.{definition_form, history_form, inputs_form, listing_form, schedule_form, value_form}
+use Rattle.wf_files.specs.declared.fault.FindFault.{FindFault}
+use Rattle.wf_record.specs.Record.{RecordTree}
 use Rattle.wf_top.specs.Commands.{plan, plan_of, accepted, defined, judged_definition, judged_history, judged_inputs, judged_schedule}
 use Rattle.wf_top.specs.Commands.{judged_value, recurs, run, scheduled, triggered}
+use Rattle.wf_top.specs.Resubmit.{judged, remade, remade_under, remade_with, resubmit}
 use Rattle.wf_top.specs.Served.{FailedAt}
-use Rattle.wf_top.proofs.FiresLemmas.{fires_length}
-use Rattle.wf_top.specs.Words.{command_of, is_traced, makes_runs, schedule_word, word}
+use Rattle.wf_top.proofs.LengthLemmas.{fires_length, resubmit_length, set_length}
+use Rattle.wf_top.specs.Words.{AskedTree, command_of, is_traced, makes_runs, one_asked, schedule_word, set_asked, word}
+use Rattle.wf_top.specs.declared.said.Verdict.{Verdict}
+use Rattle.wf_top.specs.declared.said.Verdict.TheVariants.{History, Inputs}
 use Rattle.wf_top.specs.declared.words.Command.{Command}
-use Rattle.wf_top.specs.declared.words.Command.TheVariants.{Check, Run, Trace, Fires}
-use Rattle.wf_top.specs.declared.fault.FormFault.{FormFault}
+use Rattle.wf_top.specs.declared.words.Command.TheVariants.{Check, Run, Trace, Resubmit, ResubmitSet, Fires}
+use Rattle.wf_files.specs.declared.fault.FormFault.{FormFault}
 
 asked : (held : Held) (words : List (List ℕ)) (plan : Plan) (name : List ℕ) → AsksAmong words plan → ComesTo held plan name →
     Contains words name
@@ -36,21 +41,22 @@ asked held words (Reads first limit next) name among comes =
       | inr later ↦ asked held words (next later.0) name (among.1 later.0) later.2
     ]
 asked held words (Makes traced d inputs schedule) name among comes = absurd comes
+asked held words (Remakes d r names inputs schedule) name among comes = absurd comes
 
 schedule_asks : (words : List (List ℕ)) (traced : Bool) (d : DefTree) (inputs : InputsTree) (form : Result (List ℕ) FormFault) →
     AsksAmong words (judged_schedule traced d inputs form)
 schedule_asks words traced d inputs (Ok schedule) = tt
 schedule_asks words traced d inputs (Err fault) = tt
 
--- the word SCHEDULE, where there is one, is one of the words
-word_among : (words : List (List ℕ)) → IfSome (schedule_word words) (λ name. Contains words name)
-word_among words = among (schedule_word words) refl
+-- the word at a place, where there is one, is one of the words
+word_among : (words : List (List ℕ)) (place : ℕ) → IfSome (slice_get words place) (λ name. Contains words name)
+word_among words place = among (slice_get words place) refl
   where
-    among : (found : Option (List ℕ)) → schedule_word words ≡ found → IfSome found (λ name. Contains words name)
+    among : (found : Option (List ℕ)) → slice_get words place ≡ found → IfSome found (λ name. Contains words name)
     among None is = tt
     among (Some name) is =
-        subst (λ n. Contains words n) (get_or_from_slice_get words 3 name [] is) (Contains-get_or words 3 []
-        (slice_get_within words 3 name is))
+        subst (λ n. Contains words n) (get_or_from_slice_get words place name [] is) (Contains-get_or words place []
+        (slice_get_within words place name is))
 
 module _ (words : List (List ℕ)) (traced : Bool) (d : DefTree) where
   under_asks : (schedule : Option (List ℕ)) → IfSome schedule (λ name. Contains words name) → (inputs : InputsTree) →
@@ -83,13 +89,70 @@ second_length Run words makes is = run_length words is
 second_length (Fires from count) words makes is = absurd (cc)
 second_length Trace words makes is = let more : 3 < length words = trace_length words is in omega arith
 second_length Command.List words makes is = absurd (cc)
+second_length Resubmit words makes is = absurd (cc)
+second_length ResubmitSet words makes is = absurd (cc)
 
 run_asks : (words : List (List ℕ)) (traced : Bool) (d : DefTree) → 2 < length words →
     AsksAmong words (run traced (word words 2) (schedule_word words) d)
 run_asks words traced d longer = (
   Contains-get_or words 2 [] longer,
-  λ file. inputs_ask words traced d (schedule_word words) (word_among words) (inputs_form file),
+  λ file. inputs_ask words traced d (schedule_word words) (word_among words 3) (inputs_form file),
 )
+
+-- the files that a resubmission asks for
+record AreAmong (words : List (List ℕ)) (asked : AskedTree) : Type 0 where
+  history : Contains words asked.history
+  inputs : Contains words asked.inputs
+  schedule : IfSome asked.schedule (λ name. Contains words name)
+
+module _ (words : List (List ℕ)) (asked : AskedTree) (d : DefTree) where
+  remade_asks : (inputs : InputsTree) (schedule : List ℕ) (found : Result RecordTree FindFault) →
+      AsksAmong words (remade asked d inputs schedule found)
+  remade_asks inputs schedule (Ok r) = tt
+  remade_asks inputs schedule (Err fault) = tt
+
+  judged_asks : {T : Type 0} (verdict : Verdict) (part : List ℕ) (next : T → Plan) (form : Result T FormFault) →
+      ((t : T) → AsksAmong words (next t)) → AsksAmong words (judged verdict part next form)
+  judged_asks verdict part next (Ok t) all = all t
+  judged_asks verdict part next (Err fault) all = tt
+
+  remade_under_asks : (named : Option (List ℕ)) → IfSome named (λ name. Contains words name) → (found : Result RecordTree FindFault)
+      (inputs : InputsTree) → AsksAmong words (remade_under asked d named found inputs)
+  remade_under_asks None among found inputs = remade_asks inputs [] found
+  remade_under_asks (Some name) among found inputs = (
+    among,
+    λ file. judged_asks Inputs (codes "schedule ") (λ numbers. remade asked d inputs numbers found) (schedule_form file)
+        (λ numbers. remade_asks inputs numbers found),
+  )
+
+  remade_with_asks : AreAmong words asked → (found : Result RecordTree FindFault) → AsksAmong words (remade_with asked d found)
+  remade_with_asks among found = (
+    among.inputs,
+    λ file. judged_asks Inputs (codes "inputs ") (remade_under asked d asked.schedule found) (inputs_form file)
+        (remade_under_asks asked.schedule among.schedule found),
+  )
+
+  resubmit_asks : AreAmong words asked → AsksAmong words (resubmit asked d)
+  resubmit_asks among = (
+    among.history,
+    λ file. judged_asks History (codes "history ") (remade_with asked d) (history_form asked.run file) (remade_with_asks among),
+  )
+
+one_among : (words : List (List ℕ)) → command_of words ≡ Some Resubmit → AreAmong words (one_asked words)
+one_among words is =
+    let longer : 5 < length words = resubmit_length words is in record {
+      history = Contains-get_or words 2 [] (omega (arith, longer));
+      inputs = Contains-get_or words 5 [] longer;
+      schedule = word_among words 6;
+    }
+
+set_among : (words : List (List ℕ)) → command_of words ≡ Some ResubmitSet → AreAmong words (set_asked words)
+set_among words is =
+    let longer : 6 < length words = set_length words is in record {
+      history = Contains-get_or words 2 [] (omega (arith, longer));
+      inputs = Contains-get_or words 4 [] (omega (arith, longer));
+      schedule = Contains-get_or words 5 [] (omega (arith, longer));
+    }
 
 accepted_asks : (command : Command) (words : List (List ℕ)) (d : DefTree) → command_of words ≡ Some command →
     AsksAmong words (accepted command words d)
@@ -98,6 +161,8 @@ accepted_asks Run words d is = run_asks words (is_traced Run) d (second_length R
 accepted_asks (Fires from count) words d is = tt
 accepted_asks Trace words d is = run_asks words (is_traced Trace) d (second_length Trace words refl is)
 accepted_asks Command.List words d is = tt
+accepted_asks Resubmit words d is = resubmit_asks words (one_asked words) d (one_among words is)
+accepted_asks ResubmitSet words d is = resubmit_asks words (set_asked words) d (set_among words is)
 
 definition_asks : (command : Command) (words : List (List ℕ)) (form : Result DefTree FormFault) → command_of words ≡ Some command →
     AsksAmong words (judged_definition command words form)
@@ -105,12 +170,42 @@ definition_asks command words (Ok d) is = accepted_asks command words d is
 definition_asks command words (Err fault) is = tt
 
 -- each command has a first file
-some_length : (command : Command) (words : List (List ℕ)) → command_of words ≡ Some command → 1 < length words
+pub some_length : (command : Command) (words : List (List ℕ)) → command_of words ≡ Some command → 1 < length words
 some_length Check words is = check_length words is
 some_length Run words is = let more : 2 < length words = second_length Run words refl is in omega arith
 some_length (Fires from count) words is = let more : 4 < length words = fires_length words from count is in omega arith
 some_length Trace words is = let more : 2 < length words = second_length Trace words refl is in omega arith
 some_length Command.List words is = list_length words is
+some_length Resubmit words is = let more : 5 < length words = resubmit_length words is in omega arith
+some_length ResubmitSet words is = let more : 6 < length words = set_length words is in omega arith
+
+-- the commands that read a definition, and what they then say
+abbrev pub IsDefining : Command → Type 0
+IsDefining command =
+    (command ≡ Check) ⊎ ((command ≡ Run) ⊎ ((command ≡ Trace) ⊎ ((command ≡ Resubmit) ⊎ (command ≡ ResubmitSet))))
+
+-- none of these
+other : (command : Command) → (command ≡ Check → ⊥) → (command ≡ Run → ⊥) → (command ≡ Trace → ⊥) → (command ≡ Resubmit → ⊥) →
+    (command ≡ ResubmitSet → ⊥) → IsDefining command → ⊥
+other command a b c d e is = elim is [
+  | inl x ↦ a x
+  | inr more ↦ elim more [
+    | inl x ↦ b x
+    | inr more ↦ elim more [ inl x ↦ c x | inr more ↦ elim more [ inl x ↦ d x | inr x ↦ e x ] ]
+  ]
+]
+
+pub plan_defined : (command : Command) (words : List (List ℕ)) → IsDefining command → plan command words
+    ≡ defined (word words 1) command words
+unfolding plan
+plan_defined Check words is = refl
+plan_defined Run words is = refl
+plan_defined Trace words is = refl
+plan_defined Resubmit words is = refl
+plan_defined ResubmitSet words is = refl
+plan_defined Command.List words is = absurd (other Command.List (λ x. cc) (λ x. cc) (λ x. cc) (λ x. cc) (λ x. cc) is)
+plan_defined (Fires from count) words is =
+    absurd (other (Fires from count) (λ x. cc) (λ x. cc) (λ x. cc) (λ x. cc) (λ x. cc) is)
 
 history_asks : (words : List (List ℕ)) (form : Result (List ListedTree) FormFault) → AsksAmong words (judged_history form)
 history_asks words (Ok listing) = tt
@@ -142,6 +237,8 @@ unfolding plan
 plan_asks Check words is = defined_asks Check words is
 plan_asks Run words is = defined_asks Run words is
 plan_asks Trace words is = defined_asks Trace words is
+plan_asks Resubmit words is = defined_asks Resubmit words is
+plan_asks ResubmitSet words is = defined_asks ResubmitSet words is
 plan_asks (Fires from count) words is = (
   Contains-get_or words 1 [] (some_length (Fires from count) words is),
   λ file. value_asks words (word words 2) from count (value_form file),

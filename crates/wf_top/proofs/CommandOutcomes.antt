@@ -1,5 +1,5 @@
 -- What the outcome of a command says of its files.
-use Rattle.std.proofs.Common.{◌≡◌, ◌⊎◌, ℕ, List, [], Bool, true, Option, None, Some, Result, Ok, Err, inl, inr, refl, ap, subst, sym, ◌∙◌}
+use Rattle.std.proofs.Common.{◌≡◌, ◌⊎◌, ℕ, List, [], Bool, true, false, Option, None, Some, Result, Ok, Err, inl, inr, refl, ap, subst, sym, ◌∙◌}
 use Rattle.std.proofs.Common.{arith}
 use Rattle.std.specs.Prelude.{codes}
 use Rattle.std.specs.Option.{IfSome, option_map}
@@ -10,7 +10,7 @@ use Rattle.wf_outside.specs.Outside.{Held, IsCalm}
 use Rattle.wf_history.specs.History.{ListedTree}
 use Rattle.wf_top.specs.Commands.{accepted, accepted_line, defined, judged_definition, judged_history, judged_inputs, judged_schedule}
 use Rattle.wf_top.specs.Commands.{judged_value, listing_text, plan, plan_of, recurs, run, scheduled, triggered}
-use Rattle.wf_top.specs.Fault.{fault_line, json_fault}
+use Rattle.wf_files.specs.Fault.{fault_line, json_fault}
 use Rattle.wf_json.specs.Read.{read_value}
 use Rattle.wf_json.specs.declared.fault.JsonFault.{JsonFault}
 use Rattle.wf_recur.proofs.ReadLemmas.{read-next}
@@ -20,7 +20,7 @@ use Rattle.wf_recur.specs.declared.fault.RecurrenceFault.{RecurrenceFault}
 use Rattle.wf_recur.specs.declared.recurrence.Recurrence.{Recurrence}
 use Rattle.wf_val.specs.ValueTree.{ValueTree}
 use Rattle.wf_top.specs.Fires.{moments_text, recurrence_line, recurrence_words, trigger_in}
-use Rattle.wf_top.specs.Form.{Form, definition_form, definition_of, found, inputs_form, kept, listing_form, schedule_form, value_form}
+use Rattle.wf_files.specs.Form.{Form, definition_form, definition_of, found, inputs_form, kept, listing_form, schedule_form, value_form}
 use Rattle.wf_told.specs.Records.{runs_records}
 use Rattle.wf_told.specs.Runs.{TellsRuns}
 use Rattle.wf_record.specs.Record.{RecordTree}
@@ -31,17 +31,21 @@ use Rattle.wf_top.specs.Ran.{HoldsDefinition, HoldsHistory, HoldsSchedule, IsGiv
 use Rattle.wf_top.specs.Ran.{PassesFires, Ran}
 use Rattle.wf_top.specs.Ran.{RefusedCost, RefusedDefinition, RefusedHistory, RefusedInputs, RefusedName, RefusedRecurrence}
 use Rattle.wf_top.specs.Ran.{RefusedSchedule, RefusedTrigger}
+use Rattle.wf_top.specs.Resubmitted.{RefusedAnswers, RefusedLog, RefusedNames, RefusedNewCost, RefusedRun}
+use Rattle.wf_top.specs.Resubmitted.{RefusedTimes, Resubmitted}
+use Rattle.wf_top.proofs.AgainOutcomes.{AgainOutcome, after_resubmit, again_done, again_eight, again_names, again_not_one, again_seven}
+use Rattle.wf_top.proofs.AgainOutcomes.{again_six}
 use Rattle.wf_top.proofs.Outcomes.{misused_at}
 use Rattle.wf_top.specs.Served.{Comes, Outcome, IsSaid, Misused, PlanSays, Say, Serves, Speaks, Spent, Unread, Writes, number, status_of}
 use Rattle.wf_top.specs.Served.{text_of}
 use Rattle.wf_top.specs.Told.{MayTell, SaysFault, SaysRuns, too_large}
 use Rattle.wf_top.specs.Trigger.{trigger_line}
-use Rattle.wf_top.specs.Words.{command_of, is_traced, makes_runs, schedule_word, word}
-use Rattle.wf_top.specs.declared.fault.FormFault.{FormFault}
+use Rattle.wf_top.specs.Words.{command_of, is_traced, makes_runs, resubmits, schedule_word, word}
+use Rattle.wf_files.specs.declared.fault.FormFault.{FormFault}
 use Rattle.wf_told.specs.declared.fault.RunsFault.{RunsFault}
 use Rattle.wf_top.specs.declared.said.Verdict.{Verdict}
 use Rattle.wf_top.specs.declared.words.Command.{Command}
-use Rattle.wf_top.specs.declared.words.Command.TheVariants.{Check, Run, Trace, Fires}
+use Rattle.wf_top.specs.declared.words.Command.TheVariants.{Check, Run, Trace, Resubmit, ResubmitSet, Fires}
 use Rattle.wf_trigger.specs.declared.fault.TriggerFault.{TriggerFault}
 
 -- What a command may say: what was found in its files, the status and the text.
@@ -78,6 +82,7 @@ data CommandOutcome (held : Held) (words : List (List ℕ)) (status : ℕ) (text
   no_recurrence : (from count : ℕ) (file trigger : ValueTree) (fault : RecurrenceFault) → GivesValue held words from count (Ok file) →
       trigger_in (word words 2) file ≡ Some trigger → recurrence_of trigger ≡ Err fault → status ≡ 6 →
       text ≡ recurrence_line (recurrence_words fault) → CommandOutcome held words status text
+  again : AgainOutcome held words status text → CommandOutcome held words status text
 
 -- what is no accepted definition has no value that is kept
 kept_fault : (value : ValueTree) (d : Result DefTree FormFault) (fault : FormFault) → kept value d ≡ Err fault → d ≡ Err fault
@@ -148,6 +153,8 @@ module _ (held : Held) (words : List (List ℕ)) (verdict : Verdict) (text : Lis
   after_accepted (Fires from count) d ends given saying = absurd ends
   after_accepted Command.List d ends given saying = absurd ends
   after_accepted Run d ends given saying = after_inputs Run d refl given saying.0 saying.1 (inputs_form saying.0) refl saying.2
+  after_accepted Resubmit d ends given saying = again (after_resubmit held words verdict text Resubmit refl d given saying)
+  after_accepted ResubmitSet d ends given saying = again (after_resubmit held words verdict text ResubmitSet refl d given saying)
   after_accepted Trace d ends given saying = after_inputs Trace d refl given saying.0 saying.1 (inputs_form saying.0) refl saying.2
 
   after_definition : (command : Command) → IsDefined command → command_of words ≡ Some command → (file : Option (List ℕ)) →
@@ -191,6 +198,8 @@ module _ (held : Held) (words : List (List ℕ)) (verdict : Verdict) (text : Lis
   command_comes Check names saying = command_defined Check tt names saying
   command_comes Run names saying = command_defined Run tt names saying
   command_comes Trace names saying = command_defined Trace tt names saying
+  command_comes Resubmit names saying = command_defined Resubmit tt names saying
+  command_comes ResubmitSet names saying = command_defined ResubmitSet tt names saying
   command_comes (Fires from count) names saying =
       after_value from count names saying.0 saying.1 (value_form saying.0) refl saying.2
   command_comes Command.List names saying = after_history names saying.0 saying.1 (listing_form saying.0) refl saying.2
@@ -252,6 +261,14 @@ module _ (held : Held) (words : List (List ℕ)) (old new : List (List ℕ)) (be
   one_command : (c d : Command) → command_of words ≡ Some c → command_of words ≡ Some d → c ≡ d
   one_command c d first second = cc
 
+  -- a command that resubmits is none that doesn't
+  other_than_again : (command : Command) → resubmits command ≡ false → command_of words ≡ Some command → (status : ℕ) (text : List ℕ)
+      → AgainOutcome held words status text → ⊥
+  other_than_again command not_again names status text outcome =
+      let found = again_names held words before after status text outcome in
+      let same : found.0 ≡ command = one_command found.0 command found.2 names in
+      let is : resubmits command ≡ true = subst (λ c. resubmits c ≡ true) same found.1 in cc
+
   checked_by : command_of words ≡ Some Check → result ≡ 0 → (text : List ℕ) → Appends before after text →
       CommandOutcome held words result text → Checked held words before after
   checked_by names zero text written (no_definition command fault given is said) = absurd (omega (arith, zero, is))
@@ -273,10 +290,20 @@ module _ (held : Held) (words : List (List ℕ)) (old new : List (List ℕ)) (be
   checked_by names zero text written (no_history fault given is said) = absurd (omega (arith, zero, is))
   checked_by names zero text written (lists listing given is said) =
       absurd (let e : Check ≡ Command.List = one_command _ _ names given.0 in cc)
+  checked_by names zero text written (again outcome) = absurd (other_than_again Check refl names result text outcome)
 
   pub serves_checked : HasServed → command_of words ≡ Some Check → result ≡ 0 → Checked held words before after
   serves_checked serves names zero =
       let s = spoke serves (zero_spoken zero) in checked_by names zero s.text s.written s.says
+
+  runs_anew : (command : Command) → makes_runs command ≡ true → resubmits command ≡ false
+  runs_anew Check makes = absurd (cc)
+  runs_anew Run makes = refl
+  runs_anew Trace makes = refl
+  runs_anew Command.List makes = absurd (cc)
+  runs_anew Resubmit makes = absurd (cc)
+  runs_anew ResubmitSet makes = absurd (cc)
+  runs_anew (Fires from count) makes = absurd (cc)
 
   module _ (command : Command) (makes : makes_runs command ≡ true) where
     ran_by : command_of words ≡ Some command → result ≡ 0 → (text : List ℕ) → Appends before after text →
@@ -307,6 +334,7 @@ module _ (held : Held) (words : List (List ℕ)) (old new : List (List ℕ)) (be
     ran_by names zero text written (no_history fault given is said) = absurd (omega (arith, zero, is))
     ran_by names zero text written (lists listing given is said) =
         absurd (let e : Command.List ≡ command = one_command _ _ given.0 names in cc)
+    ran_by names zero text written (again outcome) = absurd (other_than_again command (runs_anew command makes) names result text outcome)
 
     pub serves_ran : HasServed → command_of words ≡ Some command → result ≡ 0 → Ran held words command before after
     serves_ran serves names zero = let s = spoke serves (zero_spoken zero) in ran_by names zero s.text s.written s.says
@@ -355,6 +383,7 @@ module _ (held : Held) (words : List (List ℕ)) (old new : List (List ℕ)) (be
     fired_by zero text written (no_history fault given is said) = absurd (omega (arith, zero, is))
     fired_by zero text written (lists listing given is said) =
         absurd (let e : Command.List ≡ Fires from count = one_command _ _ given.0 names in cc)
+    fired_by zero text written (again outcome) = absurd (other_than_again (Fires from count) refl names result text outcome)
 
     pub serves_fired : HasServed → result ≡ 0 → Fired held words from count before after
     serves_fired serves zero = let s = spoke serves (zero_spoken zero) in fired_by zero s.text s.written s.says
@@ -374,6 +403,7 @@ module _ (held : Held) (words : List (List ℕ)) (old new : List (List ℕ)) (be
   definition_by one text written (costs command d inputs schedule given timed is made said) = absurd (omega (arith, one, is))
   definition_by one text written (no_history fault given is said) = absurd (omega (arith, one, is))
   definition_by one text written (lists listing given is said) = absurd (omega (arith, one, is))
+  definition_by one text written (again outcome) = absurd (again_not_one held words before after text result outcome one)
 
   pub serves_definition : HasServed → result ≡ 1 → RefusedDefinition held words before after
   serves_definition serves one = let s = spoke serves (one_spoken one) in definition_by one s.text s.written s.says
@@ -381,7 +411,8 @@ module _ (held : Held) (words : List (List ℕ)) (old new : List (List ℕ)) (be
   abbrev RefusedSix : Type 0
   RefusedSix =
       RefusedInputs held words before after ⊎ (RefusedSchedule held words before after ⊎ (RefusedTrigger held words before after
-      ⊎ (RefusedName held words before after ⊎ RefusedRecurrence held words before after)))
+      ⊎ (RefusedName held words before after ⊎ (RefusedRecurrence held words before after
+      ⊎ (RefusedAnswers held words before after ⊎ RefusedTimes held words before after)))))
 
   inputs_by : result ≡ 6 → (text : List ℕ) → Appends before after text → CommandOutcome held words result text → RefusedSix
   inputs_by six text written (no_definition command fault given is said) = absurd (omega (arith, six, is))
@@ -427,7 +458,7 @@ module _ (held : Held) (words : List (List ℕ)) (old new : List (List ℕ)) (be
     has_none = has;
     written = rw said at written;
   }))))
-  inputs_by six text written (no_recurrence from count file trigger fault given has reads is said) = inr (inr (inr (inr (record {
+  inputs_by six text written (no_recurrence from count file trigger fault given has reads is said) = inr (inr (inr (inr (inl (record {
     from = from;
     count = count;
     file = file;
@@ -437,16 +468,19 @@ module _ (held : Held) (words : List (List ℕ)) (old new : List (List ℕ)) (be
     has_trigger = has;
     recurs_not = reads;
     written = rw said at written;
-  }))))
+  })))))
   inputs_by six text written (costs command d inputs schedule given timed is made said) = absurd (omega (arith, six, is))
   inputs_by six text written (no_history fault given is said) = absurd (omega (arith, six, is))
   inputs_by six text written (lists listing given is said) = absurd (omega (arith, six, is))
+  inputs_by six text written (again outcome) = inr (inr (inr (inr (inr (again_six held words before after text written result outcome six)))))
 
   pub serves_inputs : HasServed → result ≡ 6 → RefusedSix
   serves_inputs serves six = let s = spoke serves (six_spoken six) in inputs_by six s.text s.written s.says
 
-  cost_by : result ≡ 8 → (text : List ℕ) → Appends before after text → CommandOutcome held words result text →
-      RefusedCost held words before after
+  abbrev RefusedEight : Type 0
+  RefusedEight = RefusedCost held words before after ⊎ RefusedNewCost held words before after
+
+  cost_by : result ≡ 8 → (text : List ℕ) → Appends before after text → CommandOutcome held words result text → RefusedEight
   cost_by eight text written (no_definition command fault given is said) = absurd (omega (arith, eight, is))
   cost_by eight text written (checks d given is said) = absurd (omega (arith, eight, is))
   cost_by eight text written (no_inputs command d fault makes given handed is said) = absurd (omega (arith, eight, is))
@@ -456,7 +490,7 @@ module _ (held : Held) (words : List (List ℕ)) (old new : List (List ℕ)) (be
   cost_by eight text written (fires from count file trigger r given has reads is said) = absurd (omega (arith, eight, is))
   cost_by eight text written (no_name from count file given has is said) = absurd (omega (arith, eight, is))
   cost_by eight text written (no_recurrence from count file trigger fault given has reads is said) = absurd (omega (arith, eight, is))
-  cost_by eight text written (costs command d inputs schedule given timed is made said) = record {
+  cost_by eight text written (costs command d inputs schedule given timed is made said) = inl (record {
     command = command;
     definition = d;
     inputs = inputs;
@@ -465,11 +499,12 @@ module _ (held : Held) (words : List (List ℕ)) (old new : List (List ℕ)) (be
     schedule_given = timed;
     runs_refused = made;
     written = rw said at written;
-  }
+  })
   cost_by eight text written (no_history fault given is said) = absurd (omega (arith, eight, is))
   cost_by eight text written (lists listing given is said) = absurd (omega (arith, eight, is))
+  cost_by eight text written (again outcome) = inr (again_eight held words before after text written result outcome eight)
 
-  pub serves_cost : HasServed → result ≡ 8 → RefusedCost held words before after
+  pub serves_cost : HasServed → result ≡ 8 → RefusedEight
   serves_cost serves eight = let s = spoke serves (eight_spoken eight) in cost_by eight s.text s.written s.says
 
   listed_by : command_of words ≡ Some Command.List → result ≡ 0 → (text : List ℕ) → Appends before after text →
@@ -493,12 +528,17 @@ module _ (held : Held) (words : List (List ℕ)) (old new : List (List ℕ)) (be
   listed_by names zero text written (no_history fault given is said) = absurd (omega (arith, zero, is))
   listed_by names zero text written (lists listing given is said) =
       record { listing = listing; history_given = given; written = rw said at written }
+  listed_by names zero text written (again outcome) = absurd (other_than_again Command.List refl names result text outcome)
 
   pub serves_listed : HasServed → command_of words ≡ Some Command.List → result ≡ 0 → Listed held words before after
   serves_listed serves names zero = let s = spoke serves (zero_spoken zero) in listed_by names zero s.text s.written s.says
 
-  history_by : result ≡ 7 → (text : List ℕ) → Appends before after text → CommandOutcome held words result text →
-      RefusedHistory held words before after
+  abbrev RefusedSeven : Type 0
+  RefusedSeven =
+      RefusedHistory held words before after ⊎ (RefusedLog held words before after ⊎ (RefusedRun held words before after
+      ⊎ RefusedNames held words before after))
+
+  history_by : result ≡ 7 → (text : List ℕ) → Appends before after text → CommandOutcome held words result text → RefusedSeven
   history_by seven text written (no_definition command fault given is said) = absurd (omega (arith, seven, is))
   history_by seven text written (checks d given is said) = absurd (omega (arith, seven, is))
   history_by seven text written (no_inputs command d fault makes given handed is said) = absurd (omega (arith, seven, is))
@@ -511,11 +551,44 @@ module _ (held : Held) (words : List (List ℕ)) (old new : List (List ℕ)) (be
   history_by seven text written (no_recurrence from count file trigger fault given has reads is said) =
       absurd (omega (arith, seven, is))
   history_by seven text written (no_history fault given is said) =
-      record { fault = fault; history_given = given; written = rw said at written }
+      inl (record { fault = fault; history_given = given; written = rw said at written })
   history_by seven text written (lists listing given is said) = absurd (omega (arith, seven, is))
+  history_by seven text written (again outcome) = inr (again_seven held words before after text written result outcome seven)
 
-  pub serves_history : HasServed → result ≡ 7 → RefusedHistory held words before after
+  pub serves_history : HasServed → result ≡ 7 → RefusedSeven
   serves_history serves seven = let s = spoke serves (seven_spoken seven) in history_by seven s.text s.written s.says
+
+  -- of the commands that resubmit
+  again_by : (command : Command) → resubmits command ≡ true → command_of words ≡ Some command → result ≡ 0 → (text : List ℕ) →
+      Appends before after text → CommandOutcome held words result text → Resubmitted held words command before after
+  again_by command anew names zero text written (again outcome) =
+      let done = again_done held words before after text written result outcome zero in
+      subst (λ c. Resubmitted held words c before after) (one_command done.0 command done.1 names) done.2
+  again_by command anew names zero text written (no_definition c fault given is said) = absurd (omega (arith, zero, is))
+  again_by command anew names zero text written (checks d given is said) =
+      absurd (let e : Check ≡ command = one_command _ _ given.0 names in let f : resubmits command ≡ true = anew in cc)
+  again_by command anew names zero text written (no_inputs c d fault makes given handed is said) = absurd (omega (arith, zero, is))
+  again_by command anew names zero text written (no_schedule c d inputs fault given timed is said) = absurd (omega (arith, zero, is))
+  again_by command anew names zero text written (runs c d inputs schedule given timed is made) =
+      let same : c ≡ command = one_command c command given.definition_given.0 names in
+      let fresh : resubmits command ≡ false = subst (λ k. resubmits k ≡ false) same (runs_anew c given.makes) in
+      absurd (let f : resubmits command ≡ true = anew in cc)
+  again_by command anew names zero text written (no_run c d inputs schedule fault given timed is made said) =
+      absurd (omega (arith, zero, is))
+  again_by command anew names zero text written (costs c d inputs schedule given timed is made said) = absurd (omega (arith, zero, is))
+  again_by command anew names zero text written (no_history fault given is said) = absurd (omega (arith, zero, is))
+  again_by command anew names zero text written (lists listing given is said) =
+      absurd (let e : Command.List ≡ command = one_command _ _ given.0 names in let f : resubmits command ≡ true = anew in cc)
+  again_by command anew names zero text written (fires from count file trigger r given has reads is said) =
+      absurd (let e : Fires from count ≡ command = one_command _ _ given.0 names in let f : resubmits command ≡ true = anew in cc)
+  again_by command anew names zero text written (no_name from count file given has is said) = absurd (omega (arith, zero, is))
+  again_by command anew names zero text written (no_recurrence from count file trigger fault given has reads is said) =
+      absurd (omega (arith, zero, is))
+
+  pub serves_again : (command : Command) → resubmits command ≡ true → HasServed → command_of words ≡ Some command → result ≡ 0 →
+      Resubmitted held words command before after
+  serves_again command anew serves names zero =
+      let s = spoke serves (zero_spoken zero) in again_by command anew names zero s.text s.written s.says
 
 -- ---- completeness
 
@@ -532,13 +605,13 @@ module _ (bytes_of : List ℕ → Option (List ℕ)) (words : List (List ℕ)) (
       subst (λ file. MayBeSaid (next file)) same saying.2
 
   -- and of one in which this is found
-  held_on : {T : Type 0} (form : Form T) (name : List ℕ) (limit : ℕ) (t : T) (next : Result T FormFault → Plan) →
+  pub held_on : {T : Type 0} (form : Form T) (name : List ℕ) (limit : ℕ) (t : T) (next : Result T FormFault → Plan) →
       Holds bytes_of name limit form t → MayBeSaid (Reads name limit (λ file. next (form file))) → MayBeSaid (next (Ok t))
   held_on form name limit t next holds saying =
       subst (λ found. MayBeSaid (next found)) holds.2 (read_on name limit (λ file. next (form file)) holds.0 holds.1 saying)
 
   -- a command goes on with the definition that DEF holds
-  defined_on : (command : Command) (d : DefTree) → HoldsDefinition bytes_of words command d →
+  pub defined_on : (command : Command) (d : DefTree) → HoldsDefinition bytes_of words command d →
       MayBeSaid (defined (word words 1) command words) → MayBeSaid (accepted command words d)
   defined_on command d holds saying =
       held_on definition_form (word words 1) definition_bytes d (judged_definition command words) holds.held saying
@@ -555,6 +628,8 @@ module _ (bytes_of : List ℕ → Option (List ℕ)) (words : List (List ℕ)) (
   runs_on Trace d makes holds saying = defined_on Trace d holds saying
   runs_on (Fires from count) d makes holds saying = absurd cc
   runs_on Command.List d makes holds saying = absurd cc
+  runs_on Resubmit d makes holds saying = absurd cc
+  runs_on ResubmitSet d makes holds saying = absurd cc
 
   -- `list` lists the records that HISTORY holds
   list_on : (listing : List ListedTree) → HoldsHistory bytes_of words listing → MayBeSaid (plan Command.List words) →
@@ -604,7 +679,7 @@ module _ (bytes_of : List ℕ → Option (List ℕ)) (words : List (List ℕ)) (
 
 module _ (bytes_of : List ℕ → Option (List ℕ)) (words : List (List ℕ)) (status : ℕ) (text : List ℕ) where
   -- what the words say, by the plan of their command
-  say_by : (command : Command) → command_of words ≡ Some command → Say bytes_of words status text →
+  pub say_by : (command : Command) → command_of words ≡ Some command → Say bytes_of words status text →
       PlanSays bytes_of (Some (plan command words)) status text
   say_by command names saying =
       subst (λ found. PlanSays bytes_of (option_map (λ c. plan c words) found) status text) names saying
@@ -644,7 +719,7 @@ whole_from said before after line result only saying = elim saying [
 
 module _ (held : Held) (words : List (List ℕ)) (old new : List (List ℕ)) (before after : Option (List ℕ)) (count later result : ℕ) where
   -- what is said where no count rose
-  abbrev IsTold : Type 0
+  abbrev pub IsTold : Type 0
   IsTold = IfSome held (λ bytes_of. new ≡ old → IsCalm count later → IsSaid (Say bytes_of words) before after result)
 
 -- where all tests pass and no count rose, the whole text was taken, or memory ran out

@@ -58,3 +58,21 @@ pub reaches_said : (held : Held) (name : List ℕ) (limit : ℕ) (next : Option 
 reaches_said held name limit next file plan old new (Ok said) gives is ok err = (gives.1, (file, gives.0, rw (is, ok) (refl, refl)))
 reaches_said held name limit next file plan old new (Err (CannotRead failed)) gives is ok err = absurd (cc)
 reaches_said held name limit next file plan old new (Err Memory) gives is ok err = inl gives.1
+
+-- And so where it may be said whether the files tell or not.
+pub reaches_always : (held : Held) (name : List ℕ) (limit : ℕ) (next : Option (List ℕ) → Plan) (file : Option (List ℕ)) (plan : Plan)
+    (old new : List (List ℕ)) (result : Result Said Stop) →
+    MayGive held name limit file × (new ≡ old) → next file ≡ plan →
+    IfOk result (λ said. (any : Held) → MaySay any plan said.verdict said.text.items) → IfErr result (λ stop. stop ≡ Memory) →
+    Reaches held (Reads name limit next) old new (outcome_of result)
+reaches_always held name limit next file plan old new (Ok said) gives is ok err = (gives.1, (file, gives.0, rw is (ok held)))
+reaches_always held name limit next file plan old new (Err (CannotRead failed)) gives is ok err = absurd (cc)
+reaches_always held name limit next file plan old new (Err Memory) gives is ok err = inl gives.1
+
+-- What is said without a further file.
+pub reaches_now : (held : Held) (plan : Plan) (old : List (List ℕ)) (result : Result Said Stop) →
+    IfOk result (λ said. (any : Held) → MaySay any plan said.verdict said.text.items) → IfErr result (λ stop. stop ≡ Memory) →
+    Reaches held plan old old (outcome_of result)
+reaches_now held plan old (Ok said) ok err = (refl, ok held)
+reaches_now held plan old (Err (CannotRead failed)) ok err = absurd (cc)
+reaches_now held plan old (Err Memory) ok err = inl refl

@@ -8,7 +8,6 @@ use Rattle.wf_answers.specs.Inputs.{InputsTree}
 use Rattle.wf_def.specs.ActionTree.{ActionTree, action, KindTree, compose, scope, ActionTrees, no_actions, action_then}
 use Rattle.wf_def.specs.DefTree.{DefTree, TriggerTree}
 use Rattle.wf_json.specs.Json.{string}
-use Rattle.wf_reading.specs.declared.definition.RuleFault.{RuleFault}
 use Rattle.wf_outside.specs.Outside.{Held}
 use Rattle.wf_told.specs.Records.{runs_records}
 use Rattle.wf_told.specs.Runs.{TellsRuns}
@@ -17,9 +16,8 @@ use Rattle.wf_template.specs.ExprTree.{call, expr_trees}
 use Rattle.wf_template.specs.TemplateTree.{whole}
 use Rattle.wf_top.specs.Commands.{accepted, accepted_line, judged_definition, judged_inputs, judged_schedule, judged_value, plan, recurs}
 use Rattle.wf_top.specs.Commands.{run, scheduled, triggered}
-use Rattle.wf_top.specs.Fault.{fault_line, form_words}
-use Rattle.wf_top.specs.Form.{checked, definition_form, inputs_form, schedule_form}
-use Rattle.wf_top.specs.Plan.{Plan, Says, Reads, Makes, MaySay, within}
+use Rattle.wf_files.specs.Fault.{fault_line}
+use Rattle.wf_top.specs.Plan.{Plan, Says, Reads, Makes, Remakes, MaySay, within}
 use Rattle.wf_top.specs.Served as served
 use Rattle.wf_top.specs.Trigger.{trigger_line, trigger_words}
 use Rattle.jiff_core.specs.Calendar.{days_of_months}
@@ -28,7 +26,7 @@ use Rattle.wf_recur.specs.declared.fault.RecurrenceFault.{RecurrenceFault}
 use Rattle.wf_top.specs.Fires.{moments_text, recurrence_line, recurrence_words, trigger_in}
 use Rattle.wf_val.specs.ValueTree.{ValueTree, boolean, list, members, null, object, trees}
 use Rattle.wf_top.specs.Words.{command_of, count_of, is_traced, makes_runs, schedule_word}
-use Rattle.wf_top.specs.declared.fault.FormFault.{FormFault}
+use Rattle.wf_files.specs.declared.fault.FormFault.{FormFault}
 use Rattle.wf_told.specs.declared.fault.RunsFault.{RunsFault}
 use Rattle.wf_top.specs.declared.said.Verdict.TheVariants.{Done, Definition, Inputs, TooLarge}
 use Rattle.wf_top.specs.declared.words.Command.{Command}
@@ -48,11 +46,13 @@ abbrev first_limit : Plan → ℕ
 first_limit (Says verdict said) = 0
 first_limit (Reads name limit next) = limit
 first_limit (Makes traced d inputs schedule) = 0
+first_limit (Remakes d r names inputs schedule) = 0
 
 abbrev first_name : Plan → List ℕ
 first_name (Says verdict said) = []
 first_name (Reads name limit next) = name
 first_name (Makes traced d inputs schedule) = []
+first_name (Remakes d r names inputs schedule) = []
 
 -- words of a command and its files
 abbrev words_of : List ℕ → ℕ → List (List ℕ)
@@ -83,15 +83,6 @@ within-limit = refl
 
 within-one_more : within 3 (letters 4) ≡ None
 within-one_more = refl
-
-too_long-definition : definition_form None ≡ Err FormFault.TooLong
-too_long-definition = refl
-
-too_long-inputs : inputs_form None ≡ Err FormFault.TooLong
-too_long-inputs = refl
-
-too_long-schedule : schedule_form None ≡ Err FormFault.TooLong
-too_long-schedule = refl
 
 -- DEF is the first file, INPUTS the second and SCHEDULE the third
 abbrev two_files : List ℕ → List (List ℕ)
@@ -129,17 +120,6 @@ untraced-run d = refl
 
 traced-trace : (d : DefTree) → accepted Trace (three_files (codes "trace")) d ≡ run true (letters 2) (Some (letters 3)) d
 traced-trace d = refl
-
--- ---- schedules
-
-schedule-no_bytes : schedule_form (Some []) ≡ Ok []
-schedule-no_bytes = refl
-
-schedule-two : schedule_form (Some (codes "0\n12\n")) ≡ Ok (0 ∷ 12 ∷ [])
-schedule-two = refl
-
-schedule-letter : schedule_form (Some (codes "0\nx\n")) ≡ Err (FormFault.Line 2)
-schedule-letter = refl
 
 -- ---- words
 
@@ -236,54 +216,6 @@ check-no_runs = refl
 check-no_events : is_traced Check ≡ false
 check-no_events = refl
 
--- ---- faults of files
-
-words-too_long : form_words FormFault.TooLong ≡ codes "too long"
-words-too_long = refl
-
-words-not_json : form_words FormFault.NotJson ≡ codes "NotJson"
-words-not_json = refl
-
-words-not_whole : (pointer : List ℕ) → form_words (FormFault.NotWhole pointer) ≡ codes "NotWhole " ++ string pointer
-words-not_whole pointer = refl
-
-words-too_deep : (pointer : List ℕ) → form_words (FormFault.TooDeep pointer) ≡ codes "TooDeep " ++ string pointer
-words-too_deep pointer = refl
-
-words-rule : (pointer : List ℕ) → form_words (FormFault.Rule 8 pointer) ≡ codes "V8 " ++ string pointer
-unfolding digits
-words-rule pointer = refl
-
-words-last_rule : (pointer : List ℕ) → form_words (FormFault.Rule 21 pointer) ≡ codes "V21 " ++ string pointer
-unfolding digits
-words-last_rule pointer = refl
-
-words-form : (pointer : List ℕ) → form_words (FormFault.Form pointer) ≡ codes "Form " ++ string pointer
-words-form pointer = refl
-
-words-twice : (address : List ℕ) → form_words (FormFault.Twice address 12) ≡ codes "Twice " ++ (string address ++ codes " 12")
-unfolding digits
-words-twice address = refl
-
-words-moment : form_words FormFault.Moment ≡ codes "Moment"
-words-moment = refl
-
-words-line : form_words (FormFault.Line 4294967296) ≡ codes "Line 4294967296"
-unfolding digits
-words-line = refl
-
-line-definition : fault_line (codes "definition ") FormFault.NotJson ≡ codes "definition NotJson\n"
-unfolding fault_line
-line-definition = refl
-
-line-inputs : fault_line (codes "inputs ") FormFault.Moment ≡ codes "inputs Moment\n"
-unfolding fault_line
-line-inputs = refl
-
-line-schedule : fault_line (codes "schedule ") FormFault.TooLong ≡ codes "schedule too long\n"
-unfolding fault_line
-line-schedule = refl
-
 -- ---- faults of triggers
 
 trigger-none : trigger_line TriggerFault.NoTrigger ≡ codes "trigger NoTrigger\n"
@@ -368,13 +300,6 @@ definition-told : (command : Command) (words : List (List ℕ)) →
     judged_definition command words (Err some_fault) ≡ Says Definition (codes "definition NotJson\n")
 unfolding fault_line
 definition-told command words = refl
-
--- a rule between parts is told, and a definition that breaks none is taken, by each command alike
-rule-broken : (d : DefTree) (pointer : List ℕ) → checked d (Some (RuleFault.Rule 9 pointer)) ≡ Err (FormFault.Rule 9 pointer)
-rule-broken d pointer = refl
-
-rules-kept : (d : DefTree) → checked d None ≡ Ok d
-rules-kept d = refl
 
 -- a fault of the inputs is told before anything of the schedule, and one of the schedule before anything of the runs
 inputs-told : (traced : Bool) (schedule : Option (List ℕ)) (d : DefTree) →

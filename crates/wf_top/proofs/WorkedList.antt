@@ -3,15 +3,14 @@ use Rattle.std.proofs.Common.{◌≡◌, [], ◌∷◌, false, None, Some, Ok, E
 use Rattle.std.specs.Prelude.{codes}
 use Rattle.std.specs.Fmt.{digits}
 use Rattle.wf_history.specs.History.{ListedTree}
-use Rattle.wf_record.specs.Worked.{empty, finished}
 use Rattle.wf_record.specs.declared.status.RunStatus.{RunStatus}
 use Rattle.wf_top.specs.Commands.{judged_history, listed_line, listing_text, plan}
-use Rattle.wf_top.specs.Fault.{fault_line}
-use Rattle.wf_top.specs.Form.{listing_form, or_line_fault}
+use Rattle.wf_files.specs.Fault.{fault_line}
+use Rattle.wf_files.specs.Form.{listing_form}
 use Rattle.wf_top.specs.Plan.{Says, Reads}
 use Rattle.wf_top.specs.Served as served
 use Rattle.wf_top.specs.Words.{command_of, is_traced, makes_runs}
-use Rattle.wf_top.specs.declared.fault.FormFault.{FormFault}
+use Rattle.wf_files.specs.declared.fault.FormFault.{FormFault}
 use Rattle.wf_top.specs.declared.said.Verdict.TheVariants.{Done, History}
 use Rattle.wf_top.specs.declared.words.Command.{Command}
 
@@ -42,25 +41,8 @@ list-reads : plan Command.List (codes "list" ∷ codes "h" ∷ []) ≡ Reads (co
 unfolding plan
 list-reads = refl
 
-too_long-history : listing_form None ≡ Err FormFault.TooLong
-too_long-history = refl
-
--- a file of no bytes has no records, and neither has one of silent lines
-no_bytes-history : listing_form (Some []) ≡ Ok []
-no_bytes-history = refl
-
-silent-history : listing_form (Some (codes "\n# kept since May\n\r\n#")) ≡ Ok []
-silent-history = refl
-
 abbrev succeeded : ListedTree
 succeeded = record { run = codes "r"; status = RunStatus.Succeeded; rows = 0 }
-
-records-listed : or_line_fault (Ok ((1, empty) ∷ (3, finished) ∷ []))
-    ≡ Ok (succeeded ∷ record { run = codes "r-1"; status = RunStatus.Failed; rows = 4 } ∷ [])
-records-listed = refl
-
-line-told : or_line_fault (Err 7) ≡ Err (FormFault.Line 7)
-line-told = refl
 
 -- ---- what is written
 

@@ -10,17 +10,18 @@ use Rattle.wf_recur.specs.Reading.{recurrence_of}
 use Rattle.wf_recur.specs.declared.fault.RecurrenceFault.{RecurrenceFault}
 use Rattle.wf_recur.specs.declared.recurrence.Recurrence.{Recurrence}
 use Rattle.wf_val.specs.ValueTree.{ValueTree}
-use Rattle.wf_top.specs.Fault.{fault_line}
+use Rattle.wf_files.specs.Fault.{fault_line}
 use Rattle.wf_record.specs.Record.{run_status_name}
 use Rattle.wf_top.specs.Fires.{moments_text, recurrence_line, recurrence_words, trigger_in}
-use Rattle.wf_top.specs.Form.{definition_form, inputs_form, listing_form, schedule_form, value_form}
+use Rattle.wf_files.specs.Form.{definition_form, inputs_form, listing_form, schedule_form, value_form}
 use Rattle.wf_top.specs.Limits.{definition_bytes, history_bytes, inputs_bytes, schedule_bytes}
 use Rattle.wf_top.specs.Plan.{Plan, Says, Reads, Makes}
-use Rattle.wf_top.specs.Words.{command_of, is_traced, schedule_word, word}
-use Rattle.wf_top.specs.declared.fault.FormFault.{FormFault}
+use Rattle.wf_top.specs.Resubmit.{resubmit}
+use Rattle.wf_top.specs.Words.{command_of, is_traced, one_asked, schedule_word, set_asked, word}
+use Rattle.wf_files.specs.declared.fault.FormFault.{FormFault}
 use Rattle.wf_top.specs.declared.said.Verdict.TheVariants.{Done, Definition, History, Inputs}
 use Rattle.wf_top.specs.declared.words.Command.{Command}
-use Rattle.wf_top.specs.declared.words.Command.TheVariants.{Check, Run, Trace, Fires}
+use Rattle.wf_top.specs.declared.words.Command.TheVariants.{Check, Run, Trace, Resubmit, ResubmitSet, Fires}
 
 -- what `check` writes of an accepted definition: how many actions it has, at any depth
 unfoldable pub accepted_line : DefTree → List ℕ
@@ -50,6 +51,8 @@ abbrev pub accepted : Command → List (List ℕ) → DefTree → Plan
 accepted Check words d = Says Done (accepted_line d)
 accepted Run words d = run (is_traced Run) (word words 2) (schedule_word words) d
 accepted Trace words d = run (is_traced Trace) (word words 2) (schedule_word words) d
+accepted Resubmit words d = resubmit (one_asked words) d
+accepted ResubmitSet words d = resubmit (set_asked words) d
 -- These are never met: `list` reads no definition, and `fires` has a plan of its own.
 accepted Command.List words d = Says Done (accepted_line d)
 accepted (Fires from count) words d = Says Done (accepted_line d)
@@ -106,6 +109,8 @@ unfoldable pub plan : Command → List (List ℕ) → Plan
 plan Check words = defined (word words 1) Check words
 plan Run words = defined (word words 1) Run words
 plan Trace words = defined (word words 1) Trace words
+plan Resubmit words = defined (word words 1) Resubmit words
+plan ResubmitSet words = defined (word words 1) ResubmitSet words
 plan (Fires from count) words = fired (word words 1) (word words 2) from count
 plan Command.List words = list (word words 1)
 

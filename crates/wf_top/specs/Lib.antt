@@ -1,10 +1,12 @@
 pub mod Commands
-pub mod Fault
 pub mod Fires
-pub mod Form
 pub mod Limits
 pub mod Plan
 pub mod Ran
+pub mod Refusal
+pub mod Resubmit
+pub mod Resubmitted
+pub mod Seen
 pub mod Served
 pub mod Told
 pub mod Trigger

@@ -6,21 +6,21 @@ use Rattle.wf_def.specs.DefTree.{DefTree}
 use Rattle.wf_history.specs.History.{ListedTree}
 use Rattle.wf_outside.specs.Outside.{Held}
 use Rattle.wf_top.specs.Commands.{accepted_line, listing_text}
-use Rattle.wf_top.specs.Fault.{fault_line}
+use Rattle.wf_files.specs.Fault.{fault_line}
 use Rattle.wf_recur.specs.Next.{AreNext}
 use Rattle.wf_recur.specs.Reading.{recurrence_of}
 use Rattle.wf_recur.specs.declared.fault.RecurrenceFault.{RecurrenceFault}
 use Rattle.wf_recur.specs.declared.recurrence.Recurrence.{Recurrence}
 use Rattle.wf_val.specs.ValueTree.{ValueTree}
 use Rattle.wf_top.specs.Fires.{moments_text, recurrence_line, recurrence_words, trigger_in}
-use Rattle.wf_top.specs.Form.{Form, definition_form, inputs_form, listing_form, schedule_form, value_form}
+use Rattle.wf_files.specs.Form.{Form, definition_form, inputs_form, listing_form, schedule_form, value_form}
 use Rattle.wf_top.specs.Limits.{definition_bytes, history_bytes, inputs_bytes, schedule_bytes}
 use Rattle.wf_top.specs.Plan.{MayGive, within}
 use Rattle.wf_top.specs.Served.{out_of_memory}
 use Rattle.wf_top.specs.Told.{too_large}
 use Rattle.wf_top.specs.Trigger.{trigger_line}
 use Rattle.wf_top.specs.Words.{command_of, is_traced, makes_runs, schedule_word, word}
-use Rattle.wf_top.specs.declared.fault.FormFault.{FormFault}
+use Rattle.wf_files.specs.declared.fault.FormFault.{FormFault}
 use Rattle.wf_told.specs.Records.{runs_records}
 use Rattle.wf_told.specs.Runs.{TellsRuns}
 use Rattle.wf_told.specs.declared.fault.RunsFault.{RunsFault}

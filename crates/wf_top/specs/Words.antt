@@ -1,12 +1,12 @@
 -- Which words are a command.
-use Rattle.std.specs.Prelude.{ℕ, ◌+◌, ◌-◌, ◌*◌, List, [], ◌∷◌, ◌&&◌, ◌||◌, length, Bool, not, true, false, Option, None, Some}
+use Rattle.std.specs.Prelude.{ℕ, ◌+◌, ◌-◌, ◌*◌, List, [], ◌∷◌, ◌&&◌, ◌||◌, drop, length, Bool, not, true, false, Option, None, Some}
 use Rattle.std.specs.Prelude.{if◌then◌else◌, nat_eq, nat_le, nat_lt, codes}
 use Rattle.std.specs.Prelude.{slice_get, slice_index_or}
 use Rattle.std.specs.Char.{is_ascii_digit}
 use Rattle.std.specs.Str.{bytes_eq}
 use Rattle.wf_fn_time.specs.Reading.{read_time}
 use Rattle.wf_top.specs.declared.words.Command.{Command}
-use Rattle.wf_top.specs.declared.words.Command.TheVariants.{Check, Run, Trace, Fires}
+use Rattle.wf_top.specs.declared.words.Command.TheVariants.{Check, Run, Trace, Resubmit, ResubmitSet, Fires}
 
 -- the word at a place
 abbrev pub word : List (List ℕ) → ℕ → List ℕ
@@ -20,6 +20,12 @@ schedule_word words = slice_get words 3
 abbrev pub is_command : List ℕ → ℕ → List (List ℕ) → Bool
 is_command name count [] = false
 is_command name count (first ∷ rest) = bytes_eq first name && nat_eq (length rest) count
+
+-- and so many at least and at most
+abbrev pub is_command_within : List ℕ → ℕ → ℕ → List (List ℕ) → Bool
+is_command_within name least most [] = false
+is_command_within name least most (first ∷ rest) =
+    bytes_eq first name && (nat_le least (length rest) && nat_le (length rest) most)
 
 -- what decimal digits come to behind those that come to n; none behind more than a thousand
 abbrev pub digits_from : ℕ → List ℕ → Option ℕ
@@ -50,7 +56,9 @@ command_of words =
     (if is_command (codes "run") 2 words || is_command (codes "run") 3 words then Some Run else
     (if is_command (codes "trace") 3 words then Some Trace else
     (if is_command (codes "list") 1 words then Some Command.List else
-    (if is_command (codes "fires") 4 words then fires_of (word words 3) (word words 4) else None))))
+    (if is_command (codes "resubmit") 5 words || is_command (codes "resubmit") 6 words then Some Resubmit else
+    (if is_command_within (codes "resubmit-set") 6 505 words then Some ResubmitSet else
+    (if is_command (codes "fires") 4 words then fires_of (word words 3) (word words 4) else None))))))
 
 -- the command makes the runs that inputs start
 abbrev pub makes_runs : Command → Bool
@@ -58,6 +66,8 @@ makes_runs Check = false
 makes_runs Run = true
 makes_runs Trace = true
 makes_runs Command.List = false
+makes_runs Resubmit = false
+makes_runs ResubmitSet = false
 makes_runs (Fires from count) = false
 
 -- the command writes the events of each run above its record
@@ -66,4 +76,49 @@ is_traced Check = false
 is_traced Run = false
 is_traced Trace = true
 is_traced Command.List = false
+is_traced Resubmit = false
+is_traced ResubmitSet = false
 is_traced (Fires from count) = false
+
+-- the command resubmits a run
+abbrev pub resubmits : Command → Bool
+resubmits Check = false
+resubmits Run = false
+resubmits Trace = false
+resubmits Command.List = false
+resubmits Resubmit = true
+resubmits ResubmitSet = true
+resubmits (Fires from count) = false
+
+-- What a resubmission goes by beside DEF: the words HISTORY, RUN, INPUTS and SCHEDULE, where there is one, and the names of the actions.
+pub record AskedTree : Type 0 where
+  pub history : List ℕ
+  pub run : List ℕ
+  pub inputs : List ℕ
+  pub schedule : Option (List ℕ)
+  pub names : List (List ℕ)
+
+-- resubmit DEF HISTORY RUN ACTION INPUTS [SCHEDULE]
+abbrev pub one_asked : List (List ℕ) → AskedTree
+one_asked words = record {
+  history = word words 2;
+  run = word words 3;
+  inputs = word words 5;
+  schedule = slice_get words 6;
+  names = word words 4 ∷ [];
+}
+
+-- resubmit-set DEF HISTORY RUN INPUTS SCHEDULE ACTION...
+abbrev pub set_asked : List (List ℕ) → AskedTree
+set_asked words = record {
+  history = word words 2;
+  run = word words 3;
+  inputs = word words 4;
+  schedule = Some (word words 5);
+  names = drop 6 words;
+}
+
+-- by the command
+abbrev pub asked_of : Command → List (List ℕ) → AskedTree
+asked_of ResubmitSet words = set_asked words
+asked_of command words = one_asked words

@@ -8,14 +8,15 @@ ghost use Rattle.wf_top.specs.Words.{command_of};
 
 use crate::DEFINITION_LIMIT;
 use crate::accepted::accepted_line;
-use crate::form::definition_form;
 use crate::listing::list;
 use crate::load::{Stop, load};
 use crate::recurring::fired;
+use crate::resubmitting::resubmit;
 use crate::runs::run;
 use crate::said::{Said, Verdict, say_fault};
-use crate::words::{Command, schedule_word};
+use crate::words::{Command, one_asked, schedule_word, set_asked};
 use std::alloc::Global;
+use wf_files::definition_form;
 use wf_outside::Files;
 use wf_rules::Checked;
 use wf_told::Engine;
@@ -51,6 +52,8 @@ fn accepted<F: Files, E: Engine>(
         Command::Check | Command::List | Command::Fires { .. } => say_accepted(alloc, checked),
         Command::Run => run(alloc, files, engine, false, &words[2], schedule, checked),
         Command::Trace => run(alloc, files, engine, true, &words[2], schedule, checked),
+        Command::Resubmit => resubmit(alloc, files, engine, one_asked(words), checked),
+        Command::ResubmitSet => resubmit(alloc, files, engine, set_asked(words), checked),
     }
 }
 
@@ -90,9 +93,8 @@ pub fn follow<F: Files, E: Engine>(
 {
     match command {
         Command::List => list(alloc, files, &words[1]),
-        Command::Check | Command::Run | Command::Trace => {
-            defined(alloc, words, command, files, engine, &words[1])
-        }
+        Command::Check | Command::Run | Command::Trace | Command::Resubmit | Command::ResubmitSet =>
+            { defined(alloc, words, command, files, engine, &words[1]) }
         Command::Fires { from, count } => fired(alloc, files, &words[1], &words[2], from, count),
     }
 }

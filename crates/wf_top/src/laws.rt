@@ -3,10 +3,11 @@ ghost use Rattle.std.specs.Prelude.{◌≡◌, ℕ, Bool, List, None, Option};
 ghost use Rattle.wf_answers.specs.Inputs.{InputsTree};
 ghost use Rattle.wf_def.specs.DefTree.{DefTree};
 ghost use Rattle.wf_reading.specs.Read.{IsRead};
+ghost use Rattle.wf_record.specs.Record.{RecordTree};
 ghost use Rattle.wf_rules.specs.Broken.{broken_of};
 ghost use Rattle.wf_top.specs.Ran.{HoldsDefinition};
 ghost use Rattle.wf_top.specs.Served.{Say};
-ghost use Rattle.wf_top.specs.Told.{MayTell};
+ghost use Rattle.wf_top.specs.Told.{MayTell, MayTellAgain};
 ghost use Rattle.wf_top.specs.declared.said.Verdict.{Verdict};
 ghost use Rattle.wf_top.specs.declared.words.Command.{Command};
 
@@ -18,6 +19,16 @@ pub fn one_thing_is_told()
     wf_told::one_text_is_told();
 }
 
+/// And of a resubmission.
+pub fn one_thing_is_told_again()
+    ensures { (d : DefTree) → IsRead d → broken_of d ≡ None → (r : RecordTree) (names : List (List ℕ)) (i : InputsTree)
+        (schedule : List ℕ) (v w : Verdict) (text other : List ℕ) → MayTellAgain d r names i schedule v text
+        → MayTellAgain d r names i schedule w other → (v ≡ w) × (text ≡ other) }
+{
+    wf_told::one_resubmission_is_told();
+    wf_told::one_reason_against_a_resubmission();
+}
+
 /// One status and one text is what words say over files that tell, where a definition that they hold was read from a value.
 pub fn one_thing_is_said()
     ensures { (bytes_of : List ℕ → Option (List ℕ)) (words : List (List ℕ))
@@ -25,4 +36,6 @@ pub fn one_thing_is_said()
         → (s u : ℕ) (text other : List ℕ) → Say bytes_of words s text → Say bytes_of words u other → (s ≡ u) × (text ≡ other) }
 {
     wf_told::one_text_is_told();
+    wf_told::one_resubmission_is_told();
+    wf_told::one_reason_against_a_resubmission();
 }

@@ -4,9 +4,9 @@
 //! before it answers the status that the program ends with. What it says is stated as a plan: which file is read with
 //! which limit, and what follows from its bytes. Everything that is claimed of a command is a clause of this one call.
 //!
-//! The crate reads definitions by `wf_reading`, has the rules between a definition's parts judged by `wf_rules`, reads inputs by
-//! `wf_answers`, schedules by `wf_schedule` and histories by `wf_history`. It opens no file and no stream itself, and makes no run: that is left
-//! to the objects which it is lent, of which an engine of runs (`wf_told`) promises exactly what is told of runs.
+//! What a file holds of its form, or which line says why it holds none, is `wf_files`'s to say. The crate opens no file and no stream itself,
+//! and makes no run: that is left to the objects which it is lent, of which an engine of runs (`wf_told`) promises exactly what is told of
+//! runs and of a resubmission.
 //!
 //! What may be said of runs is a relation (`specs/Told`), since runs are told by the events that a schedule leads to. `one_thing_is_said`
 //! says that it leaves no choice where the definition is one that was read: the files decide on the status and the text.
@@ -14,21 +14,20 @@
 
 mod accepted;
 mod commands;
-mod fault;
-mod form;
 mod laws;
 mod listing;
 mod load;
 mod put;
-mod quoted;
 mod recurring;
+mod refusal;
+mod resubmitting;
 mod runs;
 mod said;
 mod serve;
 mod trigger;
 mod words;
 
-pub use laws::{one_thing_is_said, one_thing_is_told};
+pub use laws::{one_thing_is_said, one_thing_is_told, one_thing_is_told_again};
 pub use serve::serve_words;
 pub use words::{Command, parse_words};
 

@@ -6,10 +6,10 @@ ghost use Rattle.wf_top.specs.Plan.{Says};
 ghost use Rattle.wf_top.specs.Served.{Follows};
 
 use crate::HISTORY_LIMIT;
-use crate::form::listing_form;
 use crate::load::{Stop, load};
 use crate::said::{Said, Verdict, say_fault};
 use std::alloc::{AllocError, Global};
+use wf_files::listing_form;
 use wf_history::{Listed, Listing};
 use wf_outside::Files;
 use wf_val::Text;

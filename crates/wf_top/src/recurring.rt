@@ -10,11 +10,10 @@ ghost use Rattle.wf_top.specs.Served.{Follows};
 ghost use Rattle.wf_val.specs.Seen.{tree};
 
 use crate::DEFINITION_LIMIT;
-use crate::form::value_form;
 use crate::load::{Stop, load};
-use crate::quoted::with_text;
 use crate::said::{Said, Verdict, say_fault};
 use std::alloc::{AllocError, Global};
+use wf_files::{value_form, with_text};
 use wf_fn_time::{Ticks, print_time};
 use wf_outside::Files;
 use wf_recur::{Recurrence, RecurrenceFault, fires};

@@ -6,19 +6,17 @@ ghost use Rattle.wf_top.specs.Commands.{run, scheduled};
 ghost use Rattle.wf_top.specs.Served.{Follows};
 ghost use Rattle.wf_top.specs.Told.{MayTell, SaysFault};
 
-use crate::form::{inputs_form, schedule_form};
 use crate::load::{Stop, load};
-use crate::said::{Said, Verdict, say_fault};
+use crate::said::{Said, TOO_LARGE, Verdict, say_fault};
 use crate::trigger::trigger_line;
 use crate::{INPUTS_LIMIT, SCHEDULE_LIMIT};
 use std::alloc::Global;
 use wf_answers::Inputs;
+use wf_files::{inputs_form, schedule_form};
 use wf_outside::Files;
 use wf_rules::Checked;
 use wf_told::{Engine, RunsFault};
 use wf_val::{Schedule, Text};
-
-const TOO_LARGE: &[u8] = b"too large\n";
 
 // Why runs weren't made.
 fn say_runs_fault(alloc: Global, fault: RunsFault) -> Result<Said, Stop>

@@ -1,11 +1,14 @@
 // What a command says: a verdict and a text.
 ghost use Rattle.std.specs.Prelude.{◌≡◌, ◌≢◌, IfOk, IfErr};
-ghost use Rattle.wf_top.specs.Fault.{fault_line};
+ghost use Rattle.wf_files.specs.Fault.{fault_line};
 ghost use Rattle.wf_top.specs.Served.{number};
 
-use crate::fault::{FormFault, fault_line};
 use crate::load::Stop;
 use std::alloc::Global;
+use wf_files::{FormFault, fault_line};
+
+/// The line that says that what is asked for would cost too much.
+pub const TOO_LARGE: &[u8] = b"too large\n";
 
 /// How a command ends that had its files.
 #[derive(Clone, Copy, Debug, PartialEq, Eq)]
@@ -16,7 +19,7 @@ pub enum Verdict {
     Definition = 1,
     /// The inputs or the schedule aren't of their form, or the definition's trigger starts no run by the inputs.
     Inputs = 6,
-    /// The history isn't of its form.
+    /// The history isn't of its form, or has no record of the run, or the record can't be resubmitted.
     History = 7,
     /// The runs cost too much.
     TooLarge = 8,

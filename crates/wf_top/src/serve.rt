@@ -5,6 +5,7 @@ ghost use Rattle.wf_outside.specs.Outside.{IsCalm, Rose};
 ghost use Rattle.wf_answers.specs.Inputs.{InputsTree};
 ghost use Rattle.wf_def.specs.DefTree.{DefTree};
 ghost use Rattle.wf_history.specs.History.{ListedTree};
+ghost use Rattle.wf_record.specs.Record.{RecordTree};
 ghost use Rattle.wf_recur.specs.Moments.{moments_due};
 ghost use Rattle.wf_recur.specs.declared.recurrence.Recurrence.{Recurrence};
 ghost use Rattle.wf_top.specs.Commands.{accepted_line, listing_text, plan_of};
@@ -12,8 +13,10 @@ ghost use Rattle.wf_top.specs.Fires.{moments_text};
 ghost use Rattle.wf_top.specs.Ran.{Checked, Fired, HoldsDefinition, HoldsHistory, IsToldWhole, IsWhole, Listed, PassesAll};
 ghost use Rattle.wf_top.specs.Ran.{PassesFires, Ran, RefusedCost, RefusedDefinition, RefusedHistory, RefusedInputs, RefusedName};
 ghost use Rattle.wf_top.specs.Ran.{RefusedRecurrence, RefusedSchedule, RefusedTrigger};
+ghost use Rattle.wf_top.specs.Resubmitted.{IsToldAgain, PassesAgain, RefusedAnswers, RefusedLog, RefusedNames, RefusedNewCost, RefusedRun};
+ghost use Rattle.wf_top.specs.Resubmitted.{RefusedTimes, Resubmitted};
 ghost use Rattle.wf_top.specs.Served.{FailedAt, IsSaid, Say, Serves, cannot_read};
-ghost use Rattle.wf_top.specs.Words.{command_of, is_traced, makes_runs};
+ghost use Rattle.wf_top.specs.Words.{asked_of, command_of, is_traced, makes_runs, resubmits};
 
 use crate::commands::follow;
 use crate::load::Stop;
@@ -96,6 +99,12 @@ pub fn serve_words<F: Files, I: Source, O: Sink, E: Engine>(
     ensures ran { (command : Command) → makes_runs command ≡ true → command_of words.now ≡ Some command → result ≡ 0
         → Ran (F.held files.old) words.now command (O.taken out.old) (O.taken out.new) }
 
+    // At `resubmit DEF HISTORY RUN ACTION INPUTS [SCHEDULE]` and `resubmit-set DEF HISTORY RUN INPUTS SCHEDULE ACTION...` 0 comes where a
+    // definition, the only record of the run, inputs and a schedule were read, and the sink took exactly a text that is told of the
+    // resubmission of that record from the actions that the words name.
+    ensures resubmitted { (command : Command) → resubmits command ≡ true → command_of words.now ≡ Some command → result ≡ 0
+        → Resubmitted (F.held files.old) words.now command (O.taken out.old) (O.taken out.new) }
+
     // At `fires DEF TRIGGER FROM N` 0 comes where a definition was read that has the trigger, whose recurrence was read, and the sink took
     // exactly its next moments.
     ensures fired { (from count : ℕ) → command_of words.now ≡ Some (Command.Fires from count) → result ≡ 0
@@ -110,6 +119,11 @@ pub fn serve_words<F: Files, I: Source, O: Sink, E: Engine>(
         (schedule : List ℕ) → PassesAll bytes_of words.now command d inputs schedule →
         F.failed files.new ≡ F.failed files.old → IsCalm (O.faults out.old) (O.faults out.new) →
         IsToldWhole (is_traced command) d inputs schedule (O.taken out.old) (O.taken out.new) result) }
+
+    ensures complete_again { IfSome (F.held files.old) (λ bytes_of. (command : Command) (d : DefTree) (log : RecordTree) →
+        (inputs : InputsTree) (schedule : List ℕ) → PassesAgain bytes_of words.now command d log inputs schedule →
+        F.failed files.new ≡ F.failed files.old → IsCalm (O.faults out.old) (O.faults out.new) →
+        IsToldAgain d log (asked_of command words.now).names inputs schedule (O.taken out.old) (O.taken out.new) result) }
 
     // At `list HISTORY` 0 comes where a history was read, and the sink took exactly a line for each of its records, in their order; and
     // where all its tests pass, that comes and nothing else, but for want of memory.
@@ -131,18 +145,27 @@ pub fn serve_words<F: Files, I: Source, O: Sink, E: Engine>(
 
     // 6 comes where it gave one, and the second gave no inputs; or gave inputs, and the third no schedule; or gave inputs by which the
     // trigger starts no run for its fault, and there was no third or it gave a schedule. At `fires` it comes where the definition lacks
-    // the trigger, or the trigger has no recurrence whose moments can be told.
+    // the trigger, or the trigger has no recurrence whose moments can be told. At the commands that resubmit it comes where HISTORY gave a
+    // history, and INPUTS no inputs, or SCHEDULE no schedule.
     ensures refused_inputs { result ≡ 6 → RefusedInputs (F.held files.old) words.now (O.taken out.old) (O.taken out.new)
         ⊎ RefusedSchedule (F.held files.old) words.now (O.taken out.old) (O.taken out.new)
         ⊎ RefusedTrigger (F.held files.old) words.now (O.taken out.old) (O.taken out.new)
         ⊎ RefusedName (F.held files.old) words.now (O.taken out.old) (O.taken out.new)
-        ⊎ RefusedRecurrence (F.held files.old) words.now (O.taken out.old) (O.taken out.new) }
+        ⊎ RefusedRecurrence (F.held files.old) words.now (O.taken out.old) (O.taken out.new)
+        ⊎ RefusedAnswers (F.held files.old) words.now (O.taken out.old) (O.taken out.new)
+        ⊎ RefusedTimes (F.held files.old) words.now (O.taken out.old) (O.taken out.new) }
 
-    // 7 comes at `list`, where the file gave no history.
-    ensures refused_history { result ≡ 7 → RefusedHistory (F.held files.old) words.now (O.taken out.old) (O.taken out.new) }
+    // 7 comes at `list`, where the file gave no history. At the commands that resubmit it comes where HISTORY gave no history; or where all
+    // files gave what they should, and the history has no record of the run, or more than one, or has one that can't be resubmitted from
+    // the actions that the words name.
+    ensures refused_history { result ≡ 7 → RefusedHistory (F.held files.old) words.now (O.taken out.old) (O.taken out.new)
+        ⊎ RefusedLog (F.held files.old) words.now (O.taken out.old) (O.taken out.new)
+        ⊎ RefusedRun (F.held files.old) words.now (O.taken out.old) (O.taken out.new)
+        ⊎ RefusedNames (F.held files.old) words.now (O.taken out.old) (O.taken out.new) }
 
-    // 8 comes where the runs cost too much.
-    ensures too_large { result ≡ 8 → RefusedCost (F.held files.old) words.now (O.taken out.old) (O.taken out.new) }
+    // 8 comes where the runs cost too much, or the new record would.
+    ensures too_large { result ≡ 8 → RefusedCost (F.held files.old) words.now (O.taken out.old) (O.taken out.new)
+        ⊎ RefusedNewCost (F.held files.old) words.now (O.taken out.old) (O.taken out.new) }
 
     // 2 comes where the words are no command, and always there, 4 apart.
     ensures two { result ≡ 2 → command_of words.now ≡ None }
@@ -171,5 +194,6 @@ pub fn serve_words<F: Files, I: Source, O: Sink, E: Engine>(
     ensures source_left { I.left input.new ≡ I.left input.old }
 {
     let _ = input;
+    wf_told::one_reason_against_a_resubmission();
     serve(alloc, words, files, engine, out)
 }

@@ -3,8 +3,8 @@ ghost use Rattle.std.specs.Prelude.{◌≡◌, ◌++◌, IfOk};
 ghost use Rattle.wf_json.specs.FaultText.{fault_text};
 ghost use Rattle.wf_top.specs.Trigger.{trigger_line, trigger_words};
 
-use crate::quoted::{with_number, with_text};
 use std::alloc::{AllocError, Global};
+use wf_files::{with_number, with_text};
 use wf_json::fault_text;
 use wf_trigger::TriggerFault;
 use wf_val::EvalFault;

@@ -1,7 +1,9 @@
 // The words of a command.
-ghost use Rattle.std.specs.Prelude.{◌≡◌, option_copied};
-ghost use Rattle.wf_top.specs.Words.{command_of, count_of, digits_from, fires_of, schedule_word, within_count};
+ghost use Rattle.std.specs.Prelude.{◌≡◌, ◌<◌, length, option_copied};
+ghost use Rattle.wf_top.specs.Seen.{asked_tree};
+ghost use Rattle.wf_top.specs.Words.{command_of, count_of, digits_from, fires_of, one_asked, schedule_word, set_asked, within_count, word};
 
+use std::slice::from_ref;
 use wf_fn_time::read_time;
 use wf_val::Text;
 
@@ -16,6 +18,11 @@ pub enum Command {
     Trace,
     /// `list HISTORY`: says in a line what each record of a history is.
     List,
+    /// `resubmit DEF HISTORY RUN ACTION INPUTS [SCHEDULE]`: does an action of a run anew and all that depends on it, and prints the
+    /// record of the new run.
+    Resubmit,
+    /// `resubmit-set DEF HISTORY RUN INPUTS SCHEDULE ACTION...`: does the same from 1 to 500 actions.
+    ResubmitSet,
     /// `fires DEF TRIGGER FROM N`: lists the next moments, N at most, at which a trigger that recurs is due from a moment on,
     /// which is in ticks.
     Fires { from: u64, count: u32 },
@@ -31,6 +38,8 @@ pub fn parse_words(words: &[Text]) -> Option<Command>
         ("run", 2 | 3) => Some(Command::Run),
         ("trace", 3) => Some(Command::Trace),
         ("list", 1) => Some(Command::List),
+        ("resubmit", 5 | 6) => Some(Command::Resubmit),
+        ("resubmit-set", 6..=505) => Some(Command::ResubmitSet),
         ("fires", 4) => fires_of(words[3].as_str(), words[4].as_str()),
         _ => None,
     }
@@ -82,4 +91,55 @@ pub fn schedule_word<'a>(words: &'a [Text]) -> Option<&'a Text>
     ensures { option_copied result ≡ schedule_word words.now }
 {
     words.get(3)
+}
+
+/// What a resubmission goes by beside DEF.
+#[derive(Clone, Copy)]
+pub struct Asked<'a> {
+    /// The name of the file of the history.
+    pub history: &'a Text,
+    /// The run that is resubmitted.
+    pub run: &'a Text,
+    /// The name of the file of the new inputs.
+    pub inputs: &'a Text,
+    /// The name of the file of the schedule, where one is named.
+    pub schedule: Option<&'a Text>,
+    /// The actions from which the run is resubmitted.
+    pub names: &'a [Text],
+}
+
+// The word at a place.
+fn word_at(words: &[Text], place: usize) -> &Text
+    requires { place < length words.now }
+    ensures { result.now ≡ word words.now place }
+{
+    &words[place]
+}
+
+/// What the words of `resubmit` name.
+pub fn one_asked(words: &[Text]) -> Asked<'_>
+    requires { 5 < length words.now }
+    ensures { asked_tree result ≡ one_asked words.now }
+{
+    Asked {
+        history: word_at(words, 2),
+        run: word_at(words, 3),
+        inputs: word_at(words, 5),
+        schedule: words.get(6),
+        names: from_ref(word_at(words, 4)),
+    }
+}
+
+/// What the words of `resubmit-set` name.
+pub fn set_asked(words: &[Text]) -> Asked<'_>
+    requires { 6 < length words.now }
+    ensures { asked_tree result ≡ set_asked words.now }
+{
+    Asked {
+        history: word_at(words, 2),
+        run: word_at(words, 3),
+        inputs: word_at(words, 4),
+        schedule: Some(word_at(words, 5)),
+        names: &words[6..],
+    }
 }

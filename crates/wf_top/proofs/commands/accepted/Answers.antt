@@ -3,6 +3,7 @@ use Rattle.std.proofs.lemmas.List.{get_or_default}
 use Rattle.wf_top.specs.Words.{command_of, word}
 use Rattle.wf_top.specs.declared.words.Command.TheVariants.{Run, Trace}
 use Rattle.wf_top.proofs.Asked.{second_length}
+use Rattle.wf_top.proofs.LengthLemmas.{resubmit_length, set_length}
 use Rattle.wf_top.proofs.commands.accepted.Goals as goal
 
 -- the third word is the one that `run` was handed, and the fourth too, where there is one
@@ -21,3 +22,9 @@ returns-in-Trace-clause-follows g c =
     let third : c.index-words-2-in-Trace.result ≡ word words 2 =
     c.index-words-2-in-Trace.is ∙ get_or_default words 2 c.index-words-2-in-Trace.result [] (second_length Trace words refl names) in
     rw (c.in-Trace.is, sym third, sym c.schedule_word-schedule.ensures) c.run-in-Trace.ensures.follows
+
+pub one_asked-requires : goal.one_asked-requires
+one_asked-requires g c = resubmit_length c.args.words.now (c.requires ∙ ap Some c.in-Resubmit.is)
+
+pub set_asked-requires : goal.set_asked-requires
+set_asked-requires g c = set_length c.args.words.now (c.requires ∙ ap Some c.in-ResubmitSet.is)

@@ -3,9 +3,9 @@ use Rattle.std.specs.Prelude.{◌≢◌, codes}
 use Rattle.std.proofs.lemmas.Result.{err_from_is_err_and}
 use Rattle.wf_reading.specs.ReadSeen.{def_tree}
 use Rattle.wf_top.specs.Commands.{judged_definition}
-use Rattle.wf_top.specs.Fault.{fault_line}
-use Rattle.wf_top.specs.Form.{definition_form}
-use Rattle.wf_top.specs.declared.fault.FormFault.{FormFault}
+use Rattle.wf_files.specs.Fault.{fault_line}
+use Rattle.wf_files.specs.Form.{definition_form}
+use Rattle.wf_files.specs.declared.fault.FormFault.{FormFault}
 use Rattle.wf_top.specs.declared.said.Verdict.TheVariants.{Definition}
 use Rattle.wf_top.proofs.Following.{reaches_fault, reaches_read}
 use Rattle.wf_top.proofs.commands.defined.Goals as goal

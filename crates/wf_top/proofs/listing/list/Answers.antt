@@ -3,9 +3,9 @@ use Rattle.std.specs.Prelude.{◌≢◌, codes}
 use Rattle.std.proofs.lemmas.Result.{err_from_is_err_and}
 use Rattle.wf_history.specs.Seen.{listed_tree}
 use Rattle.wf_top.specs.Commands.{judged_history}
-use Rattle.wf_top.specs.Fault.{fault_line}
-use Rattle.wf_top.specs.Form.{listing_form}
-use Rattle.wf_top.specs.declared.fault.FormFault.{FormFault}
+use Rattle.wf_files.specs.Fault.{fault_line}
+use Rattle.wf_files.specs.Form.{listing_form}
+use Rattle.wf_files.specs.declared.fault.FormFault.{FormFault}
 use Rattle.wf_top.specs.declared.said.Verdict.TheVariants.{History}
 use Rattle.wf_top.proofs.Following.{reaches_fault, reaches_said}
 use Rattle.wf_top.proofs.listing.list.Goals as goal

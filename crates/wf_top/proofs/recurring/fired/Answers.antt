@@ -4,10 +4,10 @@ use Rattle.std.proofs.lemmas.Result.{err_from_is_err_and}
 use Rattle.wf_val.specs.Seen.{tree}
 use Rattle.wf_val.specs.declared.val.Val.{Val}
 use Rattle.wf_top.specs.Commands.{judged_value, triggered}
-use Rattle.wf_top.specs.Fault.{fault_line}
+use Rattle.wf_files.specs.Fault.{fault_line}
 use Rattle.wf_top.specs.Fires.{trigger_in}
-use Rattle.wf_top.specs.Form.{value_form}
-use Rattle.wf_top.specs.declared.fault.FormFault.{FormFault}
+use Rattle.wf_files.specs.Form.{value_form}
+use Rattle.wf_files.specs.declared.fault.FormFault.{FormFault}
 use Rattle.wf_top.specs.declared.said.Verdict.TheVariants.{Definition}
 use Rattle.wf_top.proofs.Following.{reaches_fault, reaches_said}
 use Rattle.wf_top.proofs.recurring.fired.Goals as goal

@@ -1,5 +1,5 @@
 use Rattle.std.proofs.Common.{rules}
-use Rattle.wf_top.specs.Served.{Speaks, Unread}
+use Rattle.wf_top.specs.Served.{Speaks, Spent, Unread}
 use Rattle.wf_top.proofs.serve.serve.Goals as goal
 
 pub returns-in-Ok-clause-outcome : goal.returns-in-Ok-clause-outcome
@@ -15,3 +15,9 @@ returns-in-Ok-unread_line-clause-outcome g c = record {
   comes = search rules;
   writes = rw (c.deref-in-Ok-unread_line.ensures.value, c.in-Ok-unread_line.ensures) at c.close-in-Ok-unread_line.ensures.writes;
 }
+
+pub returns-in-Err-clause-outcome : goal.returns-in-Err-clause-outcome
+returns-in-Err-clause-outcome g c = record { outcome = Spent; comes = search rules; writes = search rules }
+
+pub returns-in-Err-Memory-clause-outcome : goal.returns-in-Err-Memory-clause-outcome
+returns-in-Err-Memory-clause-outcome g c = record { outcome = Spent; comes = search rules; writes = search rules }

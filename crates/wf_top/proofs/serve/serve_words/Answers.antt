@@ -3,7 +3,8 @@ use Rattle.std.specs.Option.{option_map}
 use Rattle.wf_top.specs.Commands.{plan}
 use Rattle.wf_top.proofs.Asked.{failed_word}
 use Rattle.wf_top.proofs.Outcomes.{serves_le, serves_told, serves_two, serves_misused, serves_three, serves_unread, no_command}
-use Rattle.wf_top.proofs.CommandOutcomes.{serves_accepted, serves_checked, serves_cost, serves_definition, serves_fired, serves_history}
+use Rattle.wf_top.proofs.AgainWhole.{serves_remade}
+use Rattle.wf_top.proofs.CommandOutcomes.{serves_accepted, serves_again, serves_checked, serves_cost, serves_definition, serves_fired, serves_history}
 use Rattle.wf_top.proofs.CommandOutcomes.{serves_inputs, serves_list, serves_listed, serves_moments, serves_ran, serves_whole}
 use Rattle.wf_top.proofs.serve.serve_words.Goals as goal
 
@@ -35,6 +36,14 @@ returns-clause-checked g c = serves_checked _ _ _ _ _ _ _ c.serve.ensures.outcom
 
 pub returns-clause-ran : goal.returns-clause-ran
 returns-clause-ran g c = λ command makes. serves_ran _ _ _ _ _ _ _ command makes c.serve.ensures.outcome
+
+pub returns-clause-resubmitted : goal.returns-clause-resubmitted
+returns-clause-resubmitted g c = λ command again. serves_again _ _ _ _ _ _ _ command again c.serve.ensures.outcome
+
+pub returns-clause-complete_again : goal.returns-clause-complete_again
+returns-clause-complete_again g c =
+    serves_remade c.one_reason_against_a_resubmission.ensures.nothing _ _ _ _ _ _ _ _ _
+    (serves_told _ _ _ _ _ _ _ _ _ c.serve.ensures.outcome c.serve.ensures.only)
 
 pub returns-clause-complete_check : goal.returns-clause-complete_check
 returns-clause-complete_check g c =

@@ -5,7 +5,7 @@ use Rattle.wf_json.specs.Json.{string}
 use Rattle.wf_json.specs.declared.fault.JsonFault.{JsonFault}
 use Rattle.wf_reading.specs.declared.definition.RuleFault.{RuleFault}
 use Rattle.wf_schedule.specs.declared.fault.ScheduleFault.{ScheduleFault}
-use Rattle.wf_top.specs.declared.fault.FormFault.{FormFault}
+use Rattle.wf_files.specs.declared.fault.FormFault.{FormFault}
 
 -- a fault of the JSON text, as a fault of the file
 abbrev pub json_fault : JsonFault → FormFault

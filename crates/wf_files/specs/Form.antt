@@ -3,17 +3,21 @@ use Rattle.std.specs.Prelude.{ℕ, List, Option, None, Some, Result, Ok, Err, ma
 use Rattle.wf_answers.specs.Inputs as answers
 use Rattle.wf_answers.specs.declared.fault.InputsFault.{InputsFault}
 use Rattle.wf_def.specs.DefTree.{DefTree}
+use Rattle.wf_history.specs.History as history
 use Rattle.wf_history.specs.History.{Kept, ListedTree, listed, records_of}
+use Rattle.wf_history.specs.declared.fault.HistoryFault.{HistoryFault}
 use Rattle.wf_json.specs.Read.{read_value}
 use Rattle.wf_json.specs.declared.fault.JsonFault.{JsonFault}
 use Rattle.wf_reading.specs.Meant as read
 use Rattle.wf_reading.specs.ReadSeen.{fault_in}
 use Rattle.wf_reading.specs.declared.definition.RuleFault.{RuleFault}
+use Rattle.wf_record.specs.Record.{RecordTree}
 use Rattle.wf_rules.specs.Broken.{broken_of}
 use Rattle.wf_schedule.specs.Schedule as schedules
 use Rattle.wf_schedule.specs.declared.fault.ScheduleFault.{ScheduleFault}
-use Rattle.wf_top.specs.Fault.{inputs_fault, json_fault, rule_fault, schedule_fault}
-use Rattle.wf_top.specs.declared.fault.FormFault.{FormFault}
+use Rattle.wf_files.specs.Fault.{inputs_fault, json_fault, rule_fault, schedule_fault}
+use Rattle.wf_files.specs.declared.fault.FindFault.{FindFault}
+use Rattle.wf_files.specs.declared.fault.FormFault.{FormFault}
 use Rattle.wf_val.specs.ValueTree.{ValueTree}
 
 -- A form says what a file holds of it, or which fault the file has: None stands for a file over its limit.
@@ -93,3 +97,16 @@ or_line_fault (Err number) = Err (FormFault.Line number)
 abbrev pub listing_form : Form (List ListedTree)
 listing_form None = Err FormFault.TooLong
 listing_form (Some bytes) = or_line_fault (records_of bytes)
+
+-- The record of a run, or why there isn't one alone; or the first line that is no record, which is told before that.
+abbrev pub or_find_fault : Result RecordTree HistoryFault → Result (Result RecordTree FindFault) FormFault
+or_find_fault (Ok r) = Ok (Ok r)
+or_find_fault (Err HistoryFault.NoRun) = Ok (Err FindFault.NoRun)
+or_find_fault (Err (HistoryFault.Twice first second)) = Ok (Err (FindFault.Twice first second))
+or_find_fault (Err (HistoryFault.Line number)) = Err (FormFault.Line number)
+or_find_fault (Err HistoryFault.Memory) = Err FormFault.Memory
+
+-- the form of histories, by what is found of a run
+abbrev pub history_form : List ℕ → Form (Result RecordTree FindFault)
+history_form run None = Err FormFault.TooLong
+history_form run (Some bytes) = or_find_fault (history.find run bytes)

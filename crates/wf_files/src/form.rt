@@ -3,17 +3,20 @@ ghost use Rattle.std.specs.Prelude.{◌≡◌, ◌≢◌, IfOk, IfErr, OnOk, Non
 ghost use Rattle.wf_answers.specs.InputsSeen.{inputs_tree};
 ghost use Rattle.wf_history.specs.Seen.{listed_tree};
 ghost use Rattle.wf_reading.specs.ReadSeen.{def_tree};
-ghost use Rattle.wf_top.specs.Form.{broken_in, definition_form, definition_of, inputs_form, listing_form, schedule_form, value_form};
+ghost use Rattle.wf_files.specs.Form.{broken_in, definition_form, definition_of, history_form, inputs_form, listing_form, schedule_form};
+ghost use Rattle.wf_files.specs.Form.{value_form};
+ghost use Rattle.wf_files.specs.Seen.{found_tree};
 ghost use Rattle.wf_val.specs.Seen.{tree};
 
-use crate::fault::FormFault;
+use crate::fault::{FindFault, FormFault};
 use std::alloc::Global;
 use wf_answers::{Inputs, read_inputs};
-use wf_history::{HistoryFault, Listing, list};
+use wf_history::{HistoryFault, Listing, find, list};
 use wf_reading::{Def, RuleFault, read_def};
+use wf_record::Record;
 use wf_rules::{Checked, check};
 use wf_schedule::read_schedule;
-use wf_val::{Schedule, Val};
+use wf_val::{Name, Schedule, Val};
 
 // A definition that breaks no rule between its parts.
 #[tactic(auto, unfolding(crate::specs::Form::broken_in))]
@@ -90,5 +93,25 @@ pub fn listing_form(alloc: Global, file: Option<Vec<u8>>) -> Result<Listing, For
         Ok(listing) => Ok(listing),
         Err(HistoryFault::Line { number }) => Err(FormFault::Line { number }),
         Err(_) => Err(FormFault::Memory),
+    }
+}
+
+/// What is found of a run in the history that a file holds; `None` stands for a file over its limit.
+pub fn history_form(
+    alloc: Global,
+    file: Option<Vec<u8>>,
+    run: &Name,
+) -> Result<Result<Record, FindFault>, FormFault>
+    ensures form { IfOk result (λ found. history_form run.now (option_map (λ bytes. bytes.items) file) ≡ Ok (found_tree found)) }
+    ensures fault { IfErr result (λ fault. fault ≢ FormFault.Memory → history_form run.now (option_map (λ bytes. bytes.items) file)
+        ≡ Err fault) }
+{
+    let bytes = file.ok_or(FormFault::TooLong)?;
+    match find(alloc, &bytes, run) {
+        Ok(log) => Ok(Ok(log)),
+        Err(HistoryFault::NoRun) => Ok(Err(FindFault::NoRun)),
+        Err(HistoryFault::Twice { first, second }) => Ok(Err(FindFault::Twice { first, second })),
+        Err(HistoryFault::Line { number }) => Err(FormFault::Line { number }),
+        Err(HistoryFault::Memory) => Err(FormFault::Memory),
     }
 }

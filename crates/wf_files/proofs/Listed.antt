@@ -2,8 +2,8 @@
 use Rattle.std.proofs.Common.{◌≡◌, ℕ, List, Result, Ok, Err, refl}
 use Rattle.wf_history.specs.History.{Kept, ListedTree, if_listed}
 use Rattle.wf_history.specs.declared.fault.HistoryFault.{HistoryFault}
-use Rattle.wf_top.specs.Form.{or_line_fault}
-use Rattle.wf_top.specs.declared.fault.FormFault.{FormFault}
+use Rattle.wf_files.specs.Form.{or_line_fault}
+use Rattle.wf_files.specs.declared.fault.FormFault.{FormFault}
 
 pub records_listed : (records : Result (List Kept) ℕ) (listing : List ListedTree) → if_listed records ≡ Ok listing
     → or_line_fault records ≡ Ok listing

@@ -1,8 +1,8 @@
 // Why a file isn't of its form, and the line that says so.
 ghost use Rattle.std.specs.Prelude.{◌≡◌, ◌++◌, ◌∷◌, IfOk, codes, decimal};
 ghost use Rattle.wf_json.specs.Json.{string};
-ghost use Rattle.wf_top.specs.Fault.{fault_line, form_words, inputs_fault, json_fault, rule_fault, schedule_fault};
-ghost use Rattle.wf_top.specs.declared.fault.FormFault.TheVariants.{Memory};
+ghost use Rattle.wf_files.specs.Fault.{fault_line, form_words, inputs_fault, json_fault, rule_fault, schedule_fault};
+ghost use Rattle.wf_files.specs.declared.fault.FormFault.TheVariants.{Memory};
 
 use crate::quoted::{with_number, with_pair, with_text};
 use std::alloc::{AllocError, Global};
@@ -34,6 +34,15 @@ pub enum FormFault {
     /// The line of a schedule, counted from 1, is no number.
     Line { number: u64 },
     Memory,
+}
+
+/// Why a history has no record of a run, or not one alone. It is none of the form: all its lines are records.
+#[derive(Drop)]
+pub enum FindFault {
+    /// No record is of the run.
+    NoRun,
+    /// More than one is; the first two lines, counted from 1.
+    Twice { first: u64, second: u64 },
 }
 
 impl From<AllocError> for FormFault {
