@@ -1,3 +1,4 @@
+pub use Rattle.wf_rules.specs.Broken
 pub mod Seen
 pub mod Instances
 pub mod Loops

@@ -21,7 +21,7 @@ ghost use Rattle.wf_seen_laws.specs.Laws.{IsKept};
 ghost use Rattle.wf_def.specs.DefTree.{DefTree};
 ghost use Rattle.wf_reading.specs.Read.{IsRead};
 ghost use Rattle.wf_record.specs.Record.{Row};
-ghost use Rattle.wf_rules.specs.Broken.{broken_of};
+ghost use Rattle.wf_accepted_laws.specs.Broken.{broken_of};
 ghost use Rattle.wf_environment.specs.Environment.{Environment};
 ghost use Rattle.wf_meant.specs.Answering.{AnswersAs, RowSource};
 ghost use Rattle.wf_meant.specs.Points.{graph_of};

@@ -155,6 +155,15 @@ pub fn a_meaning_keeps_its_rows()
     wf_meant_laws::listed_rows_stand_for_the_table();
 }
 
+/// The rows of an accepted definition stand at exactly the addresses that they call for.
+pub fn rows_have_the_right_shape()
+    ensures { (d : DefTree) → IsRead d → broken_of d ≡ None → (e : Environment)
+        → HasShape (graph_of d) (source d e) (reading d) (table_of d e (depth_of d)) }
+{
+    wf_instance::a_definition_is_an_instance();
+    wf_turns::rows_tell_what_was_decided();
+}
+
 /// So what an accepted definition means in any environment fails nowhere: its record may be resubmitted from all actions that ran, outside
 /// of loops.
 pub fn a_meaning_has_no_failing_address()
@@ -166,7 +175,7 @@ pub fn a_meaning_has_no_failing_address()
     wf_refs::read_actions_have_their_numbers();
     wf_says::a_skipped_row_says_nothing();
     wf_turns::numbers_have_the_kinds_of_their_actions();
-    wf_turns::rows_have_the_right_shape();
+    rows_have_the_right_shape();
     wf_meant_laws::meant_rows_are_whole();
     wf_meant_laws::listed_rows_stand_for_the_table();
     each_meant_row_fits();

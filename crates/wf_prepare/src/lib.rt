@@ -16,7 +16,7 @@ pub use laws::{
     a_meaning_has_no_failing_address, a_meaning_keeps_its_rows, a_record_is_refused_or_not,
     each_meant_row_fits, each_row_fits, kept_rows_are_whole, kept_rows_give_what_they_write,
     one_fault_is_told, record_has_the_right_shape, record_is_an_old_table,
-    what_is_chosen_stands_in_no_loop,
+    rows_have_the_right_shape, what_is_chosen_stands_in_no_loop,
 };
 pub use preparing::prepare;
 pub use wf_resubmit::ResubmitFault;

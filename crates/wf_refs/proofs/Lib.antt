@@ -3,4 +3,6 @@ mod LoopLemmas
 pub mod NumberLemmas
 mod SiteLemmas
 mod TableLemmas
+pub mod UseWords
 mod WorkedRows
+mod WorkedUses

@@ -14,7 +14,7 @@ use Rattle.wf_def.specs.AllActions.{all_actions, numbered}
 use Rattle.wf_def.specs.DefTree.{DefTree}
 use Rattle.wf_def.specs.declared.sort.Sort.{Sort}
 use Rattle.wf_uses.specs.UsesTree.{UsesTree}
-use Rattle.wf_uses.proofs.RowWords.{asked, calls, data_of, none, only, test_of, text_of}
+use Rattle.wf_refs.proofs.UseWords.{asked, calls, data_of, none, only, test_of, text_of}
 use Rattle.wf_refs.specs.Sites.{uses_at_inputs, uses_at_items, uses_at_test, uses_at_tracked, uses_at_trigger, uses_of}
 use Rattle.wf_refs.specs.declared.site.Site.{Site}
 

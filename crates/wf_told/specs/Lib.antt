@@ -1,3 +1,4 @@
+pub use Rattle.wf_prepare.specs.Prepared
 pub mod Under
 pub mod Summary
 pub mod Text

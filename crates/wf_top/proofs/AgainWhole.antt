@@ -8,7 +8,7 @@ use Rattle.wf_files.specs.Form.{history_form, inputs_form, schedule_form}
 use Rattle.wf_files.specs.declared.fault.FindFault.{FindFault}
 use Rattle.wf_meant.specs.Resubmitted.{pinned}
 use Rattle.wf_outside.specs.Outside.{Held, IsCalm}
-use Rattle.wf_prepare.specs.Prepared.{MayBeResubmitted}
+use Rattle.wf_told.specs.Prepared.{MayBeResubmitted}
 use Rattle.wf_record.specs.Cost.{cost}
 use Rattle.wf_record.specs.Record.{RecordTree}
 use Rattle.wf_resubmit.specs.Refused.{numbers_of}

@@ -6,13 +6,12 @@
 //! went round. It holds whatever rows are known, so it doesn't ask that the definition breaks no rule on names.
 //!
 //! The laws on the shape of records and on resubmission ask that only what is skipped is Skipped, and that the row of a container tells
-//! what it decided. Here that is shown of all definitions, their rows read as `wf_says` reads them; so the rows
-//! of an accepted definition have the right shape.
+//! what it decided. Here that is shown of all definitions, their rows read as `wf_says` reads them.
 //!
 //! It has no code: each public function has an empty body but for the laws that it calls, and its contract is a law.
 #![tactic(auto)]
 
-ghost use Rattle.std.specs.Prelude.{◌*◌, ◌+◌, ◌≤◌, ◌≡◌, suc, ℕ, Bool, None, length, option_map};
+ghost use Rattle.std.specs.Prelude.{◌*◌, ◌+◌, ◌≤◌, ◌≡◌, suc, ℕ, Bool, length, option_map};
 ghost use Rattle.wf_def.specs.ActionTree.{ActionTrees, action_kind};
 ghost use Rattle.wf_def.specs.AllActions.{numbered};
 ghost use Rattle.wf_def.specs.DefTree.{DefTree};
@@ -22,18 +21,16 @@ ghost use Rattle.wf_layers.specs.Address.{Address, Table};
 ghost use Rattle.wf_layers.specs.Bound.{TellsTurns};
 ghost use Rattle.wf_layers.specs.Definition.{kind_of};
 ghost use Rattle.wf_layers.specs.Resubmission.{pin};
-ghost use Rattle.wf_layers.specs.Shape.{HasShape, ReadsBack};
+ghost use Rattle.wf_layers.specs.Shape.{ReadsBack};
 ghost use Rattle.wf_environment.specs.Environment.{Environment, facts_of};
 ghost use Rattle.wf_meant.specs.Answering.{AnswersAs, RowSource};
 ghost use Rattle.wf_meant.specs.Look.{name_of};
 ghost use Rattle.wf_meant.specs.Points.{graph_of};
-ghost use Rattle.wf_meant.specs.Record.{depth_of};
-ghost use Rattle.wf_meant.specs.Source.{source, table_of};
+ghost use Rattle.wf_meant.specs.Source.{source};
 ghost use Rattle.wf_opening.specs.Decisions.{DecisionTree};
 ghost use Rattle.wf_reading.specs.Read.{IsRead};
 ghost use Rattle.wf_record.specs.Cost.{row_cost};
 ghost use Rattle.wf_record.specs.Record.{Row, RowTree};
-ghost use Rattle.wf_rules.specs.Broken.{broken_of};
 ghost use Rattle.wf_turns.specs.Reading.{RecallsWithin, reading};
 ghost use Rattle.wf_turns.specs.Turns.{turns};
 
@@ -96,13 +93,4 @@ pub fn attempts_are_answered()
         → (source d e).tries x b ≤ 1 + length (facts_of e (name_of d x.name)).answers }
 {
     wf_connect::the_last_attempt_is_the_least();
-}
-
-/// The rows of an accepted definition stand at exactly the addresses that they call for.
-pub fn rows_have_the_right_shape()
-    ensures { (d : DefTree) → IsRead d → broken_of d ≡ None → (e : Environment)
-        → HasShape (graph_of d) (source d e) (reading d) (table_of d e (depth_of d)) }
-{
-    wf_instance::a_definition_is_an_instance();
-    rows_tell_what_was_decided();
 }

@@ -3,7 +3,7 @@ use Rattle.wf_meant.specs.Points.{graph_of}
 use Rattle.wf_meant.specs.Record.{depth_of}
 use Rattle.wf_meant.specs.Source.{source, table_of}
 use Rattle.wf_turns.specs.Reading.{reading}
-use Rattle.wf_turns.proofs.rows_have_the_right_shape.Goals as goal
+use Rattle.wf_prepare.proofs.laws.rows_have_the_right_shape.Goals as goal
 
 pub returns : goal.returns
 returns c = λ d r none e.

@@ -8,7 +8,7 @@ use Rattle.wf_template.specs.TemplateTree.{letters, part, plain, whole, parts}
 use Rattle.wf_template.specs.DataTree.{null, number, list, object, data_trees, data_members}
 use Rattle.wf_template.specs.CondTree.{all_of, any_of, not_of, compare_by, cond_trees}
 use Rattle.wf_uses.specs.UsesTree.{ordered}
-use Rattle.wf_uses.proofs.RowWords.{asked, calls, data_of, none, of, of_condition, of_text, of_value, only, out, quoted, test_of}
+use Rattle.wf_refs.proofs.UseWords.{asked, calls, data_of, none, of, of_condition, of_text, of_value, only, out, quoted, test_of}
 
 -- ---- each function
 
