@@ -164,14 +164,16 @@ fn reading_if<'a>(
     }
 }
 
-pub(crate) fn at_inputs<'a>(alloc: Global, action: &'a Action) -> Result<Uses<'a>, AllocError>
+/// What is asked for by all of an action's inputs, condition, expression or list but what `at_items` and `at_test` tell.
+pub fn at_inputs<'a>(alloc: Global, action: &'a Action) -> Result<Uses<'a>, AllocError>
     ensures { IfOk result (λ uses. uses_seen uses ≡ uses_at_inputs (action_tree action.now)) }
 {
     let found = in_inputs(alloc, &action.kind)?;
     Uses::of(alloc, written(alloc, &action.kind)?, &found)
 }
 
-pub(crate) fn at_items<'a>(
+/// What a Select asks for as it makes something of an item, or a Query as it tests one; none for other actions.
+pub fn at_items<'a>(
     alloc: Global,
     action: &'a Action,
 ) -> Result<Option<Uses<'a>>, AllocError>
@@ -180,20 +182,23 @@ pub(crate) fn at_items<'a>(
     reading_if(alloc, in_items(alloc, &action.kind)?)
 }
 
-pub(crate) fn at_test<'a>(alloc: Global, action: &'a Action) -> Result<Option<Uses<'a>>, AllocError>
+/// What the expression of an Until asks for; none for other actions.
+pub fn at_test<'a>(alloc: Global, action: &'a Action) -> Result<Option<Uses<'a>>, AllocError>
     ensures { IfOk result (λ uses. option_map uses_seen uses ≡ uses_at_test (action_tree action.now)) }
 {
     reading_if(alloc, in_test(alloc, &action.kind)?)
 }
 
-pub(crate) fn at_tracked<'a>(alloc: Global, action: &'a Action) -> Result<Uses<'a>, AllocError>
+/// What an action's tracked properties ask for.
+pub fn at_tracked<'a>(alloc: Global, action: &'a Action) -> Result<Uses<'a>, AllocError>
     ensures { IfOk result (λ uses. uses_seen uses ≡ uses_at_tracked (action_tree action.now)) }
 {
     let found = in_members(alloc, Vec::new(alloc), action.tracked.as_slice())?;
     Uses::reading(alloc, &found)
 }
 
-pub(crate) fn at_output<'a>(alloc: Global, output: &'a Output) -> Result<Uses<'a>, AllocError>
+/// What a member of the section `outputs` asks for.
+pub fn at_output<'a>(alloc: Global, output: &'a Output) -> Result<Uses<'a>, AllocError>
     ensures { IfOk result (λ uses. uses_seen uses ≡ uses_at_output (output_tree output.now)) }
 {
     let found = in_tree(alloc, Vec::new(alloc), &output.value)?;
@@ -217,7 +222,8 @@ fn in_split<'a>(alloc: Global, split: &'a Option<Template>) -> Result<Vec<Found<
     }
 }
 
-pub(crate) fn at_trigger<'a>(alloc: Global, trigger: &'a Trigger) -> Result<Uses<'a>, AllocError>
+/// What a trigger asks for by what it splits and by its conditions.
+pub fn at_trigger<'a>(alloc: Global, trigger: &'a Trigger) -> Result<Uses<'a>, AllocError>
     ensures { IfOk result (λ uses. uses_seen uses ≡ uses_at_trigger (trigger_tree trigger.now)) }
 {
     let found = in_trigger(alloc, trigger)?;

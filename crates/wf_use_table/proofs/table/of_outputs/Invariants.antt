@@ -2,7 +2,7 @@ use Rattle.std.proofs.Common.{◌≡◌, map, take}
 use Rattle.wf_def.specs.DefSeen.{output_tree}
 use Rattle.wf_uses.specs.Seen.{uses_seen}
 use Rattle.wf_refs.specs.Sites.{uses_at_output}
-use Rattle.wf_refs.proofs.table.of_outputs.Given as goal
+use Rattle.wf_use_table.proofs.table.of_outputs.Given as goal
 
 -- the uses so far
 abbrev pub invariant-loop-output : goal.invariant-loop-output

@@ -3,9 +3,9 @@ use Rattle.std.specs.List.{find}
 use Rattle.std.specs.Option.{option_or}
 use Rattle.wf_def.specs.ActionSeen.{action_tree}
 use Rattle.wf_def.specs.AllActions.{has_number}
-use Rattle.wf_refs.specs.Seen.{action_at}
+use Rattle.wf_use_table.specs.Seen.{action_at}
 use Rattle.wf_refs.specs.Sites.{action_uses}
-use Rattle.wf_refs.proofs.table.of_actions.Given as goal
+use Rattle.wf_use_table.proofs.table.of_actions.Given as goal
 
 -- what stands at each number so far, or else what the actions that are left put there
 abbrev pub invariant-loop-action : goal.invariant-loop-action

@@ -6,8 +6,8 @@ use Rattle.wf_def.specs.DefSeen.{output_tree, trigger_tree}
 use Rattle.wf_reading.specs.ReadSeen.{def_tree}
 use Rattle.wf_def.specs.AllActions.{has_number}
 use Rattle.wf_refs.specs.Sites.{action_uses, uses_at_output, uses_at_trigger}
-use Rattle.wf_refs.proofs.TableLemmas.{table_of}
-use Rattle.wf_refs.proofs.table.refs.Goals as goal
+use Rattle.wf_use_table.proofs.TableLemmas.{table_of}
+use Rattle.wf_use_table.proofs.table.refs.Goals as goal
 
 pub returns : goal.returns
 returns c =

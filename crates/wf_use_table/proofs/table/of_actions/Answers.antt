@@ -1,7 +1,7 @@
 use Rattle.wf_def.specs.ActionSeen.{action_tree}
-use Rattle.wf_refs.specs.Seen.{action_at, action_uses_seen, kept_at}
-use Rattle.wf_refs.proofs.TableLemmas.{next_action, no_action, number_is, seen_put}
-use Rattle.wf_refs.proofs.table.of_actions.Goals as goal
+use Rattle.wf_use_table.specs.Seen.{action_at, action_uses_seen, kept_at}
+use Rattle.wf_use_table.proofs.TableLemmas.{next_action, no_action, number_is, seen_put}
+use Rattle.wf_use_table.proofs.table.of_actions.Goals as goal
 
 pub loop-action-preserved : goal.loop-action-preserved
 loop-action-preserved c = λ n.

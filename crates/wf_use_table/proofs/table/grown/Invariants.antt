@@ -1,6 +1,6 @@
 use Rattle.std.proofs.Common.{◌≡◌, ℕ, ◌+◌, ◌-◌, length}
-use Rattle.wf_refs.specs.Seen.{kept_at}
-use Rattle.wf_refs.proofs.table.grown.Given as goal
+use Rattle.wf_use_table.specs.Seen.{kept_at}
+use Rattle.wf_use_table.proofs.table.grown.Given as goal
 
 -- nothing was put in
 abbrev pub invariant-loop-all : goal.invariant-loop-all
