@@ -10,7 +10,7 @@ use Rattle.wf_def.specs.ActionTree.{ActionTree, action, KindTree, compose, conne
 use Rattle.wf_def.specs.ActionTree.{parse_json, initialize, set_to, increment, decrement, append_array, append_string, scope, branch}
 use Rattle.wf_def.specs.ActionTree.{switch, switch_else, foreach, until, no_actions, no_cases}
 use Rattle.wf_def.specs.declared.sort.Sort.{Sort}
-use Rattle.wf_refs.specs.declared.site.Site.{Site}
+use Rattle.wf_use_table.specs.Site.{Site}
 use Rattle.wf_standing.specs.Inside.{has_item, is_in_loop, is_outside, loops_left}
 use Rattle.wf_standing.specs.Kinds.{ends_or_responds, is_container, is_initialize, is_loop, is_of, suits}
 use Rattle.wf_standing.specs.Standing.{StandingTree}

@@ -3,7 +3,7 @@
 use Rattle.std.specs.Prelude.{ℕ, List, Bool, true, false, not, ◌&&◌, ◌||◌, nat_eq, bytes_eq, Option, Some, None, count_by}
 use Rattle.std.specs.List.{list_any}
 use Rattle.wf_def.specs.ActionTree.{ActionTree, action_kind, action_name, action_number}
-use Rattle.wf_refs.specs.declared.site.Site.{Site}
+use Rattle.wf_use_table.specs.Site.{Site}
 use Rattle.wf_standing.specs.Kinds.{is_foreach, is_loop, is_of}
 use Rattle.wf_standing.specs.Standing.{StandingTree}
 use Rattle.wf_standing.specs.declared.kinds.Loop.{Loop}

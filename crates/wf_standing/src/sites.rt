@@ -11,7 +11,7 @@ ghost use Rattle.wf_standing.specs.Seen.{standing_tree};
 use crate::kinds::{Loop, is_foreach, is_loop};
 use crate::standing::Standing;
 use wf_def::Action;
-use wf_refs::Site;
+use wf_use_table::Site;
 use wf_val::Name;
 
 pub fn is_test(site: Site) -> bool

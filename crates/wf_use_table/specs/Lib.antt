@@ -1,1 +1,3 @@
+pub use Rattle.wf_refs.specs.Sites
+pub use Rattle.wf_refs.specs.declared.site.Site
 pub mod Seen
