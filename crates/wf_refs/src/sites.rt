@@ -173,10 +173,7 @@ pub fn at_inputs<'a>(alloc: Global, action: &'a Action) -> Result<Uses<'a>, Allo
 }
 
 /// What a Select asks for as it makes something of an item, or a Query as it tests one; none for other actions.
-pub fn at_items<'a>(
-    alloc: Global,
-    action: &'a Action,
-) -> Result<Option<Uses<'a>>, AllocError>
+pub fn at_items<'a>(alloc: Global, action: &'a Action) -> Result<Option<Uses<'a>>, AllocError>
     ensures { IfOk result (λ uses. option_map uses_seen uses ≡ uses_at_items (action_tree action.now)) }
 {
     reading_if(alloc, in_items(alloc, &action.kind)?)
