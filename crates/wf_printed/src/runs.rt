@@ -11,7 +11,7 @@ use std::alloc::Global;
 use wf_answers::Inputs;
 use wf_planned::plan;
 use wf_rules::Checked;
-use wf_run::{Ended, Ends, Ready, Runnable};
+use wf_run::{Ended, Ends, Ready, Runnable, cost_too_much};
 use wf_told::RunsFault;
 use wf_trigger::{Start, Starts, runs};
 use wf_val::Schedule;
@@ -56,6 +56,10 @@ fn text_of(
 {
     if starts.len() == 0 {
         return Ok(b"# no run\n".to_vec(alloc)?);
+    }
+    // Where so many cost too much whatever they come to, none is made.
+    if cost_too_much(checked, starts.len()) {
+        return Err(RunsFault::TooLarge);
     }
     let written = made_ready(alloc, checked, inputs, schedule, traced, starts)?;
     Ok(written.text)

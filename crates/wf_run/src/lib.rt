@@ -7,6 +7,8 @@
 //! `resubmit` makes one from the record of an older run, in the same way: it begins with the rows that are kept, and with what is closed
 //! again.
 //!
+//! `cost_too_much` tells before any run is made where so many cost too much whatever they come to (`wf_least`).
+//!
 //! What a run is, without any state that the machine keeps, is said by `wf_told`: one list of events, by which all is told but the record,
 //! which is the definition's meaning, or what the resubmission means, whatever the events are.
 //!
@@ -17,11 +19,13 @@
 mod again;
 mod driven;
 mod fresh;
+mod least;
 mod made;
 mod opened;
 mod run;
 mod runnable;
 
+pub use least::cost_too_much;
 pub use run::Ended;
 pub use runnable::Runnable;
 pub use wf_actions::Ready;

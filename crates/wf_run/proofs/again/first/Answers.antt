@@ -1,4 +1,4 @@
-use Rattle.std.proofs.Common.{◌≡◌, [], None, ap, refl, subst, sym, ◌∙◌}
+use Rattle.std.proofs.Common.{[], None, ap, refl, subst, sym, ◌∙◌}
 use Rattle.wf_answers.specs.InputsSeen.{inputs_tree}
 use Rattle.wf_asks.specs.Known.{store_in, writer}
 use Rattle.wf_environment.specs.Environment.{Environment}
@@ -17,7 +17,7 @@ use Rattle.wf_resubmit.specs.Chosen.{MayBeRedone}
 use Rattle.wf_sight_laws.specs.Writes as laws
 use Rattle.wf_steps.specs.Kept.{IsPlanned}
 use Rattle.wf_views.specs.Seen.{rows_seen}
-use Rattle.wf_actions.specs.Meant.{definition_of, source}
+use Rattle.wf_actions.specs.Meant.{source}
 use Rattle.wf_run.specs.Made.{Moment, moment}
 use Rattle.wf_run.specs.Runs.{definition}
 use Rattle.wf_run.proofs.again.first.Goals as goal

@@ -1,7 +1,6 @@
-use Rattle.std.proofs.Common.{◌≡◌, arith, sym, subst, ◌∙◌}
+use Rattle.std.proofs.Common.{arith, sym, subst, ◌∙◌}
 use Rattle.std.proofs.lemmas.Result.{err_from_is_err_and}
 use Rattle.wf_environment.specs.Environment.{Environment}
-use Rattle.wf_layers.specs.Laws.{IsInstance}
 use Rattle.wf_meant.specs.Points.{graph_of}
 use Rattle.wf_meant.specs.Source as sources
 use Rattle.wf_plan.specs.PlanSeen.{plan_tree}

@@ -1,4 +1,4 @@
-use Rattle.std.proofs.Common.{◌≡◌, arith, ap, false, sym, subst, ◌∙◌}
+use Rattle.std.proofs.Common.{arith, ap, false, sym, subst, ◌∙◌}
 use Rattle.std.proofs.lemmas.Result.{err_from_is_err_and}
 use Rattle.wf_answers.specs.InputsSeen.{inputs_tree}
 use Rattle.wf_environment.specs.Environment.{Environment, fresh}
