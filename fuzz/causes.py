@@ -177,6 +177,50 @@ def initialised_late(whole, path):
     return None
 
 
+def node_at(whole, path):
+    return next((node for node in whole.nodes if node.path == path), None)
+
+
+# A name, with how many others there are.
+def and_others(names):
+    more = len(names) - 1
+    return repr(names[0]) + (" and %d other%s" % (more, "s" * (more > 1)) if more else "")
+
+
+def side_by_side(whole, path):
+    node = node_at(whole, path)
+    writes = references.all_written(node)
+    loops = [loop.name for loop in node.loops() if not references.is_sequential(loop)]
+    if writes and loops:
+        return "it writes %r in %r, whose iterations go side by side: it has to have \"operationOptions\": \"Sequential\"" % (
+            min(writes), loops[-1])
+    for other in whole.nodes:
+        for writer, late in ((node, other), (other, node)):
+            shared = references.all_written(writer) & references.accessed(whole, late, writer) if other is not node else ()
+            if shared and not whole.is_settled(node, other):
+                does, too = ("writes", "accesses") if writer is node else ("accesses", "writes")
+                return "it %s %r, which %r %s in no order with it: runAfter has to lead from one to the other" % (
+                    does, min(shared), other.name, too)
+    return None
+
+
+def ends_beside(whole, path):
+    names = [other.name for other in references.beside(whole, node_at(whole, path))]
+    return "%s may be under way as it ends the run: runAfter has to lead from one to the other" % and_others(names)
+
+
+def responses(whole, path):
+    node = node_at(whole, path)
+    names = [other.name for other in whole.nodes
+             if other is not node and other.kind == "response" and not whole.is_settled(node, other)]
+    return "%s is a Response in no order with it: let one wait for the other as Skipped, or put them into branches" % and_others(names)
+
+
+def in_a_loop(whole, path):
+    node = node_at(whole, path)
+    return "it is a %s in the loop %r: decide behind the loop" % (node.action["type"], node.loops()[-1].name)
+
+
 def items(whole, path):
     for site in sites(whole, path):
         for function, kind, called in (("items", "foreach", "Foreach"), ("iterationindexes", "until", "Until")):
@@ -213,7 +257,8 @@ def used(whole, path):
 
 
 FIRST = {1: form, 2: schema, 3: limits, 4: names, 5: types, 6: lacking, 7: expressions, 8: run_after}
-LATER = {9: reference, 10: parameters, 11: variables, 12: initialised_late, 14: items, 18: loops_left, 19: results, 20: used, 21: used}
+LATER = {9: reference, 10: parameters, 11: variables, 12: initialised_late, 13: side_by_side, 14: items, 15: ends_beside, 16: responses,
+         17: in_a_loop, 18: loops_left, 19: results, 20: used, 21: used}
 
 
 def causes(value, number):
@@ -221,6 +266,6 @@ def causes(value, number):
     if number in FIRST:
         cause, asked, places = FIRST[number], definition, rules.RULES[number - 1](definition)
     else:
-        cause, asked = LATER.get(number, lambda whole, path: None), references.Whole(definition)
+        cause, asked = LATER[number], references.Whole(definition)
         places = next((found for rule, found in references.broken(definition, rules.given_in(value)) if rule == number), ())
     return [(path, cause(asked, path)) for path in sorted(set(places), key=lambda path: rules.pointer(path).encode())]

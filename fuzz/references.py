@@ -213,25 +213,30 @@ def lesser(one, other):
     return min(one.path, other.path, key=lambda path: rules.pointer(path).encode())
 
 
-# What a container evaluates as it opens comes before all inside it, and an Until's expression after all inside that; but nothing says so
-# of tracked properties.
+# The variables that an action accesses, as far as a writer has to be in order with it. What a container evaluates as it opens comes before
+# all inside it, and an Until's expression after all inside that; but nothing says so of tracked properties.
+def accessed(whole, node, writer):
+    reads = set() if node in writer.within else read_at(whole, node, "inputs", "items", "test")
+    return all_written(node) | read_at(whole, node, "tracked") | reads
+
+
 def side_by_side(whole):
-    reads = [(node, read_at(whole, node, "inputs", "items", "test"), read_at(whole, node, "tracked")) for node in whole.nodes]
     for writer in whole.nodes:
         names = all_written(writer)
         if names and not all(map(is_sequential, writer.loops())):
             yield writer.path
-        for other, found, late in reads if names else ():
-            touched = all_written(other) | late | (set() if other in writer.within else found)
-            if other is not writer and names & touched and not whole.is_settled(writer, other):
+        for other in whole.nodes if names else ():
+            if other is not writer and names & accessed(whole, other, writer) and not whole.is_settled(writer, other):
                 yield lesser(writer, other)
 
 
+# The actions that may be under way as a Terminate ends the run.
+def beside(whole, end):
+    return [other for other in whole.nodes if other is not end and other not in end.within and not whole.is_settled(other, end)]
+
+
 def under_way_at_the_end(whole):
-    for end in whole.nodes:
-        others = [other for other in whole.nodes if other is not end and other not in end.within]
-        if end.kind == "terminate" and not all(whole.is_settled(other, end) for other in others):
-            yield end.path
+    yield from (end.path for end in whole.nodes if end.kind == "terminate" and beside(whole, end))
 
 
 def two_responses(whole):
