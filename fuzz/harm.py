@@ -1,28 +1,35 @@
 #!/usr/bin/env python3
-"""Hands the program files that are meant to harm: examples and rows, changed by bytes, by tokens and by whole members.
+"""Hands the program files that are meant to harm: those of examples and rows, changed by bytes, by tokens and by whole members.
 
-  fuzz/harm.py [--count N] [--seed N] [--jobs N] [--program PATH] [--stack KIB]
+  fuzz/harm.py [--count N] [--minutes M] [--seed N] [--jobs N] [--program PATH] [--stack KIB] [--model FOLDER]
 
-Each file is tried once, by a command that takes it. What is watched for: an end by a signal, a status that isn't the command's, a text that
-isn't one of that status (docs/MESSAGES.md), over 10 seconds, over 2 GiB of memory, a stack of more than KIB KiB (1,024 where none is
-named). What such a file should come to is no matter here: the other scripts of this folder compare. A file that does harm is kept in
-fuzz/harm-found/, with the words of its command. The last line is 'N passed, M failed'."""
+Each call is one of an example or of a row of run_rows, with one of its files changed, at times two; at a resubmission the run and the
+actions that it names may be others too. What is watched for: an end by a signal, a status that isn't the command's, a text that isn't
+one of that status (docs/MESSAGES.md), a word on standard error, over 10 seconds of the processor, over 2 GiB of memory, a stack of more
+than KIB KiB (1,024 where none is named). With --model the engine of that folder (model.py) is asked what the call owes, and status and
+text compared, where it answers within 10 seconds. The program is loaded once by each job, and up to 50 calls follow each other in a
+process (served.py). After M minutes no more calls are begun. A file that does harm is kept in fuzz/harm-found/, with the words of its
+command. The last line is 'N passed, M failed'."""
 import argparse
 import collections
+import functools
 import json
 import multiprocessing
 import os
 import random
 import re
-import resource
-import subprocess
+import signal
 import sys
-import tempfile
+import time
 
-TOP = os.path.dirname(os.path.dirname(os.path.abspath(__file__)))
+import model
+import served
+
+TOP = served.TOP
 FOUND = os.path.join(TOP, "fuzz", "harm-found")
 SECONDS = 10
 MEMORY = 2 * 2**30
+SIZE = 2**16
 
 # ---- what each command may say, by status
 
@@ -30,60 +37,121 @@ QUOTED = rb'"(?:[^"\\\n]|\\.)*"'
 REFUSED = rb"definition (?:too long|NotJson|(?:NotWhole|TooDeep) %b|V(?:[1-9]|1[0-9]|2[01])(?: %b)?)\n" % (QUOTED, QUOTED)
 FILE = rb"(?:too long|NotJson|(?:NotWhole|TooDeep) %b)\n" % QUOTED
 INPUTS = rb"inputs (?:%b|Form %b\n|Twice %b [0-9]+\n|Moment\n)" % (FILE, QUOTED, QUOTED)
+SCHEDULE = rb"schedule (?:too long|Line [0-9]+)\n"
 FAULT = rb"[A-Za-z0-9]+(?: (?:[A-Za-z0-9]+|%b))*" % QUOTED
 TRIGGER = rb"trigger (?:NoTrigger|(?:NoParameter|ParameterType|NotAllowed) %b|Split %b|SplitNotList|SplitTooLong [0-9]+|Condition %b)\n" \
     % (QUOTED, FAULT, FAULT)
-EVENTS = rb"(?:# [0-9]+ [^\n]*\n)*"
-RUNS = rb"(?:# no run\n|(?:%b\{[^\n]*\}\n# run [^\n]* steps [0-9]+ peak [0-9]+\n)+)" % EVENTS
-MEMORY_LINE = rb"out of memory\n"
+RUN = rb"\{[^\n]*\}\n# run [^\n]* steps [0-9]+ peak [0-9]+\n"
+RUNS = rb"(?:# no run\n|(?:%b)+)" % RUN
+TRACES = rb"(?:# no run\n|(?:(?:# [0-9]+ [^\n]*\n)*%b)+)" % RUN
+HISTORY = rb"history (?:too long|Line [0-9]+)\n"
+NOT_AGAIN = rb"history (?:NoRun|Twice [0-9]+ [0-9]+)\n" \
+    rb"|resubmit (?:NoAction %b|InLoop %b %b|NotRun %b|OtherDefinition [0-9a-f]{64} [0-9a-f]{64}|Shape %b)\n" % ((QUOTED,) * 5)
+MADE = {0: RUNS, 1: REFUSED, 6: rb"%b|%b|%b" % (INPUTS, SCHEDULE, TRIGGER), 8: rb"too large\n"}
+MADE_AGAIN = {0: RUN, 1: REFUSED, 6: rb"%b|%b" % (INPUTS, SCHEDULE), 7: rb"%b|%b" % (HISTORY, NOT_AGAIN), 8: rb"too large\n"}
 SAYS = {
-    "check": {0: rb"accepted [0-9]+\n", 1: REFUSED, 5: MEMORY_LINE},
-    "run": {0: RUNS, 1: REFUSED, 5: MEMORY_LINE, 6: rb"(?:%b|%b)" % (INPUTS, TRIGGER), 8: rb"too large\n"},
-    "trace": {0: RUNS, 1: REFUSED, 5: MEMORY_LINE, 6: rb"(?:%b|%b|schedule (?:too long|Line [0-9]+)\n)" % (INPUTS, TRIGGER), 8: rb"too large\n"},
-    "list": {0: rb"(?:run [^\n]* (?:Succeeded|Failed|Cancelled) rows [0-9]+\n)*", 5: MEMORY_LINE, 7: rb"history (?:too long|Line [0-9]+)\n"},
-    "fires": {0: rb"(?:# none\n|(?:[0-9]{4}-[^\n]*\n)*)", 1: REFUSED, 5: MEMORY_LINE,
+    "check": {0: rb"accepted [0-9]+\n", 1: REFUSED},
+    "run": MADE,
+    "trace": {**MADE, 0: TRACES},
+    "resubmit": MADE_AGAIN,
+    "resubmit-set": MADE_AGAIN,
+    "list": {0: rb"(?:run [^\n]* (?:Succeeded|Failed|Cancelled) rows [0-9]+\n)*", 7: HISTORY},
+    "fires": {0: rb"(?:# none\n|(?:[0-9]{4}-[^\n]*\n)*)", 1: REFUSED, 2: rb"usage: [^\n]*\n",
               6: rb"recurrence (?:NoTrigger|NotRecurrence|(?:Form|Zone) %b)\n" % QUOTED},
+}
+COUNTS = {"check": (2,), "run": (3, 4), "trace": (4,), "resubmit": (6, 7), "resubmit-set": range(7, 24), "list": (2,), "fires": (5,)}
+# Which words of a command are files, and of what kind.
+KINDS = {
+    "check": {1: "definition"},
+    "run": {1: "definition", 2: "inputs", 3: "schedule"},
+    "trace": {1: "definition", 2: "inputs", 3: "schedule"},
+    "resubmit": {1: "definition", 2: "history", 5: "inputs", 6: "schedule"},
+    "resubmit-set": {1: "definition", 2: "history", 4: "inputs", 5: "schedule"},
+    "list": {1: "history"},
+    "fires": {1: "definition"},
 }
 
 
-# ---- seeds
+# ---- seeds: calls, each its words and the bytes of its files
 
 def read(*path):
     with open(os.path.join(TOP, *path), "rb") as file:
         return file.read()
 
 
-def seeds():
-    """The files of examples and of rows, by what they are."""
-    found = collections.defaultdict(list)
+def of_examples():
     for at, _, names in os.walk(os.path.join(TOP, "examples")):
-        for name in sorted(names):
-            kind = {"definition.json": "definition", "schedule": "schedule"}.get(name) or \
-                ("inputs" if name.startswith("inputs") else "history" if name.startswith("output") else None)
-            if kind:
-                found[kind].append(read(at, name))
+        held = {name: read(at, name) for name in sorted(names)}
+        if "definition.json" not in held:
+            continue
+        yield ["check", "definition.json"], held
+        for inputs in (name for name in held if name.startswith("inputs")):
+            yield ["run", "definition.json", inputs], held
+            for schedule in (name for name in held if name.endswith("schedule")):
+                yield ["trace", "definition.json", inputs, schedule], held
+            for history in (name for name in held if name.startswith("output")):
+                first = json.loads(held[history].split(b"\n")[0])
+                for row in first["rows"]:
+                    yield ["resubmit", "definition.json", history, first["run"], row["name"], inputs], held
+        for history in (name for name in held if name.startswith("output")):
+            yield ["list", history], held
+
+
+ESCAPED = {b"n": b"\n", b"r": b"\r", b"t": b"\t", b"\\": b"\\"}
+
+
+def of_rows():
+    """The calls of run_rows (the head of its main.rt says what a line means), without those of which a read or a write fails."""
+    held, failing = {}, False
     for line in read("crates", "run_rows", "stdin").split(b"\n"):
-        for text in re.findall(rb"\{.*\}", line)[:1]:
-            found["definition" if b'"actions"' in text else "inputs"].append(text)
-    found["schedule"] += [b"", b"0\n1\n2\n", b"4294967295\r\n0\n"]
-    for line in read("crates", "record_rows", "stdin").split(b"\n"):
-        for text in re.findall(rb"\{.*\}", line)[:1]:
-            found["history"].append(text + b"\n")
-    found["recurring"] = [
-        b'{"actions":{},"triggers":{"T":{"type":"Recurrence","recurrence":{"frequency":"Month","interval":1,"timeZone":"UTC",'
-        b'"startTime":"2024-01-31T00:00:00Z","schedule":{"hours":[8],"minutes":[0,30]}}}}}',
-        b'{"actions":{},"triggers":{"T":{"type":"Recurrence","recurrence":{"frequency":"Second","interval":1}}}}',
-    ]
-    return {kind: [file for file in files if len(file) < 2**16] for kind, files in found.items()}
+        word, _, rest = line.partition(b" ")
+        if word in (b"file", b"bytes"):
+            name, _, text = rest.partition(b" ")
+            held[name.decode()] = text if word == b"file" else re.sub(rb"\\([nrt\\])", lambda found: ESCAPED[found.group(1)], text)
+        elif word == b"pad":
+            held = {}
+        elif word == b"fail":
+            failing = True
+        elif word == b"check":
+            yield ["check", "d"], {"d": rest}
+        elif word == b"words":
+            if not failing:
+                yield rest.decode().split(), dict(held)
+            failing = False
+
+
+@functools.lru_cache(1)
+def seeds():
+    """The calls by their commands, and all files by what they are."""
+    calls, files = collections.defaultdict(dict), collections.defaultdict(dict)
+    for words, held in (*of_examples(), *of_rows()):
+        if len(words) not in COUNTS.get(words[0], ()):
+            continue
+        kinds = KINDS[words[0]]
+        named = {place: held.get(words[place]) for place in kinds if place < len(words)}
+        if any(file is None or len(file) > SIZE for file in named.values()):
+            continue
+        calls[words[0]][(tuple(words), tuple(named.values()))] = named
+        for place, file in named.items():
+            files[kinds[place]][file] = True
+    files["schedule"].update(dict.fromkeys([b"", b"0\n1\n2\n", b"4294967295\r\n0\n"], True))
+    return {command: [(list(words), named) for (words, _), named in some.items()] for command, some in calls.items()}, \
+        {kind: list(some) for kind, some in files.items()}
 
 
 # ---- changes
 
 TOKENS = re.compile(rb'"(?:[^"\\]|\\.)*"|-?[0-9]+(?:\.[0-9]+)?(?:[eE][-+]?[0-9]+)?|[{}\[\]:,]|[a-z]+|\s+|.', re.S)
-HARD = [b"{", b"}", b"[", b"]", b'"', b"\\", b"\x00", b"\xff", b"\xed\xa0\x80", b"\\u0000", b"\\ud800", b"@", b"@{", b"@@", b"'", b"''", b"(", b")",
-        b"-9223372036854775808", b"9223372036854775808", b"1e309", b"1e-1", b"-0", b"1.0", b"null", b"true", b"\r\n", b"#", b"\xef\xbb\xbf",
-        b'"@item()"', b'"@result(\'A\')"', b'"@variables(\'v\')"', b'"@range(0,100000)"', b'"@string(createArray(1))"', b'"\\/"', b"[" * 130,
-        b"]" * 130, b'{"a":' * 130, b'"' + b"a" * 81 + b'"', b'"' + "\U0001f600".encode() * 80 + b'"']
+HARD = [b"{", b"}", b"[", b"]", b'"', b"\\", b"\x00", b"\xff", b"\xed\xa0\x80", b"\\u0000", b"\\ud800", b"@", b"@{", b"@@", b"'", b"''",
+        b"(", b")", b"-9223372036854775808", b"9223372036854775808", b"1e309", b"1e-1", b"-0", b"1.0", b"null", b"true", b"\r\n", b"#",
+        b"\xef\xbb\xbf",
+        b'"@item()"', b'"@result(\'A\')"', b'"@variables(\'v\')"', b'"@range(0,100000)"', b'"@string(createArray(1))"', b'"\\/"',
+        b"[" * 130, b"]" * 130, b'{"a":' * 130, b'"' + b"a" * 81 + b'"', b'"' + "\U0001f600".encode() * 80 + b'"']
+
+
+@functools.lru_cache(4096)
+def tokens_of(file):
+    return tuple(TOKENS.findall(file))
 
 
 def by_bytes(rng, file, _):
@@ -105,8 +173,8 @@ def by_bytes(rng, file, _):
 
 
 def by_tokens(rng, file, others):
-    tokens = TOKENS.findall(file)
-    more = TOKENS.findall(rng.choice(others))
+    tokens = list(tokens_of(file))
+    more = tokens_of(rng.choice(others))
     for _ in range(rng.choice((1, 1, 2, 5))):
         if not tokens:
             break
@@ -139,7 +207,9 @@ def by_members(rng, file, others):
     lines = file.split(b"\n")
     at = rng.randrange(len(lines))
     try:
-        value, other = json.loads(lines[at]), json.loads(rng.choice(others))
+        if not lines[at].startswith((b"{", b"[")):
+            lines, at = [file], 0
+        value, other = json.loads(lines[at]), json.loads(rng.choice(others).split(b"\n# ")[0])
     except (ValueError, RecursionError):
         return by_tokens(rng, file, others)
     for _ in range(rng.choice((1, 1, 2, 3))):
@@ -166,97 +236,151 @@ def by_members(rng, file, others):
     return b"\n".join(lines)
 
 
-# ---- trying one
-
-def bounded(kib):
-    def limit():
-        resource.setrlimit(resource.RLIMIT_AS, (MEMORY, MEMORY))
-        resource.setrlimit(resource.RLIMIT_CPU, (SECONDS, SECONDS + 1))
-        resource.setrlimit(resource.RLIMIT_STACK, (kib * 1024, kib * 1024))
-    return limit
+NAME = re.compile(r'"([^"\\\x00-\x1f]{1,80})":')
 
 
-def tried(program, words, folder, kib):
-    """What is wrong with how the command ended; None if nothing is."""
-    try:
-        ran = subprocess.run([program, *words], cwd=folder, stdout=subprocess.PIPE, stderr=subprocess.PIPE, stdin=subprocess.DEVNULL,
-                             preexec_fn=bounded(kib), timeout=SECONDS)
-    except subprocess.TimeoutExpired:
+def other_words(rng, words, file):
+    """The words with another run, or with actions that the definition may have."""
+    names = NAME.findall(file.decode("utf-8", "replace")) or ["A"]
+    if words[0] == "resubmit":
+        words[rng.choice((3, 4))] = rng.choice(names)
+    else:
+        words[6:] = [rng.choice(words[6:] + names) for _ in range(rng.choice((1, 1, 2, 5)))]
+
+
+def case(rng):
+    """A call: its words, and the bytes of the files that it names, by their places."""
+    calls, files = seeds()
+    command = rng.choice(sorted(calls))
+    words, named = rng.choice(calls[command])
+    words, named = list(words), dict(named)
+    for _ in range(rng.choice((1, 1, 1, 2))):
+        place = rng.choice(list(named))
+        named[place] = rng.choice((by_bytes, by_tokens, by_members))(rng, named[place], files[KINDS[command][place]])
+    if command.startswith("resubmit") and rng.randrange(3) == 0:
+        other_words(rng, words, named[1])
+    return words, named
+
+
+# ---- trying them
+
+def wrong(words, ended, text):
+    """What is wrong with how a call ended; None if nothing is."""
+    if ended.signal == signal.SIGPROF:
         return "over %d seconds" % SECONDS
-    if ran.returncode < 0:
-        return "signal %d" % -ran.returncode
-    if ran.stderr:
-        return "it wrote to standard error"
-    says = SAYS[words[0]].get(ran.returncode)
+    if ended.signal:
+        return "signal %d" % ended.signal
+    if ended.status == 5:
+        return "over %d bytes of memory" % MEMORY
+    says = SAYS[words[0]].get(ended.status)
     if says is None:
-        return "status %d" % ran.returncode
-    if not re.fullmatch(says, ran.stdout):
-        return "status %d with another text: %r" % (ran.returncode, ran.stdout[:200])
+        return "status %d" % ended.status
+    if not re.fullmatch(says, text):
+        return "status %d with another text: %r" % (ended.status, text[:200])
     return None
 
 
+class Slow(Exception):
+    """The second engine takes too long."""
+
+
+def slow(*_):
+    raise Slow
+
+
+def other(engine, words, named, ended, text):
+    """How the answer differs from that of the second engine; None where it doesn't, or where there is none."""
+    if engine is None or ended.seconds > 0.1:
+        return None, 0
+    signal.signal(signal.SIGALRM, slow)
+    signal.alarm(SECONDS)
+    try:
+        owed = engine(words, {words[place]: file for place, file in named.items()})
+    except (Slow, RecursionError, MemoryError):
+        return None, 0
+    finally:
+        signal.alarm(0)
+    if owed != (ended.status, text):
+        return "another answer than %d %r" % (owed[0], owed[1][:200]), 1
+    return None, 1
+
+
+def start(base, built, options):
+    """What a job has: the program, which is loaded here, and the second engine."""
+    global program, engine
+    folder = os.path.join(base, str(os.getpid()))
+    os.mkdir(folder)
+    program = served.Served(options.program, folder, built, options.stack, MEMORY)
+    engine = model.of(options.model) if options.model else None
+
+
+def keep(name, words, named, why):
+    kept = os.path.join(FOUND, name)
+    os.makedirs(kept, exist_ok=True)
+    for place, file in named.items():
+        with open(os.path.join(kept, words[place]), "wb") as copy:
+            copy.write(file)
+    with open(os.path.join(kept, "words"), "w") as note:
+        note.write("%s\n%s\n" % (" ".join(words), why))
+
+
 def work(task):
-    seed, count, program, kib = task
-    rng = random.Random(seed)
-    kinds = seeds()
-    names = sorted(kinds)
+    seed, count, until = task
     ends, harms = collections.Counter(), []
-    with tempfile.TemporaryDirectory(dir="/dev/shm" if os.path.isdir("/dev/shm") else None) as folder:
-        def put(name, data):
-            with open(os.path.join(folder, name), "wb") as file:
-                file.write(data)
-        for number in range(count):
-            kind = rng.choice(names)
-            file = rng.choice((by_bytes, by_tokens, by_members))(rng, rng.choice(kinds[kind]), kinds[kind])
-            put("file", file)
-            words = {"definition": ["check", "file"], "history": ["list", "file"], "recurring": ["fires", "file", "T", "2024-01-01T00:00:00Z", "5"]}.get(kind)
-            if kind == "definition" and rng.randrange(3) == 0:
-                put("inputs", rng.choice(kinds["inputs"]))
-                words = ["run", "file", "inputs"]
-            elif kind == "inputs":
-                put("definition", rng.choice(kinds["definition"]))
-                words = ["run", "definition", "file"]
-            elif kind == "schedule":
-                put("definition", rng.choice(kinds["definition"]))
-                put("inputs", rng.choice(kinds["inputs"]))
-                words = ["trace", "definition", "inputs", "file"]
-            wrong = tried(program, words, folder, kib)
-            ends[words[0]] += 1
-            if wrong:
-                harms.append((wrong, words))
-                kept = os.path.join(FOUND, "%d-%d" % (seed, number))
-                os.makedirs(kept, exist_ok=True)
-                for name in words[1:4]:
-                    if os.path.exists(os.path.join(folder, name)):
-                        with open(os.path.join(folder, name), "rb") as source, open(os.path.join(kept, name), "wb") as copy:
-                            copy.write(source.read())
-                with open(os.path.join(kept, "words"), "w") as note:
-                    note.write("%s\n%s\n" % (" ".join(words), wrong))
+    if time.time() > until:
+        return 0, ends, harms
+    rng = random.Random(seed)
+    cases, calls = [], []
+    for number in range(count):
+        words, named = case(rng)
+        for place, file in named.items():
+            words[place] = "%s-%d" % (KINDS[words[0]][place], number)
+            with open(os.path.join(program.folder, words[place]), "wb") as copy:
+                copy.write(file)
+        cases.append((words, named))
+        calls.append(("out-%d" % number, words, {}))
+    for number, ((words, named), (ended, text)) in enumerate(zip(cases, program.call(calls, SECONDS))):
+        ends["%s %s" % (words[0], ended.status)] += 1
+        why = wrong(words, ended, text)
+        if why is None:
+            why, compared = other(engine, words, named, ended, text)
+            ends["compared"] += compared
+        if why:
+            harms.append((why, words))
+            keep("%d-%d" % (seed, number), words, named, why)
+    said = program.said_on_error()
+    if said:
+        harms.append(("standard error: %r" % said[:200], ["seed", str(seed)]))
     return count, ends, harms
 
 
 def main():
     parser = argparse.ArgumentParser(description=__doc__, formatter_class=argparse.RawDescriptionHelpFormatter)
     parser.add_argument("--count", type=int, default=10000)
+    parser.add_argument("--minutes", type=float, default=1e6)
     parser.add_argument("--seed", type=int, default=1)
     parser.add_argument("--jobs", type=int, default=os.cpu_count())
-    parser.add_argument("--program", default=os.path.join(TOP, "bin", "x86_64-linux", "wflow"))
+    parser.add_argument("--program", default=served.PROGRAM, type=os.path.abspath)
     parser.add_argument("--stack", type=int, default=1024, metavar="KIB")
+    parser.add_argument("--model")
     options = parser.parse_args()
-    piece = 100
-    tasks = [(options.seed * 1_000_003 + number, min(piece, options.count - number * piece), os.path.abspath(options.program), options.stack)
+    piece, until, began = served.BATCH, time.time() + 60 * options.minutes, time.time()
+    tasks = [(options.seed * 1_000_003 + number, min(piece, options.count - number * piece), until)
              for number in range((options.count + piece - 1) // piece)]
     done, ends, harms = 0, collections.Counter(), []
-    with multiprocessing.Pool(options.jobs) as pool:
+    with served.fast_folder() as base, multiprocessing.Pool(options.jobs, start, (base, served.library(base), options)) as pool:
         for count, more, found in pool.imap_unordered(work, tasks):
+            if (done + count) // 10000 > done // 10000:
+                print("%d calls, %d s" % (done + count, time.time() - began), file=sys.stderr, flush=True)
             done += count
             ends += more
             harms += found
-            for wrong, words in found:
-                print("%s: %s" % (" ".join(words), wrong), flush=True)
-    print(", ".join("%s %d" % it for it in sorted(ends.items())))
+            for why, words in found:
+                print("%s: %s" % (" ".join(words), why), flush=True)
+    print(", ".join("%s: %d" % it for it in sorted(ends.items())))
+    print("%d s, seed %d" % (time.time() - began, options.seed))
     print("%d passed, %d failed" % (done - len(harms), len(harms)))
-    sys.exit(1 if harms or done < options.count else 0)
+    sys.exit(1 if harms or not done else 0)
 
 
 if __name__ == "__main__":
