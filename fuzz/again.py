@@ -11,6 +11,17 @@ steps; `resubmit` says of one action what `resubmit-set` says; and with the answ
 is the old record. Then a record is forged: a row less, one more, another status, another decision; the program has to refuse it, or to end.
 With --model status and text of each call have to be to the byte what the engine in that folder says (model.py tells what that is).
 
+And the record of a resubmission has to be that of a fresh run in layers, in which an action has the answers, the moment, the seed and the
+run name of the last layer that holds it. A layer is what a resubmission redoes, by this script's own reading of the definition. There is no
+command for a run in layers, so it is made in three ways, each compared as the whole line of the record, byte by byte:
+  - 'fresh': the run is resubmitted, and its new record once more, with answers of the layers but the moment, the seed and the run name of
+    the old run. Then all layers differ in answers alone, and each record has to be that of a plain `run` of the same definition with one
+    list of answers, taken for each action from the last layer that holds it.
+  - 'fresh, apart': where the definition asks for no moment, word or run name, the records of the resubmissions with moments, seeds and run
+    names of their own have to be that of such a plain `run` under the run name of the last layer.
+  - 'layers': with --model, the records of the resubmissions have to be what that engine's recursion over the graphs gives in an environment
+    with layers. It knows no event and no old record.
+
 Where a case fails, --keep writes its files to a folder, and --case N makes the Nth case alone. From a thousand cases on it fails too where a
 fault of resubmissions came up too seldom. The last line is 'N passed, M failed'."""
 import collections
@@ -18,6 +29,7 @@ import concurrent.futures
 import json
 import os
 import random
+import re
 import shutil
 import subprocess
 import sys
@@ -29,6 +41,8 @@ from reading import compact
 
 FAULTS = ["NoAction", "InLoop", "NotRun", "OtherDefinition", "Shape"]
 LOOPS = ("foreach", "until")
+# What an expression of a definition names where it asks for the moment, a random word or the run's name.
+ASKS = re.compile("utcnow|getfuturetime|getpasttime|guid|rand|workflow", re.IGNORECASE)
 
 
 # ---- what a set of actions redoes
@@ -131,6 +145,23 @@ def forged(rng, record):
     return made
 
 
+# ---- a fresh run in layers
+
+def in_layers(base, layers):
+    """INPUTS with the answers of the last layer that holds an action, and with those of the base where none does."""
+    answers = base.get("answers") or []
+    for redone, handed in layers:
+        answers = [one for one in answers if one["action"] not in redone] + [one for one in handed["answers"] if one["action"] in redone]
+    return base | {"answers": answers}
+
+
+def of_one_run(old, base, handed):
+    """INPUTS with the answers of others, but with the moment, the run name and the seed that the old run had. (A run of a split is called
+    by its place, and so is its seed.)"""
+    place = old["run"][len(base["run"]):]
+    return handed | {"moment": base["moment"], "run": old["run"], "seed": base.get("seed", "") + place}
+
+
 # ---- what is judged
 
 def key_of(row):
@@ -209,6 +240,72 @@ class Tried:
         if status == 0 and compact(self.record(text)) != compact(old):
             raise Wrong("with old answers there is another record")
 
+    def once_more(self, old, new, layers):
+        """The new record is resubmitted, too, and each is that of a fresh run in layers."""
+        self.of_layers(old, new, layers)
+        self.history(old, new)
+        chosen = chosen_of(self.rng, self.order, new)
+        newest = self.resubmitted(new, "again", chosen, "once-more")
+        if newest:
+            self.of_layers(old, newest, layers + [(self.order.redone(chosen), json.loads(self.files["once-more"]))])
+
+    def line(self, call, run):
+        """The line of a record that a call prints, by the name of its run."""
+        status, text = making.called(self.program, call, self.folder)
+        found = [line for line in making.records(text) if status == 0 and json.loads(line)["run"] == run]
+        if len(found) != 1:
+            raise Wrong("%s: status %d, %d records of %s" % (" ".join(call), status, len(found), run))
+        return found[0]
+
+    def plain_run(self, inputs, run):
+        self.write("layered", json.dumps(inputs).encode())
+        return self.line(["run", "definition", "layered"], run)
+
+    def fresh(self, old):
+        """Resubmitted twice in the moment of the old run: each time there is the record of a plain run with the answers of the layers."""
+        base, record, layers = json.loads(self.files["inputs"]), old, []
+        for name in ("again", "once-more"):
+            handed = of_one_run(old, base, json.loads(self.files[name]))
+            chosen = [one for one in chosen_of(self.rng, self.order, record) if self.may_be_resubmitted(one, record)]
+            if len(old["run"]) > 64 or not chosen:
+                return
+            self.write("handed", json.dumps(handed).encode())
+            self.history(record)
+            got = self.line(["resubmit-set", "definition", "history", old["run"], "handed", "none"] + chosen, old["run"])
+            layers.append((self.order.redone(chosen), handed))
+            owed = self.plain_run(in_layers(base, layers), old["run"])
+            if got != owed:
+                raise Wrong("layer %d, from %s, isn't a fresh run\n%s" % (len(layers), chosen, making.first_apart(got, owed)))
+            self.counts["fresh %d" % len(layers)] += 1
+            self.counts["fresh %d, another record" % len(layers)] += compact(record) != got
+            record = json.loads(got)
+
+    def may_be_resubmitted(self, name, record):
+        status = {row["name"]: row["status"] for row in record["rows"] if not row["at"]}.get(name, "Skipped")
+        return name in self.order.actions and not self.order.loops(name) and status != "Skipped"
+
+    def fresh_apart(self, new, layers):
+        """Where nothing asks for the moment, a word or the run's name, the new record is that of a plain run, too."""
+        if ASKS.search(self.files["definition"].decode()):
+            return
+        base, last = json.loads(self.files["inputs"]), layers[-1][1]
+        held = in_layers(base, layers) | {"run": last["run"], "moment": last["moment"], "seed": last.get("seed", "")}
+        self.write("layered", json.dumps(held).encode())
+        status, text = making.called(self.program, ["run", "definition", "layered"], self.folder)
+        owed = [compact(json.loads(line) | {"run": last["run"]}) for line in making.records(text)]
+        if status or compact(new) not in owed:
+            raise Wrong("%d layers aren't a fresh run apart\n%s" % (len(layers), making.first_apart(compact(new), (owed + [""])[0])))
+        self.counts["fresh, apart"] += 1
+
+    def of_layers(self, old, new, layers):
+        """The new record is that of the fresh run in layers, as far as there are ways to make one."""
+        self.fresh_apart(new, layers)
+        if making.begin.engine:
+            owed = making.begin.layered(self.files["definition"], self.files["inputs"], old["run"], layers)
+            if compact(new) != owed:
+                raise Wrong("%d layers give another record\n%s" % (len(layers), making.first_apart(compact(new), owed)))
+            self.counts["layers %d" % len(layers)] += 1
+
     def all(self):
         status, text = self.said(["run", "definition", "inputs"])
         self.counts["run %d" % status] += 1
@@ -221,8 +318,7 @@ class Tried:
         new = self.resubmitted(old, old["run"], chosen, "again")
         if new:
             self.old_again(old, old["run"], chosen)
-            self.history(old, new)
-            self.resubmitted(new, "again", chosen_of(self.rng, self.order, new), "once-more")
+            self.once_more(old, new, [(self.order.redone(chosen), json.loads(self.files["again"]))])
         record = forged(self.rng, old)
         self.history(record)
         self.counts["forged"] += 1
@@ -231,6 +327,7 @@ class Tried:
         if status not in (0, 7, 8):
             raise Wrong("a forged record: status %d" % status)
         self.counts["forged %d" % status] += 1
+        self.fresh(old)
 
 
 class Wrong(Exception):

@@ -335,6 +335,7 @@ def first_apart(got, wanted):
 
 def begin(folder):
     begin.engine = model.of(folder) if folder else None
+    begin.layered = model.layered(folder) if folder else None
 
 
 def seldom(counts, count):
