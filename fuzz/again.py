@@ -23,7 +23,7 @@ command for a run in layers, so it is made in three ways, each compared as the w
     with layers. It knows no event and no old record.
 
 Where a case fails, --keep writes its files to a folder, and --case N makes the Nth case alone. From a thousand cases on it fails too where a
-fault of resubmissions came up too seldom. The last line is 'N passed, M failed'."""
+fault of resubmissions, a fresh run or an end of a forged record came up too seldom. The last line is 'N passed, M failed'."""
 import collections
 import concurrent.futures
 import json
@@ -40,6 +40,7 @@ import rules
 from reading import compact
 
 FAULTS = ["NoAction", "InLoop", "NotRun", "OtherDefinition", "Shape"]
+TRIED = ["fault " + fault for fault in FAULTS] + ["fresh 1", "fresh 2", "fresh, apart", "forged 0", "forged 7"]
 LOOPS = ("foreach", "until")
 # What an expression of a definition names where it asks for the moment, a random word or the run's name.
 ASKS = re.compile("utcnow|getfuturetime|getpasttime|guid|rand|workflow", re.IGNORECASE)
@@ -364,7 +365,7 @@ def main():
                 print("case %d: %s" % (number, wrong), flush=True)
     print("seed %d: %s" % (words.seed, ", ".join("%s %d" % one for one in sorted(counts.items()))))
     passed = len(numbers) - failed
-    for name in ["fault " + fault for fault in FAULTS] if len(numbers) >= 1000 else ():
+    for name in TRIED if len(numbers) >= 1000 else ():
         if counts[name] * 1000 < len(numbers):
             failed += 1
             print("too few cases have %s" % name)
