@@ -15,7 +15,7 @@ use Rattle.wf_resubmit.specs.declared.fault.ResubmitFault.{ResubmitFault}
 use Rattle.wf_shaped.specs.Failing.{fails_at, missing_at_top_in, told_in}
 use Rattle.wf_shaped.specs.Least.{least_from}
 use Rattle.wf_prepare.specs.Old.{from_names, is_closed_again, is_redone}
-use Rattle.wf_prepare.specs.Prepared.{digest_of, names_refused}
+use Rattle.wf_prepare.specs.Prepared.{IsRefused, digest_of, named, names_refused}
 
 abbrev one : List ℕ → ℕ → KindTree → ActionTrees → ActionTrees
 one name n kind rest = action_then (action name n [] [] kind []) rest
@@ -140,6 +140,13 @@ module _ (test : CondTree) (data' : DataTree) where
 
   shape-later : told (ran (codes "A") [] ∷ []) (codes "A" ∷ []) ≡ None
   shape-later = refl
+
+  -- so of a record that fails, too, the names' fault is the one that is told
+  refused-names_first : IsRefused worked (left (1 ∷ []) []) (codes "A" ∷ []) (ResubmitFault.NotRun (codes "A"))
+  refused-names_first = named refl
+
+  refused-fails_too : least [] ≡ Some (at (codes "A") [])
+  refused-fails_too = refl
 
   -- ---- forged records
 
