@@ -1,0 +1,14 @@
+mod FitLemmas
+mod SectionLemmas
+mod MeaningLemmas
+mod AnswerLemmas
+mod DigestLemmas
+mod NameLemmas
+mod RangeLemmas
+mod RowLemmas
+mod TableLemmas
+mod OrderLemmas
+mod StartLemmas
+mod RecordLemmas
+mod AroundLemmas
+mod LawLemmas

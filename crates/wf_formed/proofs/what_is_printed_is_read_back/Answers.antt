@@ -1,0 +1,15 @@
+use Rattle.wf_meant.specs.Record.{meaning}
+use Rattle.wf_meant.specs.Resubmitted.{pinned}
+use Rattle.wf_formed.proofs.LawLemmas.{fitting_in_range}
+use Rattle.wf_formed.proofs.what_is_printed_is_read_back.Goals as goal
+
+pub returns-clause-meant : goal.returns-clause-meant
+returns-clause-meant c = λ d read none e around.
+    c.a_record_is_read_back.ensures (meaning d e) (fitting_in_range (meaning d e) (c.a_meaning_fits.ensures d read none e around))
+    (c.a_meaning_is_of_the_form.ensures d read none e around)
+
+pub returns-clause-resubmitted : goal.returns-clause-resubmitted
+returns-clause-resubmitted c = λ d read none r fit i handed from may.
+    c.a_record_is_read_back.ensures (pinned d r i from)
+    (fitting_in_range (pinned d r i from) (c.a_resubmission_is_of_the_form.ensures.fits d read none r fit i handed from may))
+    (c.a_resubmission_is_of_the_form.ensures.form d read none r fit i handed from may)
