@@ -305,8 +305,11 @@ all_among P [] x all i = absurd i
 all_among P (z ∷ xs) x all (inl e) = subst P e all.0
 all_among P (z ∷ xs) x all (inr i) = all_among P xs x all.1 i
 
-got_ok : {X : Type 0} (r : Result X TriggerFault) (x y : X) → r ≡ Ok x → r ≡ Ok y → x ≡ y
-got_ok r x y one other = let same : Some x ≡ Some y = cc (one, other) in cc (same)
+abbrev ok_starts : List StartTree → Result (List StartTree) TriggerFault
+ok_starts starts = Ok starts
+
+starts_are : (xs ys : List StartTree) → ok_starts xs ≡ ok_starts ys → xs ≡ ys
+starts_are xs ys is = cc (is)
 
 -- THE LAW
 pub start_formed : TemplatesFit → (d : DefTree) → offences d Rule.Parameters ≡ [] → (i : InputsTree) → AreFormedInputs i
@@ -322,8 +325,7 @@ start_formed fine d none i formed starts are s among =
     let fit : AllFit (members values) =
     subst (λ (ms : List Member). AllFit (members ms)) (parameters_are i.parameters d.given d.parameters values values_are)
     (onto_fits i.parameters d.given formed.parameters d.parameters (all_declared d.given d.parameters broken) [] tt) in
-    let begins : List StartTree = starts_of (shared_by trigger i values) split holds in
-    let same : begins ≡ starts = got_ok (Ok begins) begins starts refl last in
+    let same = starts_are (starts_of (shared_by trigger i values) split holds) starts last in
     all_among IsFormedStart starts s
     (subst (AllByRecursion IsFormedStart) same
     (all_formed i formed trigger values fit split holds

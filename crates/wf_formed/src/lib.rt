@@ -24,7 +24,8 @@ ghost use Rattle.wf_reading.specs.Read.{IsRead};
 ghost use Rattle.wf_record.specs.Record.{RecordTree};
 ghost use Rattle.wf_record_form.specs.Fitting.{IsFittingRecord, IsFittingRow};
 ghost use Rattle.wf_record_form.specs.ReadBack.{IsOfForm, IsReadBack};
-ghost use Rattle.wf_pinned.specs.Old.{MayGoOn};
+ghost use Rattle.wf_prepare.specs.Prepared.{MayBeResubmitted};
+ghost use Rattle.wf_resubmit.specs.Refused.{numbers_of};
 ghost use Rattle.wf_rules.specs.Broken.{broken_of};
 ghost use Rattle.wf_formed.specs.Known.{IsKnown, Promised};
 ghost use Rattle.wf_formed.specs.Surroundings.{AreHandedIn, IsSurroundedBy};
@@ -76,16 +77,25 @@ pub fn a_meaning_is_of_the_form()
     wf_record_form::a_fitting_record_is_of_the_form();
 }
 
-/// Whatever rows of a record that fits a resubmission keeps, its record fits as well, and is of the form.
-pub fn a_resubmission_is_of_the_form()
-    ensures fits { (d : DefTree) → IsRead d → broken_of d ≡ None → (r : RecordTree) → IsFittingRecord r → (i : InputsTree) → AreHandedIn i
-        → (from : List ℕ) → MayGoOn d r i from → IsFittingRecord (pinned d r i from) }
-    ensures form { (d : DefTree) → IsRead d → broken_of d ≡ None → (r : RecordTree) → IsFittingRecord r → (i : InputsTree) → AreHandedIn i
-        → (from : List ℕ) → MayGoOn d r i from → IsOfForm (pinned d r i from) }
+/// Whatever record that fits is resubmitted, if only it may be from the actions of these names, the record that comes of it fits as well.
+pub fn a_resubmission_fits()
+    ensures { (d : DefTree) → IsRead d → broken_of d ≡ None → (r : RecordTree) → IsFittingRecord r → (i : InputsTree) → AreHandedIn i
+        → (names : List (List ℕ)) → MayBeResubmitted d r names → IsFittingRecord (pinned d r i (numbers_of d.top names)) }
 {
     what_is_evaluated_fits();
     accepted_definitions_are_known();
     wf_pinned::a_resubmission_is_answered();
+    wf_prepare::kept_rows_are_whole();
+    wf_prepare::kept_rows_give_what_they_write();
+    wf_prepare::record_is_an_old_table();
+}
+
+/// And its value is of the form of records.
+pub fn a_resubmission_is_of_the_form()
+    ensures { (d : DefTree) → IsRead d → broken_of d ≡ None → (r : RecordTree) → IsFittingRecord r → (i : InputsTree) → AreHandedIn i
+        → (names : List (List ℕ)) → MayBeResubmitted d r names → IsOfForm (pinned d r i (numbers_of d.top names)) }
+{
+    a_resubmission_fits();
     wf_record_form::a_fitting_record_is_of_the_form();
 }
 
@@ -93,10 +103,11 @@ pub fn a_resubmission_is_of_the_form()
 pub fn what_is_printed_is_read_back()
     ensures meant { (d : DefTree) → IsRead d → broken_of d ≡ None → (e : Environment) → IsSurroundedBy d e → IsReadBack (meaning d e) }
     ensures resubmitted { (d : DefTree) → IsRead d → broken_of d ≡ None → (r : RecordTree) → IsFittingRecord r → (i : InputsTree)
-        → AreHandedIn i → (from : List ℕ) → MayGoOn d r i from → IsReadBack (pinned d r i from) }
+        → AreHandedIn i → (names : List (List ℕ)) → MayBeResubmitted d r names → IsReadBack (pinned d r i (numbers_of d.top names)) }
 {
     a_meaning_fits();
     a_meaning_is_of_the_form();
+    a_resubmission_fits();
     a_resubmission_is_of_the_form();
     wf_record_form::a_record_is_read_back();
 }

@@ -1,3 +1,4 @@
+use Rattle.wf_resubmit.specs.Refused.{numbers_of}
 use Rattle.wf_meant.specs.Record.{meaning}
 use Rattle.wf_meant.specs.Resubmitted.{pinned}
 use Rattle.wf_formed.proofs.LawLemmas.{fitting_in_range}
@@ -9,7 +10,7 @@ returns-clause-meant c = λ d read none e around.
     (c.a_meaning_is_of_the_form.ensures d read none e around)
 
 pub returns-clause-resubmitted : goal.returns-clause-resubmitted
-returns-clause-resubmitted c = λ d read none r fit i handed from may.
-    c.a_record_is_read_back.ensures (pinned d r i from)
-    (fitting_in_range (pinned d r i from) (c.a_resubmission_is_of_the_form.ensures.fits d read none r fit i handed from may))
-    (c.a_resubmission_is_of_the_form.ensures.form d read none r fit i handed from may)
+returns-clause-resubmitted c = λ d read none r fit i handed names may.
+    let new = pinned d r i (numbers_of d.top names) in
+    c.a_record_is_read_back.ensures new (fitting_in_range new (c.a_resubmission_fits.ensures d read none r fit i handed names may))
+    (c.a_resubmission_is_of_the_form.ensures d read none r fit i handed names may)
