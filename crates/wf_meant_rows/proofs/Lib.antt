@@ -1,0 +1,5 @@
+mod CloseRows
+mod GateRows
+mod LookRows
+mod RecordRows
+mod StatusRows
