@@ -59,6 +59,15 @@ halted-containers-means : rows_in halted-containers [] ≡
     unrun "C" [] ∷ unrun "L" [] ∷ unrun "N" [] ∷ ran "T" [] ended_so null ∷ unrun "U" [] ∷ unrun "Y" [] ∷ []
 halted-containers-means = refl
 
+-- What stands beside a Terminate runs, though it has its turn later; in an accepted definition all others are in one order with it.
+abbrev beside : DefTree
+beside = of_actions (
+    act "A" 0 [] (compose (nat 1)) ∷ act "B" 1 (success_of 0) (compose (nat 2)) ∷ act "T" 2 [] (terminate ends) ∷ [])
+
+beside-means : rows_in beside [] ≡
+    ran "A" [] (value 1) (value 1) ∷ ran "B" [] (value 2) (value 2) ∷ ran "T" [] ended_so null ∷ []
+beside-means = refl
+
 -- A Terminate in the branch that isn't taken halts nothing and ends nothing.
 abbrev not-taken-branch : DefTree
 not-taken-branch = of_actions (

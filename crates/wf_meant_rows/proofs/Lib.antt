@@ -1,3 +1,9 @@
+mod Cases1
+mod Cases2
+mod Cases3
+mod Cases4
+mod Cases5
+mod CaseTerms
 mod CloseRows
 mod GateRows
 mod LookRows

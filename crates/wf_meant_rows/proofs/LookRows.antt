@@ -280,6 +280,25 @@ inner-rounds-means : rows_in inner-rounds [] ≡
     ∷ []
 inner-rounds-means = refl
 
+-- ---- items
+
+-- In a loop in a loop each item goes by the name of its loop.
+abbrev named-items : DefTree
+named-items = of_actions (
+    act "L" 1 [] (foreach (many (nat 1 ∷ [])) 20 (action_trees (
+    act "M" 2 [] (foreach (many (nat 8 ∷ nat 9 ∷ [])) 20 (action_trees (
+    act "C" 0 [] (compose (many (of (ask "items" (say "M")) ∷ of (ask "items" (say "L")) ∷ []))) ∷ [])))
+    ∷ [])))
+    ∷ [])
+
+named-items-mean : rows_in named-items [] ≡
+    ran "C" (0 ∷ 0 ∷ []) (values (value 8 ∷ value 1 ∷ [])) (values (value 8 ∷ value 1 ∷ []))
+    ∷ ran "C" (0 ∷ 1 ∷ []) (values (value 9 ∷ value 1 ∷ [])) (values (value 9 ∷ value 1 ∷ []))
+    ∷ ran "L" [] (values (value 1 ∷ [])) null
+    ∷ ran "M" (0 ∷ []) (values (value 8 ∷ value 9 ∷ [])) null
+    ∷ []
+named-items-mean = refl
+
 -- ---- tests
 
 -- A test sees the iterations of a Foreach that its own iteration has just had.

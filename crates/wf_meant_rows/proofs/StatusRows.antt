@@ -79,7 +79,7 @@ handed-to-none = refl
 not-of-it : ends_as ([] ∷ []) (Succeeded ∷ Failed ∷ []) ≡ Succeeded
 not-of-it = refl
 
-named-out-of-it : ends_as ((behind 1 ∷ []) ∷ []) (Skipped ∷ Failed ∷ []) ≡ Succeeded
+named-out-of-it : ends_as ((behind 2 ∷ []) ∷ [] ∷ []) (Skipped ∷ Succeeded ∷ Failed ∷ []) ≡ Succeeded
 named-out-of-it = refl
 
 -- one without a row fails nothing
