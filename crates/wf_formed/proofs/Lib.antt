@@ -12,3 +12,4 @@ mod StartLemmas
 mod RecordLemmas
 mod AroundLemmas
 mod LawLemmas
+mod WorkedRows
