@@ -9,3 +9,4 @@ mod GateRows
 mod LookRows
 mod RecordRows
 mod StatusRows
+mod SwitchRows

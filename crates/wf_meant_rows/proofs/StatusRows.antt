@@ -1,16 +1,22 @@
 -- Worked values: how a graph ends, by the statuses of its actions, which are numbered from 0 on.
 use Rattle.std.proofs.Common.{◌≡◌, refl}
-use Rattle.std.specs.Prelude.{ℕ, suc, true, cond, List, [], ◌∷◌, None, slice_get, option_map}
+use Rattle.std.specs.Prelude.{ℕ, suc, true, cond, List, [], ◌∷◌, ◌++◌, None, slice_get, option_map}
 use Rattle.wf_val.specs.ValueTree.{null}
+use Rattle.wf_val.specs.declared.fault.EvalFault.{EvalFault}
+use Rattle.wf_val.specs.declared.function.Fun.{Fun}
 use Rattle.wf_layers.specs.Address.{Table, same_at}
 use Rattle.wf_def.specs.ActionTree.{ActionTree, action, compose}
+use Rattle.wf_def.specs.DefTree.{DefTree}
 use Rattle.wf_def.specs.declared.after.After.{After}
 use Rattle.wf_record.specs.Record.{Row}
+use Rattle.wf_record.specs.declared.status.RunStatus.{RunStatus}
 use Rattle.wf_record.specs.declared.status.Status.{Status}
 use Rattle.wf_record.specs.declared.status.Status.TheVariants.{Succeeded, Failed, Skipped, TimedOut, Cancelled}
+use Rattle.wf_meant.specs.Record.{meaning}
 use Rattle.wf_meant.specs.Rows.{row_of}
 use Rattle.wf_meant.specs.Status.{graph_status}
-use Rattle.wf_meant.proofs.Terms.{after, nat}
+use Rattle.wf_meant.proofs.Terms.{act, after, answered, apply, failure_of, fell, fields, nat, num, of, of_actions, ran, record_is}
+use Rattle.wf_meant.proofs.Terms.{success_of, txt, unrun, words}
 
 abbrev pub ended_as : Status → Row
 ended_as status = row_of (record { status = status; code = []; inputs = null; outputs = null; error = null }) null []
@@ -92,3 +98,21 @@ in-iteration = refl
 
 in-other-iteration : graph_status (waiting 0 ([] ∷ [])) (2 ∷ []) (statuses_at (3 ∷ []) (Failed ∷ [])) ≡ Succeeded
 in-other-iteration = refl
+
+-- ---- a whole definition: T fails and H answers for it, and where L waits for its success, too, the run is Failed
+
+abbrev answering : ℕ → List ActionTree → DefTree
+answering n others = of_actions (
+    act "H" 0 (failure_of n) (compose (txt "caught")) ∷ others
+    ++ act "T" n [] (compose (of (apply "div" (num 1 ∷ num 0 ∷ [])))) ∷ [])
+
+answered-run : meaning (answering 1 []) (answered []) ≡ record_is RunStatus.Succeeded null null (fields []) (
+    ran "H" [] (words "caught") (words "caught") ∷ fell "T" [] (EvalFault.Range Fun.Div) ∷ [])
+unfolding meaning
+answered-run = refl
+
+unanswered-run : meaning (answering 2 (act "L" 1 (success_of 2) (compose (nat 1)) ∷ [])) (answered []) ≡
+    record_is RunStatus.Failed null null (fields []) (
+    ran "H" [] (words "caught") (words "caught") ∷ unrun "L" [] ∷ fell "T" [] (EvalFault.Range Fun.Div) ∷ [])
+unfolding meaning
+unanswered-run = refl
