@@ -87,11 +87,11 @@ record IsInputsForm {R : Type 0} (form : Form R) (whole : R) : Type 0 where
 
 -- ---- a value in which nothing is amiss
 
-first_of : {X : Type 0} (x : X) (xs : List X) → Contains (x ∷ xs) x
+pub first_of : {X : Type 0} (x : X) (xs : List X) → Contains (x ∷ xs) x
 first_of x xs = (0, omega arith, refl)
 
-second : {X : Type 0} (x y : X) → Contains (x ∷ y ∷ []) y
-second x y = (1, omega arith, refl)
+pub second_of : {X : Type 0} (x y : X) → Contains (x ∷ y ∷ []) y
+second_of x y = (1, omega arith, refl)
 
 none_in : {X : Type 0} (xs : List X) (x : X) → xs ≡ [] → Contains xs x → ⊥
 none_in xs x is c = let d = subst (λ ys. Contains ys x) is c in let within = d.1 in omega arith
@@ -118,17 +118,17 @@ listed name (m ∷ ms) u is = at_first (bytes_cmp name m.0) refl is (listed name
     at_first Greater tie is later = Contains-append_right (m ∷ []) ms (name, u) (later is)
 
 module _ {R : Type 0} (form : Form R) where
-  abbrev IsFine : R → ValueTree → Type 0
+  abbrev pub IsFine : R → ValueTree → Type 0
   IsFine role t = (p : List ℕ) → IsAmiss form role t p → ⊥
 
-  is_fine : (role : R) (t : ValueTree) → places form role t ≡ [] → IsFine role t
+  pub is_fine : (role : R) (t : ValueTree) → places form role t ≡ [] → IsFine role t
   is_fine role t is p amiss = none_in (places form role t) p is (amiss_listed form amiss)
 
-  right : (role : R) (t : ValueTree) (b : Bool) → IsFine role t → form.is_right role t ≡ b → b ≡ true
+  pub right : (role : R) (t : ValueTree) (b : Bool) → IsFine role t → form.is_right role t ≡ b → b ≡ true
   right role t b fine is = sure b (λ no. fine [] (wrong (is ∙ no)))
 
   -- the member of a name, in whatever value
-  member_fine : (role sub : R) (name : List ℕ) (t u : ValueTree) → IsFine role t → form.member role name ≡ Some sub → get name t ≡ Some u
+  pub member_fine : (role sub : R) (name : List ℕ) (t u : ValueTree) → IsFine role t → form.member role name ≡ Some sub → get name t ≡ Some u
       → IsFine sub u
   member_fine role sub name (object ms) u fine stands is = λ p amiss. fine _ (in_member (listed name (pairs ms) u is) stands amiss)
   member_fine role sub name null u fine stands is = absurd (none-some u is)
@@ -337,7 +337,7 @@ inputs_formed t i well none is =
     read_by {form = inputs_form} t i is (record {
       run = _;
       run_is = refl;
-      run_needed = second _ _;
+      run_needed = second_of _ _;
       run_right = λ u. refl;
       outputs = _;
       outputs_is = refl;

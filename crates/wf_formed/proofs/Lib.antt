@@ -12,4 +12,5 @@ mod StartLemmas
 mod RecordLemmas
 mod AroundLemmas
 mod LawLemmas
+mod BackLemmas
 mod WorkedRows

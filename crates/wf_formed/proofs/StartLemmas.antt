@@ -308,8 +308,10 @@ all_among P (z ∷ xs) x all (inr i) = all_among P xs x all.1 i
 abbrev ok_starts : List StartTree → Result (List StartTree) TriggerFault
 ok_starts starts = Ok starts
 
-starts_are : (xs ys : List StartTree) → ok_starts xs ≡ ok_starts ys → xs ≡ ys
-starts_are xs ys is = cc (is)
+among_starts : (xs starts : List StartTree) → ok_starts xs ≡ ok_starts starts → AllByRecursion IsFormedStart xs → (s : StartTree)
+    → Among starts s → IsFormedStart s
+among_starts xs starts is all s among =
+    let same : xs ≡ starts = cc (is) in all_among IsFormedStart starts s (subst (AllByRecursion IsFormedStart) same all) among
 
 -- THE LAW
 pub start_formed : TemplatesFit → (d : DefTree) → offences d Rule.Parameters ≡ [] → (i : InputsTree) → AreFormedInputs i
@@ -325,9 +327,7 @@ start_formed fine d none i formed starts are s among =
     let fit : AllFit (members values) =
     subst (λ (ms : List Member). AllFit (members ms)) (parameters_are i.parameters d.given d.parameters values values_are)
     (onto_fits i.parameters d.given formed.parameters d.parameters (all_declared d.given d.parameters broken) [] tt) in
-    let same = starts_are (starts_of (shared_by trigger i values) split holds) starts last in
-    all_among IsFormedStart starts s
-    (subst (AllByRecursion IsFormedStart) same
+    among_starts (starts_of (shared_by trigger i values) split holds) starts last
     (all_formed i formed trigger values fit split holds
-    (split_few i formed trigger values fit (value_in trigger i values) (λ x t is. fine _ x 0 t is) (split_in trigger) split split_is)))
-    among
+    (split_few i formed trigger values fit (value_in trigger i values) (λ x t is. fine _ x 0 t is) (split_in trigger) split split_is))
+    s among

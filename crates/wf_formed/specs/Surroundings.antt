@@ -9,6 +9,8 @@ use Rattle.wf_def.specs.DefTree.{DefTree}
 use Rattle.wf_trigger.specs.Runs.{runs_of}
 use Rattle.wf_trigger.specs.Starts.{StartTree}
 use Rattle.wf_environment.specs.Environment.{Environment, Layer}
+use Rattle.wf_record.specs.Record.{RecordTree}
+use Rattle.wf_record_form.specs.ReadBack.{IsInRange}
 
 -- some value of a file means these inputs
 pub record AreHandedIn (i : InputsTree) : Type 0 where
@@ -27,3 +29,8 @@ pub record IsSurroundedBy (d : DefTree) (e : Environment) : Type 0 where
   pub inputs : AreHandedIn e.inputs
   pub start : IsStartOf d e.inputs e.start
   pub layers : AllByRecursion (λ (l : Layer). AreHandedIn l.inputs) e.layers
+
+-- What the type of a record keeps: its numbers are in range, and its values are well formed, of which the trigger counts here.
+pub record IsKept (r : RecordTree) : Type 0 where
+  pub in_range : IsInRange r
+  pub trigger : IsWellFormed r.trigger

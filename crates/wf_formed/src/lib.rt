@@ -28,7 +28,7 @@ ghost use Rattle.wf_prepare.specs.Prepared.{MayBeResubmitted};
 ghost use Rattle.wf_resubmit.specs.Refused.{numbers_of};
 ghost use Rattle.wf_rules.specs.Broken.{broken_of};
 ghost use Rattle.wf_formed.specs.Known.{IsKnown, Promised};
-ghost use Rattle.wf_formed.specs.Surroundings.{AreHandedIn, IsSurroundedBy};
+ghost use Rattle.wf_formed.specs.Surroundings.{AreHandedIn, IsKept, IsSurroundedBy};
 
 // What others promise of all that is evaluated.
 fn what_is_evaluated_fits()
@@ -90,11 +90,20 @@ pub fn a_resubmission_fits()
     wf_prepare::record_is_an_old_table();
 }
 
-/// And its value is of the form of records.
+/// A record whose value is of the form fits, as its type keeps it.
+pub fn a_record_of_the_form_fits()
+    ensures { (r : RecordTree) → IsKept r → IsOfForm r → IsFittingRecord r }
+{
+    wf_record_form::a_record_is_read_back();
+    wf_record_form::rows_are_read_in_order();
+}
+
+/// So whatever record of the form is resubmitted, the one that comes of it is of the form.
 pub fn a_resubmission_is_of_the_form()
-    ensures { (d : DefTree) → IsRead d → broken_of d ≡ None → (r : RecordTree) → IsFittingRecord r → (i : InputsTree) → AreHandedIn i
+    ensures { (d : DefTree) → IsRead d → broken_of d ≡ None → (r : RecordTree) → IsKept r → IsOfForm r → (i : InputsTree) → AreHandedIn i
         → (names : List (List ℕ)) → MayBeResubmitted d r names → IsOfForm (pinned d r i (numbers_of d.top names)) }
 {
+    a_record_of_the_form_fits();
     a_resubmission_fits();
     wf_record_form::a_fitting_record_is_of_the_form();
 }
@@ -106,8 +115,7 @@ pub fn what_is_printed_is_read_back()
         → AreHandedIn i → (names : List (List ℕ)) → MayBeResubmitted d r names → IsReadBack (pinned d r i (numbers_of d.top names)) }
 {
     a_meaning_fits();
-    a_meaning_is_of_the_form();
     a_resubmission_fits();
-    a_resubmission_is_of_the_form();
+    wf_record_form::a_fitting_record_is_of_the_form();
     wf_record_form::a_record_is_read_back();
 }

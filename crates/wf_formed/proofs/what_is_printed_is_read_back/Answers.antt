@@ -6,11 +6,12 @@ use Rattle.wf_formed.proofs.what_is_printed_is_read_back.Goals as goal
 
 pub returns-clause-meant : goal.returns-clause-meant
 returns-clause-meant c = λ d read none e around.
-    c.a_record_is_read_back.ensures (meaning d e) (fitting_in_range (meaning d e) (c.a_meaning_fits.ensures d read none e around))
-    (c.a_meaning_is_of_the_form.ensures d read none e around)
+    let fit = c.a_meaning_fits.ensures d read none e around in
+    c.a_record_is_read_back.ensures (meaning d e) (fitting_in_range (meaning d e) fit)
+    (c.a_fitting_record_is_of_the_form.ensures (meaning d e) fit)
 
 pub returns-clause-resubmitted : goal.returns-clause-resubmitted
 returns-clause-resubmitted c = λ d read none r fit i handed names may.
     let new = pinned d r i (numbers_of d.top names) in
-    c.a_record_is_read_back.ensures new (fitting_in_range new (c.a_resubmission_fits.ensures d read none r fit i handed names may))
-    (c.a_resubmission_is_of_the_form.ensures d read none r fit i handed names may)
+    let fits = c.a_resubmission_fits.ensures d read none r fit i handed names may in
+    c.a_record_is_read_back.ensures new (fitting_in_range new fits) (c.a_fitting_record_is_of_the_form.ensures new fits)
