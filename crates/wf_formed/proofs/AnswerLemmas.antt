@@ -128,8 +128,8 @@ module _ {R : Type 0} (form : Form R) where
   right role t b fine is = sure b (λ no. fine [] (wrong (is ∙ no)))
 
   -- the member of a name, in whatever value
-  pub member_fine : (role sub : R) (name : List ℕ) (t u : ValueTree) → IsFine role t → form.member role name ≡ Some sub → get name t ≡ Some u
-      → IsFine sub u
+  pub member_fine : (role sub : R) (name : List ℕ) (t u : ValueTree) → IsFine role t → form.member role name ≡ Some sub
+      → get name t ≡ Some u → IsFine sub u
   member_fine role sub name (object ms) u fine stands is = λ p amiss. fine _ (in_member (listed name (pairs ms) u is) stands amiss)
   member_fine role sub name null u fine stands is = absurd (none-some u is)
   member_fine role sub name (boolean b) u fine stands is = absurd (none-some u is)

@@ -146,7 +146,8 @@ module _ {R : Type 0} (form : Form R) (whole : R) (roles : IsRecordForm form who
   tracked_is : (t : ValueTree) → IsFine form roles.tracked t → IsTracked t
   tracked_is null fine = tt
   tracked_is (object ms) fine = all_fit roles.tracked ms roles.tracked_part fine ms (λ k u c. c)
-  tracked_is (boolean b) fine = absurd (true≢false (sym (right form roles.tracked (boolean b) false fine (roles.tracked_right (boolean b)))))
+  tracked_is (boolean b) fine =
+      absurd (true≢false (sym (right form roles.tracked (boolean b) false fine (roles.tracked_right (boolean b)))))
   tracked_is (number n) fine = absurd (true≢false (sym (right form roles.tracked (number n) false fine (roles.tracked_right (number n)))))
   tracked_is (text s) fine = absurd (true≢false (sym (right form roles.tracked (text s) false fine (roles.tracked_right (text s)))))
   tracked_is (list ts) fine = absurd (true≢false (sym (right form roles.tracked (list ts) false fine (roles.tracked_right (list ts)))))
@@ -155,7 +156,8 @@ module _ {R : Type 0} (form : Form R) (whole : R) (roles : IsRecordForm form who
 
   try_is : (t : Try) → IsFine form roles.attempt (try_value t) → IsTry t
   try_is (Try.Code n) fine =
-      let is = right form roles.attempt (number (pos n)) ((nat_le 100 n && nat_le n 599) || false) fine (roles.attempt_right (number (pos n))) in
+      let is = right form roles.attempt (number (pos n)) ((nat_le 100 n && nat_le n 599) || false) fine
+      (roles.attempt_right (number (pos n))) in
       let both = and_parts (nat_le 100 n) (nat_le n 599) (first_holds (nat_le 100 n && nat_le n 599) is) in
       (leb-true 100 n both.0, leb-true n 599 both.1)
     where

@@ -1,5 +1,5 @@
--- What the laws ask of a run's surroundings is met: inputs of the two members that must be there, and the run that they start of a definition
--- without a trigger.
+-- What the laws ask of a run's surroundings is met: inputs of the two members that must be there, and the run that they start of a
+-- definition without a trigger.
 use Rattle.std.proofs.Common.{◌≡◌, [], ◌∷◌, None, Ok, inl, refl}
 use Rattle.std.specs.Char.{encode_utf8}
 use Rattle.std.specs.Fmt.{digits}
