@@ -1,0 +1,33 @@
+-- What the schema of a ParseJson judges: the value that is given out, and that alone, once there is one.
+use Rattle.std.proofs.Common.{◌≡◌, refl, Some, None, Err}
+use Rattle.std.specs.Prelude.{codes}
+use Rattle.wf_val.specs.ValueTree.{ValueTree, text}
+use Rattle.wf_val.specs.declared.fault.EvalFault.{EvalFault}
+use Rattle.wf_template.specs.DataTree.{DataTree}
+use Rattle.wf_schema.specs.Reading.{SchemaTree}
+use Rattle.wf_def.specs.ActionTree.{parse_json}
+use Rattle.wf_data.specs.Made.{MadeTree, one_member}
+use Rattle.wf_data.proofs.RowParts.{plus}
+use Rattle.wf_done.specs.Done.{faulted, mismatched, succeeded}
+use Rattle.wf_done.specs.Leaf.{done_of, judged}
+
+-- a text that spells 5, and the value that was read
+abbrev five : MadeTree
+five = record { inputs = one_member (codes "content") (text (codes "5")); outputs = one_member (codes "body") (plus 5) }
+
+abbrev typed : ValueTree → SchemaTree
+typed t = one_member (codes "type") t
+
+judged-body : judged (Some (typed (text (codes "integer")))) five ≡ succeeded five
+judged-body = refl
+
+judged-no_content :
+    judged (Some (typed (text (codes "string")))) five ≡ mismatched (one_member (codes "content") (text (codes "5"))) (codes "")
+judged-no_content = refl
+
+-- whatever the schema asks, a fault comes before it
+fault-first : (content : DataTree) (schema : SchemaTree) (f : EvalFault) → done_of (parse_json content (Some schema)) (Err f) ≡ faulted f
+fault-first content schema f = refl
+
+fault-unjudged : (content : DataTree) (f : EvalFault) → done_of (parse_json content None) (Err f) ≡ faulted f
+fault-unjudged content f = refl

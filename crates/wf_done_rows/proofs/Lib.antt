@@ -1,0 +1,5 @@
+mod DataRows
+mod VariableRows
+mod ConnectRows
+mod OpeningRows
+mod DoneRows
