@@ -1,13 +1,13 @@
 -- What the schema of a ParseJson judges: the value that is given out, and that alone, once there is one.
-use Rattle.std.proofs.Common.{◌≡◌, refl, Some, None, Err}
+use Rattle.std.proofs.Common.{◌≡◌, refl, [], ◌∷◌, Some, None, Err}
 use Rattle.std.specs.Prelude.{codes}
-use Rattle.wf_val.specs.ValueTree.{ValueTree, text}
+use Rattle.wf_val.specs.ValueTree.{ValueTree, null, text}
 use Rattle.wf_val.specs.declared.fault.EvalFault.{EvalFault}
 use Rattle.wf_template.specs.DataTree.{DataTree}
 use Rattle.wf_schema.specs.Reading.{SchemaTree}
 use Rattle.wf_def.specs.ActionTree.{parse_json}
 use Rattle.wf_data.specs.Made.{MadeTree, one_member}
-use Rattle.wf_data.proofs.RowParts.{plus}
+use Rattle.wf_data.proofs.RowParts.{plus, fields}
 use Rattle.wf_done.specs.Done.{faulted, mismatched, succeeded}
 use Rattle.wf_done.specs.Leaf.{done_of, judged}
 
@@ -24,6 +24,14 @@ judged-body = refl
 judged-no_content :
     judged (Some (typed (text (codes "string")))) five ≡ mismatched (one_member (codes "content") (text (codes "5"))) (codes "")
 judged-no_content = refl
+
+-- of two places the least by its bytes is told, and not the first by names
+judged-least :
+    judged
+    (Some (one_member (codes "properties") (fields ((codes "a/", typed (text (codes "null"))) ∷ (codes "a0", typed (text (codes "null"))) ∷ []))))
+    (record { inputs = null; outputs = one_member (codes "body") (fields ((codes "a/", plus 1) ∷ (codes "a0", plus 2) ∷ [])) })
+    ≡ mismatched null (codes "/a0")
+judged-least = refl
 
 -- whatever the schema asks, a fault comes before it
 fault-first : (content : DataTree) (schema : SchemaTree) (f : EvalFault) → done_of (parse_json content (Some schema)) (Err f) ≡ faulted f

@@ -3,3 +3,4 @@ mod VariableRows
 mod ConnectRows
 mod OpeningRows
 mod DoneRows
+mod SchemaRows
