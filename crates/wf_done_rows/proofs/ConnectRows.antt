@@ -24,7 +24,13 @@ status-each :
 status-each = refl
 
 abbrev answer : ℕ → Option AnswerTree
-answer n = Some (record { address = record { name = codes "A"; at = [] }; attempt = 1; outcome = Outcome.Code n; headers = null; body = null })
+answer n = Some (record {
+  address = record { name = codes "A"; at = [] };
+  attempt = 1;
+  outcome = Outcome.Code n;
+  headers = null;
+  body = null;
+})
 
 abbrev is_repeated : TriedTree → Bool
 is_repeated repeated = true

@@ -26,9 +26,12 @@ judged-no_content :
 judged-no_content = refl
 
 -- of two places the least by its bytes is told, and not the first by names
+abbrev two_nulls : SchemaTree
+two_nulls =
+    one_member (codes "properties") (fields ((codes "a/", typed (text (codes "null"))) ∷ (codes "a0", typed (text (codes "null"))) ∷ []))
+
 judged-least :
-    judged
-    (Some (one_member (codes "properties") (fields ((codes "a/", typed (text (codes "null"))) ∷ (codes "a0", typed (text (codes "null"))) ∷ []))))
+    judged (Some two_nulls)
     (record { inputs = null; outputs = one_member (codes "body") (fields ((codes "a/", plus 1) ∷ (codes "a0", plus 2) ∷ [])) })
     ≡ mismatched null (codes "/a0")
 judged-least = refl

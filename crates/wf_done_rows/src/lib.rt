@@ -3,7 +3,7 @@
 //! They say by a value of each type what the other crates' rows say by one or two: what a Query, a Join, a ParseJson and a Terminate take
 //! (`proofs/DataRows`), what changes a variable (`proofs/VariableRows`), and what an If, a Switch, a Foreach and an Until are decided by
 //! (`proofs/OpeningRows`); of each status code from 100 to 599 whether it is a success, and whether another attempt follows
-//! (`proofs/ConnectRows`); what the schema of a ParseJson judges (`proofs/DoneRows`), and where a value is no schema
+//! (`proofs/ConnectRows`, `proofs/RetryRows`); what the schema of a ParseJson judges (`proofs/DoneRows`), and where a value is no schema
 //! (`proofs/SchemaRows`). What is owed was worked out by hand from the rules.
 //!
 //! It has no code and no definition, and no crate stands on it: a row more proves nothing anew.
