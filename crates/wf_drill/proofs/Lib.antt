@@ -1,0 +1,2 @@
+mod DrillRows
+pub mod NameLemmas
