@@ -2,7 +2,7 @@
 use Rattle.std.proofs.Common.{◌≡◌, ℕ, pos, List, [], ◌∷◌, ◌++◌, refl, codes, decimal}
 use Rattle.wf_val.specs.ValueTree.{ValueTree, number, text, list, trees}
 use Rattle.wf_drill.specs.Calls.{answers, answers_to, call_name, object_of}
-use Rattle.wf_drill.specs.Drill.{actions, drill_definition, drill_inputs, drill_schedules}
+use Rattle.wf_drill.specs.Drill.{actions, drill_definition, drill_inputs, forward, leaping}
 
 -- names have three digits
 first_name : call_name 0 ≡ codes "H000"
@@ -100,6 +100,8 @@ tried_and_failed = refl
 last_call : answers_to 399 ≡ gets (codes "H399") 1 500 ∷ gets (codes "H399") 2 404 ∷ []
 last_call = refl
 
-schedules_of_one : drill_schedules 1 ≡ [] ∷ (0 ∷ 1 ∷ 2 ∷ 3 ∷ 4 ∷ 5 ∷ 6 ∷ 7 ∷ 8 ∷ 9 ∷ 10 ∷ 11 ∷ 12 ∷ 13 ∷ 14 ∷ 15 ∷ [])
-    ∷ (1 ∷ 4 ∷ 7 ∷ 10 ∷ 13 ∷ 16 ∷ 19 ∷ 22 ∷ 25 ∷ 28 ∷ 31 ∷ 34 ∷ 37 ∷ 40 ∷ 43 ∷ 46 ∷ []) ∷ []
-schedules_of_one = refl
+forward_of_one : forward 1 ≡ 0 ∷ 1 ∷ 2 ∷ 3 ∷ 4 ∷ 5 ∷ 6 ∷ 7 ∷ 8 ∷ 9 ∷ 10 ∷ 11 ∷ 12 ∷ 13 ∷ 14 ∷ 15 ∷ []
+forward_of_one = refl
+
+leaping_of_one : leaping 1 ≡ 1 ∷ 4 ∷ 7 ∷ 10 ∷ 13 ∷ 16 ∷ 19 ∷ 22 ∷ 25 ∷ 28 ∷ 31 ∷ 34 ∷ 37 ∷ 40 ∷ 43 ∷ 46 ∷ []
+leaping_of_one = refl

@@ -1,2 +1,4 @@
 mod DrillRows
+pub mod FormLemmas
+pub mod SizeLemmas
 pub mod NameLemmas

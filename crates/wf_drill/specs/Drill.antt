@@ -64,6 +64,9 @@ abbrev pub numbers : ℕ → ℕ → ℕ → List ℕ
 numbers first step zero = []
 numbers first step (suc count) = numbers first step count ++ (first + step * count) ∷ []
 
--- THE SCHEDULES: the empty one, the numbers from 0 on, and each third number from 1 on
-abbrev pub drill_schedules : ℕ → List (List ℕ)
-drill_schedules n = [] ∷ numbers 0 1 (8 * n + 8) ∷ numbers 1 3 (8 * n + 8) ∷ []
+-- THE SCHEDULES, beside the empty one: the numbers from 0 on, and each third number from 1 on
+abbrev pub forward : ℕ → List ℕ
+forward n = numbers 0 1 (8 * n + 8)
+
+abbrev pub leaping : ℕ → List ℕ
+leaping n = numbers 1 3 (8 * n + 8)

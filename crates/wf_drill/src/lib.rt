@@ -11,7 +11,9 @@ mod actions;
 mod answers;
 mod calls;
 mod drill;
+mod laws;
 mod members;
 mod schedules;
 
 pub use drill::{Drill, make};
+pub use laws::{a_drill_is_in_form, a_drill_is_of_its_size, a_schedule_has_so_many_numbers};
