@@ -3,8 +3,8 @@ ghost use Rattle.std.specs.Prelude.{◌≡◌, ◌≢◌, IfOk, IfErr, OnOk, Non
 ghost use Rattle.wf_answers.specs.InputsSeen.{inputs_tree};
 ghost use Rattle.wf_history.specs.Seen.{listed_tree};
 ghost use Rattle.wf_reading.specs.ReadSeen.{def_tree};
-ghost use Rattle.wf_files.specs.Form.{broken_in, definition_form, definition_of, history_form, inputs_form, listing_form, schedule_form};
-ghost use Rattle.wf_files.specs.Form.{value_form};
+ghost use Rattle.wf_files.specs.Form.{broken_in, definition_form, definition_of, history_form, inputs_form, inputs_of, listing_form};
+ghost use Rattle.wf_files.specs.Form.{schedule_form, value_form};
 ghost use Rattle.wf_files.specs.Seen.{found_tree};
 ghost use Rattle.wf_val.specs.Seen.{tree};
 
@@ -28,8 +28,8 @@ fn checked(alloc: Global, def: Def) -> Result<Checked, RuleFault>
     check(alloc, def)
 }
 
-// The definition that a value means.
-fn definition_in(alloc: Global, value: &Val) -> Result<Checked, FormFault>
+/// The definition that a value means.
+pub fn definition_in(alloc: Global, value: &Val) -> Result<Checked, FormFault>
     ensures form { IfOk result (λ checked. definition_of (tree value.now) ≡ Ok (def_tree checked.def)) }
     ensures fault { IfErr result (λ fault. fault ≢ FormFault.Memory → definition_of (tree value.now) ≡ Err fault) }
 {
@@ -61,6 +61,15 @@ pub fn value_form(alloc: Global, file: Option<Vec<u8>>) -> Result<Val, FormFault
     Ok(value)
 }
 
+/// The inputs that a value means.
+pub fn inputs_in(alloc: Global, value: &Val) -> Result<Inputs, FormFault>
+    ensures form { IfOk result (λ inputs. inputs_of (tree value.now) ≡ Ok (inputs_tree inputs)) }
+    ensures fault { IfErr result (λ fault. fault ≢ FormFault.Memory → inputs_of (tree value.now) ≡ Err fault) }
+{
+    let inputs = read_inputs(alloc, value)?;
+    Ok(inputs)
+}
+
 /// The inputs that a file holds; `None` stands for a file over its limit.
 pub fn inputs_form(alloc: Global, file: Option<Vec<u8>>) -> Result<Inputs, FormFault>
     ensures form { IfOk result (λ inputs. inputs_form (option_map (λ bytes. bytes.items) file) ≡ Ok (inputs_tree inputs)) }
@@ -68,7 +77,7 @@ pub fn inputs_form(alloc: Global, file: Option<Vec<u8>>) -> Result<Inputs, FormF
 {
     let bytes = file.ok_or(FormFault::TooLong)?;
     let value = wf_json::read(alloc, &bytes)?;
-    let inputs = read_inputs(alloc, &value)?;
+    let inputs = inputs_in(alloc, &value)?;
     Ok(inputs)
 }
 

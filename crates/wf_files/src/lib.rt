@@ -7,6 +7,8 @@
 //! In a history that is one, a run may have no record, or more than one. That isn't told as a fault of the file: who asks has other files to
 //! judge first (`FindFault`).
 //!
+//! Of values that no file holds the same is said, of definitions and of inputs.
+//!
 //! No file is opened here.
 #![tactic(auto)]
 
@@ -16,6 +18,7 @@ mod quoted;
 
 pub use fault::{FindFault, FormFault, fault_line};
 pub use form::{
-    definition_form, history_form, inputs_form, listing_form, schedule_form, value_form,
+    definition_form, definition_in, history_form, inputs_form, inputs_in, listing_form,
+    schedule_form, value_form,
 };
 pub use quoted::{with_number, with_pair, with_text};
