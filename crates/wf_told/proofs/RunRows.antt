@@ -1,5 +1,5 @@
 -- Worked rows of runs: of a definition without actions.
-use Rattle.std.proofs.Common.{◌≡◌, ℕ, Bool, true, false, cond, List, [], ◌∷◌, length, ap, refl, ◌∙◌}
+use Rattle.std.proofs.Common.{◌≡◌, ℕ, Bool, true, false, cond, List, [], ◌∷◌, None, Ok, length, ap, codes, lit≤, refl, sym, ◌∙◌}
 use Rattle.std.proofs.lemmas.Option.{none-some}
 use Rattle.wf_layers.specs.Definition.{Graph, Kind, Need, done}
 use Rattle.wf_layers.specs.Machine.{Event, Start, Try, End, Skip, Open, Begin, Test, Close, fresh, In, IsOpen, top, scope, chosen}
@@ -8,9 +8,15 @@ use Rattle.wf_layers.specs.Source.{Source}
 use Rattle.wf_scheduled.specs.Turns.{IsRun}
 use Rattle.wf_def.specs.ActionTree.{no_actions}
 use Rattle.wf_def.specs.DefTree.{DefTree}
+use Rattle.wf_answers.specs.Inputs.{InputsTree}
+use Rattle.wf_environment.specs.Environment as begun_by
 use Rattle.wf_environment.specs.Environment.{Environment}
+use Rattle.wf_record.specs.declared.status.RunStatus.{RunStatus}
+use Rattle.wf_trigger.specs.Starts.{StartTree}
+use Rattle.wf_val.specs.ValueTree.{members, null, object}
 use Rattle.wf_meant.specs.Record.{meaning}
 use Rattle.wf_meant.specs.Source.{source}
+use Rattle.wf_told.specs.Measured.{IsMeasured, StartsAlone}
 use Rattle.wf_told.specs.Under.{IsRunUnder, lines_of, Told}
 
 -- ---- where a definition has no action, nothing may happen
@@ -77,3 +83,34 @@ module _ (e : Environment) (schedule : List ℕ) where
 
   no_other_record : (traced : Bool) (t : Told) → IsRunUnder nothing e schedule traced t → t.left ≡ meaning nothing e
   no_other_record traced t r = r.left_is
+
+-- ---- its figures
+
+abbrev inputs : InputsTree
+inputs = record { run = codes "r1"; seed = codes "s"; moment = 0; trigger = None; outputs = null; parameters = []; answers = [] }
+
+abbrev begins : StartTree
+begins = record {
+  run = codes "r1";
+  seed = codes "s";
+  trigger = object (members ((codes "name", null) ∷ (codes "outputs", null) ∷ []));
+  parameters = [];
+}
+
+-- no row, no event and no leaf, under any schedule; and it succeeds
+its_figures : (schedule : List ℕ) → IsMeasured nothing inputs schedule
+    (record { rows = 0; status = RunStatus.Succeeded; steps = 0; peak = 0 })
+unfolding meaning
+its_figures schedule = record {
+  start = begins;
+  run = record { events = []; left = meaning nothing (begun_by.fresh begins inputs); steps = 0; peak = 0 };
+  starts = refl;
+  told = its_run (begun_by.fresh begins inputs) schedule false;
+  small = lit≤ tt;
+  figures = record { rows_are = refl; status_is = refl; steps_are = refl; peak_is = refl };
+}
+
+-- one run starts
+starts_one : StartsAlone nothing inputs
+starts_one starts is =
+    let one : Ok (begins ∷ []) ≡ Ok starts = is in let same : begins ∷ [] ≡ starts = cc in ap length (sym same)

@@ -4,6 +4,7 @@ pub mod Summary
 pub mod Text
 pub mod Records
 pub mod Runs
+pub mod Measured
 pub mod Written
 pub mod Resubmissions
 pub mod Seen

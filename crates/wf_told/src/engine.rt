@@ -3,6 +3,7 @@ ghost use Rattle.std.specs.Prelude.{◌≡◌, ◌≢◌, Err, IfErr, IfOk};
 ghost use Rattle.wf_answers.specs.InputsSeen.{inputs_tree};
 ghost use Rattle.wf_reading.specs.ReadSeen.{def_tree};
 ghost use Rattle.wf_record.specs.Seen.{record_tree};
+ghost use Rattle.wf_told.specs.Measured.{IsMeasured, StartsAlone};
 ghost use Rattle.wf_told.specs.Records.{runs_records};
 ghost use Rattle.wf_told.specs.Resubmissions.{IsNotResubmitted, TellsResubmission};
 ghost use Rattle.wf_told.specs.Runs.{TellsRuns};
@@ -10,6 +11,7 @@ ghost use Rattle.wf_told.specs.declared.fault.ResubmissionFault.{ResubmissionFau
 ghost use Rattle.wf_told.specs.declared.fault.RunsFault.{RunsFault};
 
 use crate::fault::{ResubmissionFault, RunsFault};
+use crate::measure::Measure;
 use std::alloc::Global;
 use wf_answers::Inputs;
 use wf_record::Record;
@@ -47,4 +49,17 @@ pub trait Engine {
             (inputs_tree inputs.now) schedule.now text.items) }
         ensures fault { IfErr result (λ f. f ≢ ResubmissionFault.Memory
             → IsNotResubmitted (def_tree checked.now.def) (record_tree log.now) names.now (inputs_tree inputs.now) f) };
+
+    /// How the one run went that the inputs start, under the schedule from its first number on; or why there is none.
+    fn measure(
+        &self,
+        alloc: Global,
+        checked: &Checked,
+        inputs: &Inputs,
+        schedule: &Schedule,
+    ) -> Result<Measure, RunsFault>
+        requires { StartsAlone (def_tree checked.now.def) (inputs_tree inputs.now) }
+        ensures measured { IfOk result (λ m. IsMeasured (def_tree checked.now.def) (inputs_tree inputs.now) schedule.now m) }
+        ensures fault { IfErr result (λ f. f ≢ RunsFault.Memory
+            → runs_records (def_tree checked.now.def) (inputs_tree inputs.now) ≡ Err f) };
 }

@@ -13,12 +13,14 @@ ghost use Rattle.wf_rules.specs.Broken.{broken_of};
 ghost use Rattle.wf_told.specs.Under.{IsRunUnder, Told};
 ghost use Rattle.wf_trigger.specs.Starts.{StartTree};
 ghost use Rattle.wf_trigger.specs.declared.fault.TriggerFault.{TriggerFault};
+ghost use Rattle.wf_told.specs.Measured.{IsMeasured};
 ghost use Rattle.wf_told.specs.Records.{records_of, runs_records, starts_of};
 ghost use Rattle.wf_told.specs.Resubmissions.{IsNotResubmitted, TellsResubmission};
 ghost use Rattle.wf_told.specs.Runs.{TellsRuns};
 ghost use Rattle.wf_told.specs.Text.{runs_in_a_row, total_cost};
 ghost use Rattle.wf_told.specs.declared.fault.ResubmissionFault.{ResubmissionFault};
 ghost use Rattle.wf_told.specs.declared.fault.RunsFault.{RunsFault};
+ghost use Rattle.wf_told.specs.declared.measure.Measure.{Measure};
 
 /// Of an accepted definition one thing is told in an environment under a schedule: how many steps a run takes, its peak, its lines and its
 /// record are fixed.
@@ -27,6 +29,28 @@ pub fn runs_are_told_alike()
         → IsRunUnder d e schedule traced t → IsRunUnder d e schedule traced u → t ≡ u }
 {
     wf_instance::a_definition_is_an_instance();
+}
+
+/// A run of an accepted definition in an environment has the same record under every schedule, and as many events.
+pub fn runs_have_as_many_steps()
+    ensures { (d : DefTree) → IsRead d → broken_of d ≡ None → (e : Environment) (one other : List ℕ) (traced again : Bool) (t u : Told)
+        → IsRunUnder d e one traced t → IsRunUnder d e other again u → (t.steps ≡ u.steps) × (t.left ≡ u.left) }
+{
+    wf_instance::a_definition_is_an_instance();
+}
+
+/// The figures of the one run of an accepted definition that starts with inputs are one under a schedule. Under another one no figure is
+/// different but for the peak. Where they are told, no fault is.
+pub fn one_measure_is_told()
+    ensures one { (d : DefTree) → IsRead d → broken_of d ≡ None → (i : InputsTree) (schedule : List ℕ) (m n : Measure)
+        → IsMeasured d i schedule m → IsMeasured d i schedule n → m ≡ n }
+    ensures others { (d : DefTree) → IsRead d → broken_of d ≡ None → (i : InputsTree) (schedule other : List ℕ) (m n : Measure)
+        → IsMeasured d i schedule m → IsMeasured d i other n → (m.rows ≡ n.rows) × (m.status ≡ n.status) × (m.steps ≡ n.steps) }
+    ensures none { (d : DefTree) (i : InputsTree) (schedule : List ℕ) (m : Measure) (f : RunsFault) → IsMeasured d i schedule m
+        → runs_records d i ≡ Err f → ⊥ }
+{
+    runs_are_told_alike();
+    runs_have_as_many_steps();
 }
 
 /// One text is told of the runs of an accepted definition that start with inputs, under a schedule, traced or not.
