@@ -23,7 +23,7 @@ USAGE = (
     " | list HISTORY | drill N | session DEF INPUTS | fires DEF TRIGGER FROM N\n"
 )
 # How many words each command has; and what is read, with bytes that it can't be.
-COUNTS = {"check": (2,), "run": (3, 4), "trace": (4,), "list": (2,), "fires": (5,), "resubmit": (6, 7), "resubmit-set": range(7, 507)}
+COUNTS = {"check": (2,), "run": (3, 4), "trace": (4,), "list": (2,), "drill": (2,), "fires": (5,), "resubmit": (6, 7), "resubmit-set": range(7, 507)}
 ESCAPED = {"n": "\n", "r": "\r", "t": "\t", "\\": "\\"}
 STAGES = [(b"definition", b""), (b"inputs", b""), (b"schedule", b"\n")]
 AGAIN = [(b"definition", b""), (b"history", b"x"), (b"inputs", b""), (b"schedule", b"\n")]
@@ -82,6 +82,13 @@ def resubmitted(files, words, engine):
             return owed
 
 
+# `drill`: a number from 1 to 400. Which line it owes the engine of --model says.
+def drilled(size, engine):
+    if not re.fullmatch("[1-9][0-9]{0,2}", size) or int(size) > 400:
+        return 2, USAGE.encode()
+    return engine(["drill", size], {}) if engine else (None, b"")
+
+
 # A file is read once those before it are taken, which shows by what is refused where the next one is unfit.
 def said(files, words, engine):
     if len(words) not in COUNTS.get(words[0], ()):
@@ -92,6 +99,8 @@ def said(files, words, engine):
             return histories.said(files.read(words[1]))
         if command == "fires":
             return fired(files, *words[1:])
+        if command == "drill":
+            return drilled(words[1], engine)
         if command in ("resubmit", "resubmit-set"):
             return resubmitted(files, words, engine)
         for name, (next_stage, _) in zip(words[1:-1], STAGES[1:]):

@@ -25,7 +25,11 @@ abbrev on_end : ValueTree
 on_end = list (trees (text (codes "Succeeded") ∷ text (codes "Failed") ∷ []))
 
 abbrev http : ValueTree
-http = object_of ((codes "inputs", object_of ((codes "method", text (codes "GET")) ∷ (codes "uri", text (codes "https://contoso.com")) ∷ []))
+http = object_of ((
+  codes "inputs",
+  object_of ((codes "method", text (codes "GET")) ∷ (codes "uri", text (codes "https://contoso.com"))
+      ∷ []),
+)
     ∷ (codes "runAfter", object_of ((codes "Seed", on_success) ∷ [])) ∷ (codes "type", text (codes "Http")) ∷ [])
 
 abbrev foreach : ℕ → ValueTree
@@ -50,7 +54,8 @@ of_one : drill_definition 1 ≡ object_of ((
       ∷ (
         codes "J",
         object_of ((codes "inputs", text (codes "@length(outputs('C'))"))
-            ∷ (codes "runAfter", object_of ((codes "F", on_success) ∷ (codes "H000", on_end) ∷ [])) ∷ (codes "type", text (codes "Compose")) ∷ []),
+            ∷ (codes "runAfter", object_of ((codes "F", on_success) ∷ (codes "H000", on_end) ∷ []))
+            ∷ (codes "type", text (codes "Compose")) ∷ []),
       )
       ∷ (codes "Seed", compose 1) ∷ []),
 ) ∷ [])
@@ -74,7 +79,11 @@ of_three : actions 3 ≡ (codes "F", foreach 3) ∷ (codes "H000", http) ∷ (co
     ∷ (
       codes "J",
       object_of ((codes "inputs", text (codes "@length(outputs('C'))"))
-          ∷ (codes "runAfter", object_of ((codes "F", on_success) ∷ (codes "H000", on_end) ∷ (codes "H001", on_end) ∷ (codes "H002", on_end) ∷ []))
+          ∷ (
+            codes "runAfter",
+            object_of ((codes "F", on_success) ∷ (codes "H000", on_end) ∷ (codes "H001", on_end)
+                ∷ (codes "H002", on_end) ∷ []),
+          )
           ∷ (codes "type", text (codes "Compose")) ∷ []),
     )
     ∷ (codes "Seed", compose 3) ∷ []

@@ -14,8 +14,8 @@ use Rattle.wf_val.specs.NameOrder.{IsInNameOrder}
 use Rattle.wf_val.specs.ValueTree.{ValueTree, Member, members, number, pairs, text}
 use Rattle.wf_val.specs.WellFormed.{AllMembersWellFormed, IsWellFormed}
 use Rattle.wf_drill.specs.Calls.{call_name, each_call, object_of}
-use Rattle.wf_drill.specs.Drill.{actions, after_all, after_seed, call, drill_definition, join, loop_, range_text, request, seed, square, squares}
-use Rattle.wf_drill.specs.Drill.{succeeded, succeeded_or_failed}
+use Rattle.wf_drill.specs.Drill.{actions, after_all, after_seed, call, drill_definition, join, loop_, range_text, request, seed}
+use Rattle.wf_drill.specs.Drill.{square, squares, succeeded, succeeded_or_failed}
 use Rattle.wf_drill.proofs.NameLemmas.{above_calls, all-append, join_above, seed_above}
 
 -- ---- objects, by their members
@@ -46,7 +46,8 @@ range_sound : (n : ℕ) → n ≤ 400 → IsUtf8 (range_text n)
 unfolding lib.Utf8.encode
 range_sound n le =
     IsUtf8-append (codes "@range(0,") (decimal n ++ codes ")") (codes "@range(0,", (refl, refl))
-    (IsUtf8-append (decimal n) (codes ")") (IsUtf8-from_ascii (decimal n) (IsAscii-decimal n (omega (arith, le)))) (codes ")", (refl, refl)))
+    (IsUtf8-append (decimal n) (codes ")") (IsUtf8-from_ascii (decimal n) (IsAscii-decimal n (omega (arith, le))))
+    (codes ")", (refl, refl)))
 
 -- ---- members of calls
 
@@ -115,7 +116,8 @@ squares_well = of_members ((codes "C", square) ∷ []) (tt, tt) (((codes "C", (r
 loop_well : (n : ℕ) → n ≤ 400 → IsWellFormed (loop_ n)
 unfolding lib.Utf8.encode
 loop_well n le =
-    of_members ((codes "actions", squares) ∷ (codes "foreach", text (range_text n)) ∷ (codes "runAfter", after_seed) ∷ (codes "type", text (codes "Foreach")) ∷ [])
+    of_members ((codes "actions", squares) ∷ (codes "foreach", text (range_text n)) ∷ (codes "runAfter", after_seed)
+    ∷ (codes "type", text (codes "Foreach")) ∷ [])
     ((refl, (refl, (refl, tt))), ((refl, (refl, tt)), ((refl, tt), (tt, tt)))) (
       ((codes "actions", (refl, refl)), squares_well),
       (
@@ -133,7 +135,8 @@ after_all_well n le =
 join_well : (n : ℕ) → n ≤ 400 → IsWellFormed (join n)
 unfolding lib.Utf8.encode
 join_well n le =
-    of_members ((codes "inputs", text (codes "@length(outputs('C'))")) ∷ (codes "runAfter", after_all n) ∷ (codes "type", text (codes "Compose")) ∷ [])
+    of_members ((codes "inputs", text (codes "@length(outputs('C'))")) ∷ (codes "runAfter", after_all n)
+    ∷ (codes "type", text (codes "Compose")) ∷ [])
     ((refl, (refl, tt)), ((refl, tt), (tt, tt))) (
       ((codes "inputs", (refl, refl)), (codes "@length(outputs('C'))", (refl, refl))),
       (

@@ -8,10 +8,13 @@
 //! Of a resubmission it writes the new record's line and the summary line; or it says why the record can't be resubmitted (`wf_prepare`), or
 //! that the new record would cost too much.
 //!
+//! Of one run alone it tells how that went in figures, and writes nothing.
+//!
 //! Each run begins the schedule anew. Of a run only its text is kept, and no start is made before its turn, so a split of many items takes
 //! the memory of its text and its items. The text is handed out whole: where the runs cost too much there is none.
 #![tactic(auto)]
 
+mod measuring;
 mod printer;
 mod resubmission;
 mod runs;

@@ -1,11 +1,12 @@
 //! The engine that prints runs.
+use crate::measuring::measure;
 use crate::resubmission::resubmission_text;
 use crate::runs::runs_text;
 use std::alloc::Global;
 use wf_answers::Inputs;
 use wf_record::Record;
 use wf_rules::Checked;
-use wf_told::{Engine, ResubmissionFault, RunsFault};
+use wf_told::{Engine, Measure, ResubmissionFault, RunsFault};
 use wf_val::{Name, Schedule};
 
 /// Makes runs by the event machine, and prints them. Runs are made and written one after the other, and of each its text alone is kept. Once
@@ -35,5 +36,15 @@ impl Engine for Printer {
         schedule: &Schedule,
     ) -> Result<Vec<u8>, ResubmissionFault> {
         resubmission_text(alloc, checked, log, names, inputs, schedule)
+    }
+
+    fn measure(
+        &self,
+        alloc: Global,
+        checked: &Checked,
+        inputs: &Inputs,
+        schedule: &Schedule,
+    ) -> Result<Measure, RunsFault> {
+        measure(alloc, checked, inputs, schedule)
     }
 }

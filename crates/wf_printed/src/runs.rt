@@ -136,8 +136,8 @@ fn all_written(
     Ok(written)
 }
 
-// The run of a start, where the runs before it cost `spent`.
-fn ended(
+/// The run of a start, where the runs before it cost `spent`.
+pub(crate) fn ended(
     alloc: Global,
     runnable: &Runnable,
     inputs: &Inputs,

@@ -25,7 +25,7 @@ use Rattle.wf_top.specs.Words.{AskedTree, asked_of, resubmits}
 use Rattle.wf_top.specs.declared.said.Verdict.{Verdict}
 use Rattle.wf_top.specs.declared.said.Verdict.TheVariants.{History, Inputs}
 use Rattle.wf_top.specs.declared.words.Command.{Command}
-use Rattle.wf_top.specs.declared.words.Command.TheVariants.{Check, Run, Trace, Resubmit, ResubmitSet, Fires}
+use Rattle.wf_top.specs.declared.words.Command.TheVariants.{Check, Run, Trace, Resubmit, ResubmitSet, Drill, Fires}
 use Rattle.wf_top.proofs.CommandOutcomes.{IsTold, MayBeSaid, defined_on, held_on, say_by}
 
 -- nothing stands against what may be resubmitted and doesn't cost too much
@@ -44,6 +44,7 @@ module _ (bytes_of : List ℕ → Option (List ℕ)) (words : List (List ℕ)) (
   again_on Run d anew holds saying = absurd cc
   again_on Trace d anew holds saying = absurd cc
   again_on (Fires from count) d anew holds saying = absurd cc
+  again_on (Drill n) d anew holds saying = absurd cc
   again_on Command.List d anew holds saying = absurd cc
   again_on Resubmit d anew holds saying = defined_on bytes_of words verdict text Resubmit d holds saying
   again_on ResubmitSet d anew holds saying = defined_on bytes_of words verdict text ResubmitSet d holds saying

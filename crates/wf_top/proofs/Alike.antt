@@ -1,5 +1,5 @@
 -- What words say over files that tell is one thing, where the definition that they hold was read.
-use Rattle.std.proofs.Common.{◌≡◌, ℕ, List, [], Bool, Option, None, Some, Result, Ok, Err, inl, inr, refl, ap, subst, sym, ◌∙◌}
+use Rattle.std.proofs.Common.{◌≡◌, ◌≤◌, ℕ, List, [], Bool, Option, None, Some, Result, Ok, Err, inl, inr, refl, ap, subst, sym, ◌∙◌}
 use Rattle.std.specs.Prelude.{codes}
 use Rattle.std.specs.Option.{option_map}
 use Rattle.wf_answers.specs.Inputs.{InputsTree}
@@ -22,13 +22,22 @@ use Rattle.wf_rules.specs.Broken.{broken_of}
 use Rattle.wf_val.specs.ValueTree.{ValueTree}
 use Rattle.wf_top.specs.Commands.{accepted, defined, judged_definition, judged_history, judged_inputs, judged_schedule, judged_value, plan}
 use Rattle.wf_top.specs.Commands.{recurs, scheduled, triggered}
+use Rattle.wf_drill.specs.Drill.{drill_definition, drill_inputs}
+use Rattle.wf_told.specs.Measured.{IsMeasured}
+use Rattle.wf_told.specs.Records.{runs_records}
+use Rattle.wf_told.specs.declared.measure.Measure.{Measure}
+use Rattle.wf_val.specs.WellFormed.{IsWellFormed}
+use Rattle.wf_top.proofs.DrillLemmas.{was_read}
+use Rattle.wf_top.proofs.LengthLemmas.{drill_size}
+use Rattle.wf_top.specs.Drill.{drilled_by, drilled_with}
+use Rattle.wf_top.specs.Drilling.{MayTellDrill, TellsDrill, drill_line}
 use Rattle.wf_top.specs.Fires.{trigger_in}
-use Rattle.wf_files.specs.Form.{broken_in, checked, definition_form, definition_of, formed, found, inputs_form, listing_form, schedule_form}
-use Rattle.wf_files.specs.Form.{history_form, value_form}
+use Rattle.wf_files.specs.Form.{broken_in, checked, definition_form, definition_of, formed, found, inputs_form, inputs_of, listing_form}
+use Rattle.wf_files.specs.Form.{history_form, schedule_form, value_form}
 use Rattle.wf_files.specs.declared.fault.FindFault.{FindFault}
 use Rattle.wf_record.specs.Record.{RecordTree}
 use Rattle.wf_top.specs.Limits.{definition_bytes}
-use Rattle.wf_top.specs.Plan.{Plan, Says, Reads, Makes, Remakes, MaySay, within}
+use Rattle.wf_top.specs.Plan.{Plan, Says, Reads, Makes, Remakes, Drills, MaySay, within}
 use Rattle.wf_top.specs.Ran.{HoldsDefinition}
 use Rattle.wf_top.specs.Resubmit.{judged, remade, remade_under, remade_with, resubmit}
 use Rattle.wf_top.specs.Served.{PlanSays, Say, number}
@@ -39,7 +48,7 @@ use Rattle.wf_files.specs.declared.fault.FormFault.{FormFault}
 use Rattle.wf_top.specs.declared.said.Verdict.{Verdict}
 use Rattle.wf_top.specs.declared.said.Verdict.TheVariants.{History, Inputs}
 use Rattle.wf_top.specs.declared.words.Command.{Command}
-use Rattle.wf_top.specs.declared.words.Command.TheVariants.{Check, Run, Trace, Resubmit, ResubmitSet, Fires}
+use Rattle.wf_top.specs.declared.words.Command.TheVariants.{Check, Run, Trace, Resubmit, ResubmitSet, Drill, Fires}
 
 -- ---- an accepted definition breaks no rule
 
@@ -135,19 +144,70 @@ told_again_alike one d was unbroken r names i schedule v w text other first seco
   ]
 ]
 
+-- ---- what is said of a drill
+
+abbrev pub OneMeasureIsTold : Type 0
+OneMeasureIsTold =
+    (d : DefTree) → IsRead d → broken_of d ≡ None → (i : InputsTree) (schedule : List ℕ) (m n : Measure) → IsMeasured d i schedule m
+    → IsMeasured d i schedule n → m ≡ n
+
+abbrev pub NoFaultBeside : Type 0
+NoFaultBeside =
+    (d : DefTree) (i : InputsTree) (schedule : List ℕ) (m : Measure) (f : RunsFault) → IsMeasured d i schedule m
+    → runs_records d i ≡ Err f → ⊥
+
+-- what is known of figures
+pub record FiguresAreOne : Type 0 where
+  pub one : OneMeasureIsTold
+  pub beside : NoFaultBeside
+
+one_line : FiguresAreOne → (n : ℕ) (d : DefTree) → IsRead d → broken_of d ≡ None → (i : InputsTree) (text other : List ℕ)
+    → TellsDrill n d i text → TellsDrill n d i other → text ≡ other
+one_line figures n d was unbroken i text other first second =
+    let plain : first.plain ≡ second.plain = figures.one d was unbroken i _ _ _ first.plain_is second.plain_is in
+    let middle : first.second ≡ second.second = figures.one d was unbroken i _ _ _ first.second_is second.second_is in
+    let last : first.third ≡ second.third = figures.one d was unbroken i _ _ _ first.third_is second.third_is in
+    first.text_is
+    ∙ ap (λ m. drill_line n m first.second.peak first.third.peak) plain
+    ∙ ap (λ m. drill_line n second.plain m.peak first.third.peak) middle
+    ∙ ap (λ m. drill_line n second.plain second.second.peak m.peak) last
+    ∙ sym second.text_is
+
+pub drill_alike : FiguresAreOne → (n : ℕ) (d : DefTree) → IsRead d → broken_of d ≡ None → (i : InputsTree) (v w : Verdict)
+    (text other : List ℕ) → MayTellDrill n d i v text → MayTellDrill n d i w other → (v ≡ w) × (text ≡ other)
+drill_alike figures n d was unbroken i v w text other first second = elim first [
+  | inl told ↦ elim second [
+    | inl again ↦ (told.0 ∙ sym again.0, one_line figures n d was unbroken i text other told.1 again.1)
+    | inr none ↦ absurd (figures.beside d i _ told.1.plain none.0 told.1.plain_is none.1)
+  ]
+  | inr none ↦ elim second [
+    | inl told ↦ absurd (figures.beside d i _ told.1.plain none.0 told.1.plain_is none.1)
+    | inr again ↦
+        let e : Err none.0 ≡ Err again.0 = sym none.1 ∙ again.1 in
+        let same : none.0 ≡ again.0 = cc in
+        fault_alike again.0 v w text other (subst (λ fault. SaysFault fault v text) same none.2) again.2
+  ]
+]
+
+-- the definition of each drill is in form
+abbrev pub DrillsAreInForm : Type 0
+DrillsAreInForm = (n : ℕ) → n ≤ 400 → IsWellFormed (drill_definition n)
+
 -- what a read gave, where the files tell
 given : (limit : ℕ) (held : Option (List ℕ)) (file : Option (List ℕ)) → option_map (within limit) held ≡ Some file →
     (bytes : List ℕ) × (held ≡ Some bytes)
 given limit None file is = absurd cc
 given limit (Some bytes) file is = (bytes, refl)
 
-module _ (one : OneTextIsTold) (again : AreOneThing) (bytes_of : List ℕ → Option (List ℕ)) (words : List (List ℕ)) where
+module _ (one : OneTextIsTold) (again : AreOneThing) (figures : FiguresAreOne) (forms : DrillsAreInForm)
+    (bytes_of : List ℕ → Option (List ℕ)) (words : List (List ℕ)) where
   -- each definition whose runs are made was read, and breaks no rule
   abbrev AreOfRead : Plan → Type 0
   AreOfRead (Says verdict text) = Unit {0}
   AreOfRead (Reads name limit next) = (bytes : List ℕ) → bytes_of name ≡ Some bytes → AreOfRead (next (within limit bytes))
   AreOfRead (Makes traced d inputs schedule) = IsRead d × (broken_of d ≡ None)
   AreOfRead (Remakes d r names inputs schedule) = IsRead d × (broken_of d ≡ None)
+  AreOfRead (Drills n d inputs) = IsRead d × (broken_of d ≡ None)
 
   plan_alike : (plan : Plan) → AreOfRead plan → (v w : Verdict) (text other : List ℕ) → MaySay (Some bytes_of) plan v text →
       MaySay (Some bytes_of) plan w other → (v ≡ w) × (text ≡ other)
@@ -161,6 +221,8 @@ module _ (one : OneTextIsTold) (again : AreOneThing) (bytes_of : List ℕ → Op
       told_alike one d of_read.0 of_read.1 traced inputs schedule v w text other first second
   plan_alike (Remakes d r names inputs schedule) of_read v w text other first second =
       told_again_alike again d of_read.0 of_read.1 r names inputs schedule v w text other first second
+  plan_alike (Drills n d inputs) of_read v w text other first second =
+      drill_alike figures n d of_read.0 of_read.1 inputs v w text other first second
 
   module _ (traced : Bool) (d : DefTree) (was : IsRead d) (unbroken : broken_of d ≡ None) where
     schedule_read : (inputs : InputsTree) (form : Result (List ℕ) FormFault) → AreOfRead (judged_schedule traced d inputs form)
@@ -212,6 +274,7 @@ module _ (one : OneTextIsTold) (again : AreOneThing) (bytes_of : List ℕ → Op
   accepted_read ResubmitSet d was unbroken = resubmit_read (set_asked words) d was unbroken
   accepted_read Command.List d was unbroken = tt
   accepted_read (Fires from count) d was unbroken = tt
+  accepted_read (Drill n) d was unbroken = tt
 
   recurs_read : (from count : ℕ) (found : Result Recurrence RecurrenceFault) → AreOfRead (recurs from count found)
   recurs_read from count (Ok r) = tt
@@ -228,6 +291,18 @@ module _ (one : OneTextIsTold) (again : AreOneThing) (bytes_of : List ℕ → Op
   history_read : (form : Result (List ListedTree) FormFault) → AreOfRead (judged_history form)
   history_read (Ok listing) = tt
   history_read (Err fault) = tt
+
+  drill_inputs_read : (n : ℕ) (d : DefTree) → IsRead d → broken_of d ≡ None → (form : Result InputsTree FormFault) →
+      AreOfRead (drilled_with n d form)
+  drill_inputs_read n d was unbroken (Ok inputs) = (was, unbroken)
+  drill_inputs_read n d was unbroken (Err fault) = tt
+
+  drill_read : (n : ℕ) → n ≤ 400 → (form : Result DefTree FormFault) → definition_of (drill_definition n) ≡ form →
+      AreOfRead (drilled_by n form)
+  drill_read n le (Ok d) is =
+      let known = was_read (drill_definition n) (forms n le) d is in
+      drill_inputs_read n d known.0 known.1 (inputs_of (drill_inputs n))
+  drill_read n le (Err fault) is = tt
 
   module _ (was : (command : Command) (d : DefTree) → HoldsDefinition bytes_of words command d → IsRead d) where
     definition_read : (command : Command) → command_of words ≡ Some command → (bytes : List ℕ) → bytes_of (word words 1) ≡ Some bytes →
@@ -251,6 +326,7 @@ module _ (one : OneTextIsTold) (again : AreOneThing) (bytes_of : List ℕ → Op
     plan_read Resubmit names = defined_read Resubmit names
     plan_read ResubmitSet names = defined_read ResubmitSet names
     plan_read (Fires from count) names = λ bytes there. value_read (word words 2) from count (value_form (within _ bytes))
+    plan_read (Drill n) names = drill_read n (drill_size words n names) (definition_of (drill_definition n)) refl
     plan_read Command.List names = λ bytes there. history_read (listing_form (within _ bytes))
 
     said_alike : (s u : ℕ) (text other : List ℕ) (command : Option Command) → command_of words ≡ command →

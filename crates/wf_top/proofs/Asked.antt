@@ -8,7 +8,7 @@ use Rattle.std.proofs.lemmas.Grind.{common_steps}
 use Rattle.std.proofs.lemmas.List.Elements.{Contains-get_or}
 use Rattle.std.proofs.lemmas.Option.{get_or_from_slice_get, slice_get_within}
 use Rattle.wf_outside.specs.Outside.{Held}
-use Rattle.wf_top.specs.Plan.{Plan, Says, Reads, Makes, Remakes, ComesTo, AsksAmong}
+use Rattle.wf_top.specs.Plan.{Plan, Says, Reads, Makes, Remakes, Drills, ComesTo, AsksAmong}
 use Rattle.wf_answers.specs.Inputs.{InputsTree}
 use Rattle.wf_def.specs.DefTree.{DefTree}
 use Rattle.wf_history.specs.History.{ListedTree}
@@ -16,20 +16,23 @@ use Rattle.wf_recur.specs.Reading.{recurrence_of}
 use Rattle.wf_recur.specs.declared.fault.RecurrenceFault.{RecurrenceFault}
 use Rattle.wf_recur.specs.declared.recurrence.Recurrence.{Recurrence}
 use Rattle.wf_val.specs.ValueTree.{ValueTree}
+use Rattle.wf_drill.specs.Drill.{drill_definition, drill_inputs}
+use Rattle.wf_top.specs.Drill.{drilled, drilled_by, drilled_with}
 use Rattle.wf_top.specs.Fires.{trigger_in}
-use Rattle.wf_files.specs.Form.{definition_form, history_form, inputs_form, listing_form, schedule_form, value_form}
+use Rattle.wf_files.specs.Form.{definition_form, definition_of, history_form, inputs_form, inputs_of, listing_form, schedule_form}
+use Rattle.wf_files.specs.Form.{value_form}
 use Rattle.wf_files.specs.declared.fault.FindFault.{FindFault}
 use Rattle.wf_record.specs.Record.{RecordTree}
 use Rattle.wf_top.specs.Commands.{plan, plan_of, accepted, defined, judged_definition, judged_history, judged_inputs, judged_schedule}
 use Rattle.wf_top.specs.Commands.{judged_value, recurs, run, scheduled, triggered}
 use Rattle.wf_top.specs.Resubmit.{judged, remade, remade_under, remade_with, resubmit}
 use Rattle.wf_top.specs.Served.{FailedAt}
-use Rattle.wf_top.proofs.LengthLemmas.{fires_length, resubmit_length, set_length}
+use Rattle.wf_top.proofs.LengthLemmas.{drill_length, fires_length, resubmit_length, set_length, trace_length}
 use Rattle.wf_top.specs.Words.{AskedTree, command_of, is_traced, makes_runs, one_asked, schedule_word, set_asked, word}
 use Rattle.wf_top.specs.declared.said.Verdict.{Verdict}
 use Rattle.wf_top.specs.declared.said.Verdict.TheVariants.{History, Inputs}
 use Rattle.wf_top.specs.declared.words.Command.{Command}
-use Rattle.wf_top.specs.declared.words.Command.TheVariants.{Check, Run, Trace, Resubmit, ResubmitSet, Fires}
+use Rattle.wf_top.specs.declared.words.Command.TheVariants.{Check, Run, Trace, Resubmit, ResubmitSet, Drill, Fires}
 use Rattle.wf_files.specs.declared.fault.FormFault.{FormFault}
 
 asked : (held : Held) (words : List (List ℕ)) (plan : Plan) (name : List ℕ) → AsksAmong words plan → ComesTo held plan name →
@@ -42,6 +45,7 @@ asked held words (Reads first limit next) name among comes =
     ]
 asked held words (Makes traced d inputs schedule) name among comes = absurd comes
 asked held words (Remakes d r names inputs schedule) name among comes = absurd comes
+asked held words (Drills n d inputs) name among comes = absurd comes
 
 schedule_asks : (words : List (List ℕ)) (traced : Bool) (d : DefTree) (inputs : InputsTree) (form : Result (List ℕ) FormFault) →
     AsksAmong words (judged_schedule traced d inputs form)
@@ -75,9 +79,6 @@ check_length words is = grind (arith, common_steps)
 run_length : (words : List (List ℕ)) → command_of words ≡ Some Run → 2 < length words
 run_length words is = grind (arith, common_steps)
 
-trace_length : (words : List (List ℕ)) → command_of words ≡ Some Trace → 3 < length words
-trace_length words is = grind (arith, common_steps)
-
 list_length : (words : List (List ℕ)) → command_of words ≡ Some Command.List → 1 < length words
 list_length words is = grind (arith, common_steps)
 
@@ -91,6 +92,7 @@ second_length Trace words makes is = let more : 3 < length words = trace_length 
 second_length Command.List words makes is = absurd (cc)
 second_length Resubmit words makes is = absurd (cc)
 second_length ResubmitSet words makes is = absurd (cc)
+second_length (Drill n) words makes is = absurd (cc)
 
 run_asks : (words : List (List ℕ)) (traced : Bool) (d : DefTree) → 2 < length words →
     AsksAmong words (run traced (word words 2) (schedule_word words) d)
@@ -163,6 +165,7 @@ accepted_asks Trace words d is = run_asks words (is_traced Trace) d (second_leng
 accepted_asks Command.List words d is = tt
 accepted_asks Resubmit words d is = resubmit_asks words (one_asked words) d (one_among words is)
 accepted_asks ResubmitSet words d is = resubmit_asks words (set_asked words) d (set_among words is)
+accepted_asks (Drill n) words d is = tt
 
 definition_asks : (command : Command) (words : List (List ℕ)) (form : Result DefTree FormFault) → command_of words ≡ Some command →
     AsksAmong words (judged_definition command words form)
@@ -178,6 +181,7 @@ some_length Trace words is = let more : 2 < length words = second_length Trace w
 some_length Command.List words is = list_length words is
 some_length Resubmit words is = let more : 5 < length words = resubmit_length words is in omega arith
 some_length ResubmitSet words is = let more : 6 < length words = set_length words is in omega arith
+some_length (Drill n) words is = drill_length words n is
 
 -- the commands that read a definition, and what they then say
 abbrev pub IsDefining : Command → Type 0
@@ -206,6 +210,11 @@ plan_defined ResubmitSet words is = refl
 plan_defined Command.List words is = absurd (other Command.List (λ x. cc) (λ x. cc) (λ x. cc) (λ x. cc) (λ x. cc) is)
 plan_defined (Fires from count) words is =
     absurd (other (Fires from count) (λ x. cc) (λ x. cc) (λ x. cc) (λ x. cc) (λ x. cc) is)
+plan_defined (Drill n) words is = absurd (other (Drill n) (λ x. cc) (λ x. cc) (λ x. cc) (λ x. cc) (λ x. cc) is)
+
+pub plan_drilled : (n : ℕ) (words : List (List ℕ)) → plan (Drill n) words ≡ drilled n
+unfolding plan
+plan_drilled n words = refl
 
 history_asks : (words : List (List ℕ)) (form : Result (List ListedTree) FormFault) → AsksAmong words (judged_history form)
 history_asks words (Ok listing) = tt
@@ -232,6 +241,16 @@ value_asks : (words : List (List ℕ)) (name : List ℕ) (from count : ℕ) (for
 value_asks words name from count (Ok file) = trigger_asks words from count (trigger_in name file)
 value_asks words name from count (Err fault) = tt
 
+-- `drill` asks for none
+drill_inputs_ask : (words : List (List ℕ)) (n : ℕ) (d : DefTree) (form : Result InputsTree FormFault) →
+    AsksAmong words (drilled_with n d form)
+drill_inputs_ask words n d (Ok inputs) = tt
+drill_inputs_ask words n d (Err fault) = tt
+
+drill_asks : (words : List (List ℕ)) (n : ℕ) (form : Result DefTree FormFault) → AsksAmong words (drilled_by n form)
+drill_asks words n (Ok d) = drill_inputs_ask words n d (inputs_of (drill_inputs n))
+drill_asks words n (Err fault) = tt
+
 plan_asks : (command : Command) (words : List (List ℕ)) → command_of words ≡ Some command → AsksAmong words (plan command words)
 unfolding plan
 plan_asks Check words is = defined_asks Check words is
@@ -243,6 +262,7 @@ plan_asks (Fires from count) words is = (
   Contains-get_or words 1 [] (some_length (Fires from count) words is),
   λ file. value_asks words (word words 2) from count (value_form file),
 )
+plan_asks (Drill n) words is = drill_asks words n (definition_of (drill_definition n))
 plan_asks Command.List words is = (
   Contains-get_or words 1 [] (list_length words is),
   λ file. history_asks words (listing_form file),

@@ -19,6 +19,7 @@ use Rattle.wf_recur.specs.Reading.{recurrence_of}
 use Rattle.wf_recur.specs.declared.fault.RecurrenceFault.{RecurrenceFault}
 use Rattle.wf_recur.specs.declared.recurrence.Recurrence.{Recurrence}
 use Rattle.wf_val.specs.ValueTree.{ValueTree}
+use Rattle.wf_top.specs.Drilled.{Drilled, RefusedDrill, RefusedDrillCost, RefusedDrillInputs, RefusedDrillTrigger}
 use Rattle.wf_top.specs.Fires.{moments_text, recurrence_line, recurrence_words, trigger_in}
 use Rattle.wf_files.specs.Form.{Form, definition_form, definition_of, found, inputs_form, kept, listing_form, schedule_form, value_form}
 use Rattle.wf_told.specs.Records.{runs_records}
@@ -35,6 +36,8 @@ use Rattle.wf_top.specs.Resubmitted.{RefusedAnswers, RefusedLog, RefusedNames, R
 use Rattle.wf_top.specs.Resubmitted.{RefusedTimes, Resubmitted}
 use Rattle.wf_top.proofs.AgainOutcomes.{AgainOutcome, after_resubmit, again_done, again_eight, again_names, again_not_one, again_seven}
 use Rattle.wf_top.proofs.AgainOutcomes.{again_six}
+use Rattle.wf_top.proofs.DrillOutcomes.{DrillOutcome, after_drill, drill_done, drill_eight, drill_names, drill_not_seven, drill_one}
+use Rattle.wf_top.proofs.DrillOutcomes.{drill_six, is_drill}
 use Rattle.wf_top.proofs.Outcomes.{misused_at}
 use Rattle.wf_top.specs.Served.{Comes, Outcome, IsSaid, Misused, PlanSays, Say, Serves, Speaks, Spent, Unread, Writes, number, status_of}
 use Rattle.wf_top.specs.Served.{text_of}
@@ -45,7 +48,7 @@ use Rattle.wf_files.specs.declared.fault.FormFault.{FormFault}
 use Rattle.wf_told.specs.declared.fault.RunsFault.{RunsFault}
 use Rattle.wf_top.specs.declared.said.Verdict.{Verdict}
 use Rattle.wf_top.specs.declared.words.Command.{Command}
-use Rattle.wf_top.specs.declared.words.Command.TheVariants.{Check, Run, Trace, Resubmit, ResubmitSet, Fires}
+use Rattle.wf_top.specs.declared.words.Command.TheVariants.{Check, Run, Trace, Resubmit, ResubmitSet, Drill, Fires}
 use Rattle.wf_trigger.specs.declared.fault.TriggerFault.{TriggerFault}
 
 -- What a command may say: what was found in its files, the status and the text.
@@ -83,6 +86,7 @@ data CommandOutcome (held : Held) (words : List (List ℕ)) (status : ℕ) (text
       trigger_in (word words 2) file ≡ Some trigger → recurrence_of trigger ≡ Err fault → status ≡ 6 →
       text ≡ recurrence_line (recurrence_words fault) → CommandOutcome held words status text
   again : AgainOutcome held words status text → CommandOutcome held words status text
+  drilling : DrillOutcome words status text → CommandOutcome held words status text
 
 -- what is no accepted definition has no value that is kept
 kept_fault : (value : ValueTree) (d : Result DefTree FormFault) (fault : FormFault) → kept value d ≡ Err fault → d ≡ Err fault
@@ -145,6 +149,7 @@ module _ (held : Held) (words : List (List ℕ)) (verdict : Verdict) (text : Lis
   abbrev IsDefined : Command → Type 0
   IsDefined (Fires from count) = ⊥
   IsDefined Command.List = ⊥
+  IsDefined (Drill n) = ⊥
   IsDefined command = Unit {0}
 
   after_accepted : (command : Command) (d : DefTree) → IsDefined command → GivesDefinition held words command (Ok d) →
@@ -152,6 +157,7 @@ module _ (held : Held) (words : List (List ℕ)) (verdict : Verdict) (text : Lis
   after_accepted Check d ends given saying = checks d given (ap number saying.0) saying.1
   after_accepted (Fires from count) d ends given saying = absurd ends
   after_accepted Command.List d ends given saying = absurd ends
+  after_accepted (Drill n) d ends given saying = absurd ends
   after_accepted Run d ends given saying = after_inputs Run d refl given saying.0 saying.1 (inputs_form saying.0) refl saying.2
   after_accepted Resubmit d ends given saying = again (after_resubmit held words verdict text Resubmit refl d given saying)
   after_accepted ResubmitSet d ends given saying = again (after_resubmit held words verdict text ResubmitSet refl d given saying)
@@ -200,6 +206,7 @@ module _ (held : Held) (words : List (List ℕ)) (verdict : Verdict) (text : Lis
   command_comes Trace names saying = command_defined Trace tt names saying
   command_comes Resubmit names saying = command_defined Resubmit tt names saying
   command_comes ResubmitSet names saying = command_defined ResubmitSet tt names saying
+  command_comes (Drill n) names saying = drilling (after_drill held words verdict text n names saying)
   command_comes (Fires from count) names saying =
       after_value from count names saying.0 saying.1 (value_form saying.0) refl saying.2
   command_comes Command.List names saying = after_history names saying.0 saying.1 (listing_form saying.0) refl saying.2
@@ -269,6 +276,14 @@ module _ (held : Held) (words : List (List ℕ)) (old new : List (List ℕ)) (be
       let same : found.0 ≡ command = one_command found.0 command found.2 names in
       let is : resubmits command ≡ true = subst (λ c. resubmits c ≡ true) same found.1 in cc
 
+  -- and `drill` is no other
+  other_than_drill : (command : Command) → is_drill command ≡ false → command_of words ≡ Some command → (status : ℕ) (text : List ℕ)
+      → DrillOutcome words status text → ⊥
+  other_than_drill command no_drill names status text outcome =
+      let found = drill_names words before after text status outcome in
+      let same : Drill found.0 ≡ command = one_command (Drill found.0) command found.1 names in
+      let is : is_drill command ≡ true = subst (λ c. is_drill c ≡ true) same refl in cc
+
   checked_by : command_of words ≡ Some Check → result ≡ 0 → (text : List ℕ) → Appends before after text →
       CommandOutcome held words result text → Checked held words before after
   checked_by names zero text written (no_definition command fault given is said) = absurd (omega (arith, zero, is))
@@ -291,6 +306,7 @@ module _ (held : Held) (words : List (List ℕ)) (old new : List (List ℕ)) (be
   checked_by names zero text written (lists listing given is said) =
       absurd (let e : Check ≡ Command.List = one_command _ _ names given.0 in cc)
   checked_by names zero text written (again outcome) = absurd (other_than_again Check refl names result text outcome)
+  checked_by names zero text written (drilling outcome) = absurd (other_than_drill Check refl names result text outcome)
 
   pub serves_checked : HasServed → command_of words ≡ Some Check → result ≡ 0 → Checked held words before after
   serves_checked serves names zero =
@@ -304,6 +320,17 @@ module _ (held : Held) (words : List (List ℕ)) (old new : List (List ℕ)) (be
   runs_anew Resubmit makes = absurd (cc)
   runs_anew ResubmitSet makes = absurd (cc)
   runs_anew (Fires from count) makes = absurd (cc)
+  runs_anew (Drill n) makes = absurd (cc)
+
+  runs_no_drill : (command : Command) → makes_runs command ≡ true → is_drill command ≡ false
+  runs_no_drill Check makes = refl
+  runs_no_drill Run makes = refl
+  runs_no_drill Trace makes = refl
+  runs_no_drill Command.List makes = refl
+  runs_no_drill Resubmit makes = refl
+  runs_no_drill ResubmitSet makes = refl
+  runs_no_drill (Fires from count) makes = refl
+  runs_no_drill (Drill n) makes = absurd (cc)
 
   module _ (command : Command) (makes : makes_runs command ≡ true) where
     ran_by : command_of words ≡ Some command → result ≡ 0 → (text : List ℕ) → Appends before after text →
@@ -335,6 +362,8 @@ module _ (held : Held) (words : List (List ℕ)) (old new : List (List ℕ)) (be
     ran_by names zero text written (lists listing given is said) =
         absurd (let e : Command.List ≡ command = one_command _ _ given.0 names in cc)
     ran_by names zero text written (again outcome) = absurd (other_than_again command (runs_anew command makes) names result text outcome)
+    ran_by names zero text written (drilling outcome) =
+        absurd (other_than_drill command (runs_no_drill command makes) names result text outcome)
 
     pub serves_ran : HasServed → command_of words ≡ Some command → result ≡ 0 → Ran held words command before after
     serves_ran serves names zero = let s = spoke serves (zero_spoken zero) in ran_by names zero s.text s.written s.says
@@ -384,14 +413,17 @@ module _ (held : Held) (words : List (List ℕ)) (old new : List (List ℕ)) (be
     fired_by zero text written (lists listing given is said) =
         absurd (let e : Command.List ≡ Fires from count = one_command _ _ given.0 names in cc)
     fired_by zero text written (again outcome) = absurd (other_than_again (Fires from count) refl names result text outcome)
+    fired_by zero text written (drilling outcome) = absurd (other_than_drill (Fires from count) refl names result text outcome)
 
     pub serves_fired : HasServed → result ≡ 0 → Fired held words from count before after
     serves_fired serves zero = let s = spoke serves (zero_spoken zero) in fired_by zero s.text s.written s.says
 
-  definition_by : result ≡ 1 → (text : List ℕ) → Appends before after text → CommandOutcome held words result text →
-      RefusedDefinition held words before after
+  abbrev RefusedOne : Type 0
+  RefusedOne = RefusedDefinition held words before after ⊎ RefusedDrill words before after
+
+  definition_by : result ≡ 1 → (text : List ℕ) → Appends before after text → CommandOutcome held words result text → RefusedOne
   definition_by one text written (no_definition command fault given is said) =
-      record { command = command; fault = fault; definition_given = given; written = rw said at written }
+      inl (record { command = command; fault = fault; definition_given = given; written = rw said at written })
   definition_by one text written (checks d given is said) = absurd (omega (arith, one, is))
   definition_by one text written (no_inputs command d fault makes given handed is said) = absurd (omega (arith, one, is))
   definition_by one text written (no_schedule command d inputs fault given timed is said) = absurd (omega (arith, one, is))
@@ -404,15 +436,17 @@ module _ (held : Held) (words : List (List ℕ)) (old new : List (List ℕ)) (be
   definition_by one text written (no_history fault given is said) = absurd (omega (arith, one, is))
   definition_by one text written (lists listing given is said) = absurd (omega (arith, one, is))
   definition_by one text written (again outcome) = absurd (again_not_one held words before after text result outcome one)
+  definition_by one text written (drilling outcome) = inr (drill_one words before after text result written one outcome)
 
-  pub serves_definition : HasServed → result ≡ 1 → RefusedDefinition held words before after
+  pub serves_definition : HasServed → result ≡ 1 → RefusedOne
   serves_definition serves one = let s = spoke serves (one_spoken one) in definition_by one s.text s.written s.says
 
   abbrev RefusedSix : Type 0
   RefusedSix =
       RefusedInputs held words before after ⊎ (RefusedSchedule held words before after ⊎ (RefusedTrigger held words before after
       ⊎ (RefusedName held words before after ⊎ (RefusedRecurrence held words before after
-      ⊎ (RefusedAnswers held words before after ⊎ RefusedTimes held words before after)))))
+      ⊎ (RefusedAnswers held words before after ⊎ (RefusedTimes held words before after
+      ⊎ (RefusedDrillInputs words before after ⊎ RefusedDrillTrigger words before after)))))))
 
   inputs_by : result ≡ 6 → (text : List ℕ) → Appends before after text → CommandOutcome held words result text → RefusedSix
   inputs_by six text written (no_definition command fault given is said) = absurd (omega (arith, six, is))
@@ -472,13 +506,20 @@ module _ (held : Held) (words : List (List ℕ)) (old new : List (List ℕ)) (be
   inputs_by six text written (costs command d inputs schedule given timed is made said) = absurd (omega (arith, six, is))
   inputs_by six text written (no_history fault given is said) = absurd (omega (arith, six, is))
   inputs_by six text written (lists listing given is said) = absurd (omega (arith, six, is))
-  inputs_by six text written (again outcome) = inr (inr (inr (inr (inr (again_six held words before after text written result outcome six)))))
+  inputs_by six text written (again outcome) =
+      inr (inr (inr (inr (inr (elim (again_six held words before after text written result outcome six) [
+        | inl answers ↦ inl answers
+        | inr times ↦ inr (inl times)
+      ])))))
+  inputs_by six text written (drilling outcome) =
+      inr (inr (inr (inr (inr (inr (inr (drill_six words before after text result written six outcome)))))))
 
   pub serves_inputs : HasServed → result ≡ 6 → RefusedSix
   serves_inputs serves six = let s = spoke serves (six_spoken six) in inputs_by six s.text s.written s.says
 
   abbrev RefusedEight : Type 0
-  RefusedEight = RefusedCost held words before after ⊎ RefusedNewCost held words before after
+  RefusedEight =
+      RefusedCost held words before after ⊎ (RefusedNewCost held words before after ⊎ RefusedDrillCost words before after)
 
   cost_by : result ≡ 8 → (text : List ℕ) → Appends before after text → CommandOutcome held words result text → RefusedEight
   cost_by eight text written (no_definition command fault given is said) = absurd (omega (arith, eight, is))
@@ -502,7 +543,8 @@ module _ (held : Held) (words : List (List ℕ)) (old new : List (List ℕ)) (be
   })
   cost_by eight text written (no_history fault given is said) = absurd (omega (arith, eight, is))
   cost_by eight text written (lists listing given is said) = absurd (omega (arith, eight, is))
-  cost_by eight text written (again outcome) = inr (again_eight held words before after text written result outcome eight)
+  cost_by eight text written (again outcome) = inr (inl (again_eight held words before after text written result outcome eight))
+  cost_by eight text written (drilling outcome) = inr (inr (drill_eight words before after text result written eight outcome))
 
   pub serves_cost : HasServed → result ≡ 8 → RefusedEight
   serves_cost serves eight = let s = spoke serves (eight_spoken eight) in cost_by eight s.text s.written s.says
@@ -529,6 +571,7 @@ module _ (held : Held) (words : List (List ℕ)) (old new : List (List ℕ)) (be
   listed_by names zero text written (lists listing given is said) =
       record { listing = listing; history_given = given; written = rw said at written }
   listed_by names zero text written (again outcome) = absurd (other_than_again Command.List refl names result text outcome)
+  listed_by names zero text written (drilling outcome) = absurd (other_than_drill Command.List refl names result text outcome)
 
   pub serves_listed : HasServed → command_of words ≡ Some Command.List → result ≡ 0 → Listed held words before after
   serves_listed serves names zero = let s = spoke serves (zero_spoken zero) in listed_by names zero s.text s.written s.says
@@ -554,9 +597,20 @@ module _ (held : Held) (words : List (List ℕ)) (old new : List (List ℕ)) (be
       inl (record { fault = fault; history_given = given; written = rw said at written })
   history_by seven text written (lists listing given is said) = absurd (omega (arith, seven, is))
   history_by seven text written (again outcome) = inr (again_seven held words before after text written result outcome seven)
+  history_by seven text written (drilling outcome) = absurd (drill_not_seven words before after text result seven outcome)
 
   pub serves_history : HasServed → result ≡ 7 → RefusedSeven
   serves_history serves seven = let s = spoke serves (seven_spoken seven) in history_by seven s.text s.written s.says
+
+  again_no_drill : (command : Command) → resubmits command ≡ true → is_drill command ≡ false
+  again_no_drill Check anew = refl
+  again_no_drill Run anew = refl
+  again_no_drill Trace anew = refl
+  again_no_drill Command.List anew = refl
+  again_no_drill Resubmit anew = refl
+  again_no_drill ResubmitSet anew = refl
+  again_no_drill (Fires from count) anew = refl
+  again_no_drill (Drill n) anew = absurd (cc)
 
   -- of the commands that resubmit
   again_by : (command : Command) → resubmits command ≡ true → command_of words ≡ Some command → result ≡ 0 → (text : List ℕ) →
@@ -564,6 +618,8 @@ module _ (held : Held) (words : List (List ℕ)) (old new : List (List ℕ)) (be
   again_by command anew names zero text written (again outcome) =
       let done = again_done held words before after text written result outcome zero in
       subst (λ c. Resubmitted held words c before after) (one_command done.0 command done.1 names) done.2
+  again_by command anew names zero text written (drilling outcome) =
+      absurd (other_than_drill command (again_no_drill command anew) names result text outcome)
   again_by command anew names zero text written (no_definition c fault given is said) = absurd (omega (arith, zero, is))
   again_by command anew names zero text written (checks d given is said) =
       absurd (let e : Check ≡ command = one_command _ _ given.0 names in let f : resubmits command ≡ true = anew in cc)
@@ -589,6 +645,37 @@ module _ (held : Held) (words : List (List ℕ)) (old new : List (List ℕ)) (be
       Resubmitted held words command before after
   serves_again command anew serves names zero =
       let s = spoke serves (zero_spoken zero) in again_by command anew names zero s.text s.written s.says
+
+  -- of `drill`
+  module _ (n : ℕ) (names : command_of words ≡ Some (Drill n)) where
+    drilled_by : result ≡ 0 → (text : List ℕ) → Appends before after text → CommandOutcome held words result text →
+        Drilled words n before after
+    drilled_by zero text written (drilling outcome) =
+        let done = drill_done words before after text result written zero outcome in
+        let e : Drill done.0 ≡ Drill n = one_command (Drill done.0) (Drill n) done.1 names in
+        let same : done.0 ≡ n = cc in
+        subst (λ size. Drilled words size before after) same done.2
+    drilled_by zero text written (no_definition c fault given is said) = absurd (omega (arith, zero, is))
+    drilled_by zero text written (checks d given is said) = absurd (let e : Check ≡ Drill n = one_command _ _ given.0 names in cc)
+    drilled_by zero text written (no_inputs c d fault made given handed is said) = absurd (omega (arith, zero, is))
+    drilled_by zero text written (no_schedule c d inputs fault given timed is said) = absurd (omega (arith, zero, is))
+    drilled_by zero text written (runs c d inputs schedule given timed is made) = absurd (
+        let e : Drill n ≡ c = one_command _ _ names given.definition_given.0 in
+        let makes : makes_runs c ≡ true = given.makes in cc
+        )
+    drilled_by zero text written (no_run c d inputs schedule fault given timed is made said) = absurd (omega (arith, zero, is))
+    drilled_by zero text written (costs c d inputs schedule given timed is made said) = absurd (omega (arith, zero, is))
+    drilled_by zero text written (no_history fault given is said) = absurd (omega (arith, zero, is))
+    drilled_by zero text written (lists listing given is said) =
+        absurd (let e : Command.List ≡ Drill n = one_command _ _ given.0 names in cc)
+    drilled_by zero text written (fires from count file trigger r given has reads is said) =
+        absurd (let e : Fires from count ≡ Drill n = one_command _ _ given.0 names in cc)
+    drilled_by zero text written (no_name from count file given has is said) = absurd (omega (arith, zero, is))
+    drilled_by zero text written (no_recurrence from count file trigger fault given has reads is said) = absurd (omega (arith, zero, is))
+    drilled_by zero text written (again outcome) = absurd (other_than_again (Drill n) refl names result text outcome)
+
+    pub serves_drilled : HasServed → result ≡ 0 → Drilled words n before after
+    serves_drilled serves zero = let s = spoke serves (zero_spoken zero) in drilled_by zero s.text s.written s.says
 
 -- ---- completeness
 
@@ -630,6 +717,7 @@ module _ (bytes_of : List ℕ → Option (List ℕ)) (words : List (List ℕ)) (
   runs_on Command.List d makes holds saying = absurd cc
   runs_on Resubmit d makes holds saying = absurd cc
   runs_on ResubmitSet d makes holds saying = absurd cc
+  runs_on (Drill n) d makes holds saying = absurd cc
 
   -- `list` lists the records that HISTORY holds
   list_on : (listing : List ListedTree) → HoldsHistory bytes_of words listing → MayBeSaid (plan Command.List words) →

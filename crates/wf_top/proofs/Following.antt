@@ -76,3 +76,17 @@ pub reaches_now : (held : Held) (plan : Plan) (old : List (List ℕ)) (result : 
 reaches_now held plan old (Ok said) ok err = (refl, ok held)
 reaches_now held plan old (Err (CannotRead failed)) ok err = absurd (cc)
 reaches_now held plan old (Err Memory) ok err = inl refl
+
+-- A fault that was said is what the plan says, unless it is want of memory.
+pub said_fault : (P : Type 0) (plan : Plan) (verdict : Verdict) (line : List ℕ) (result : Result Said Stop) →
+    (P → plan ≡ Says verdict line) →
+    IfOk result (λ said. P × (said.verdict ≡ verdict) × (said.text.items ≡ line)) →
+    IfOk result (λ said. (any : Held) → MaySay any plan said.verdict said.text.items)
+said_fault P plan verdict line (Ok said) is ok = λ any. rw (is ok.0) (ok.1, ok.2)
+said_fault P plan verdict line (Err stop) is ok = ok
+
+-- What was said whatever files tell.
+pub said_always : (P : Verdict → List ℕ → Type 0) (result : Result Said Stop) → IfOk result (λ said. P said.verdict said.text.items) →
+    IfOk result (λ said. (any : Held) → P said.verdict said.text.items)
+said_always P (Ok said) ok = λ any. ok
+said_always P (Err stop) ok = ok

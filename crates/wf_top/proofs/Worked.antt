@@ -17,7 +17,7 @@ use Rattle.wf_template.specs.TemplateTree.{whole}
 use Rattle.wf_top.specs.Commands.{accepted, accepted_line, judged_definition, judged_inputs, judged_schedule, judged_value, plan, recurs}
 use Rattle.wf_top.specs.Commands.{run, scheduled, triggered}
 use Rattle.wf_files.specs.Fault.{fault_line}
-use Rattle.wf_top.specs.Plan.{Plan, Says, Reads, Makes, Remakes, MaySay, within}
+use Rattle.wf_top.specs.Plan.{Plan, Says, Reads, Makes, Remakes, Drills, MaySay, within}
 use Rattle.wf_top.specs.Served as served
 use Rattle.wf_top.specs.Trigger.{trigger_line, trigger_words}
 use Rattle.jiff_core.specs.Calendar.{days_of_months}
@@ -25,12 +25,12 @@ use Rattle.wf_fn_time.specs.Calendar.{day_at, days_of_first_years}
 use Rattle.wf_recur.specs.declared.fault.RecurrenceFault.{RecurrenceFault}
 use Rattle.wf_top.specs.Fires.{moments_text, recurrence_line, recurrence_words, trigger_in}
 use Rattle.wf_val.specs.ValueTree.{ValueTree, boolean, list, members, null, object, trees}
-use Rattle.wf_top.specs.Words.{command_of, count_of, is_traced, makes_runs, schedule_word}
+use Rattle.wf_top.specs.Words.{command_of, count_of, is_traced, makes_runs, schedule_word, size_of}
 use Rattle.wf_files.specs.declared.fault.FormFault.{FormFault}
 use Rattle.wf_told.specs.declared.fault.RunsFault.{RunsFault}
 use Rattle.wf_top.specs.declared.said.Verdict.TheVariants.{Done, Definition, Inputs, TooLarge}
 use Rattle.wf_top.specs.declared.words.Command.{Command}
-use Rattle.wf_top.specs.declared.words.Command.TheVariants.{Check, Run, Trace, Fires}
+use Rattle.wf_top.specs.declared.words.Command.TheVariants.{Check, Run, Trace, Drill, Fires}
 use Rattle.wf_trigger.specs.declared.fault.TriggerFault.{TriggerFault}
 use Rattle.wf_val.specs.declared.fault.EvalFault.{EvalFault}
 use Rattle.wf_val.specs.declared.function.Fun.{Fun}
@@ -47,12 +47,14 @@ first_limit (Says verdict said) = 0
 first_limit (Reads name limit next) = limit
 first_limit (Makes traced d inputs schedule) = 0
 first_limit (Remakes d r names inputs schedule) = 0
+first_limit (Drills n d inputs) = 0
 
 abbrev first_name : Plan → List ℕ
 first_name (Says verdict said) = []
 first_name (Reads name limit next) = name
 first_name (Makes traced d inputs schedule) = []
 first_name (Remakes d r names inputs schedule) = []
+first_name (Drills n d inputs) = []
 
 -- words of a command and its files
 abbrev words_of : List ℕ → ℕ → List (List ℕ)
@@ -159,7 +161,49 @@ command-capital = refl
 command-longer : command_of (words_of (codes "checks") 1) ≡ None
 command-longer = refl
 
-command-not_built : command_of (words_of (codes "drill") 1) ≡ None
+command-drill : command_of (codes "drill" ∷ codes "7" ∷ []) ≡ Some (Drill 7)
+command-drill = refl
+
+command-drill-greatest : command_of (codes "drill" ∷ codes "400" ∷ []) ≡ Some (Drill 400)
+command-drill-greatest = refl
+
+command-drill-one_more : command_of (codes "drill" ∷ codes "401" ∷ []) ≡ None
+command-drill-one_more = refl
+
+command-drill-zero_in_front : command_of (codes "drill" ∷ codes "01" ∷ []) ≡ None
+command-drill-zero_in_front = refl
+
+command-drill-letters : command_of (words_of (codes "drill") 1) ≡ None
+command-drill-letters = refl
+
+command-drill-two_words : command_of (words_of (codes "drill") 2) ≡ None
+command-drill-two_words = refl
+
+command-drill-no_word : command_of (codes "drill" ∷ []) ≡ None
+command-drill-no_word = refl
+
+size-none : size_of [] ≡ None
+size-none = refl
+
+size-zero : size_of (codes "0") ≡ None
+size-zero = refl
+
+size-one : size_of (codes "1") ≡ Some 1
+size-one = refl
+
+size-greatest : size_of (codes "400") ≡ Some 400
+size-greatest = refl
+
+size-one_more : size_of (codes "401") ≡ None
+size-one_more = refl
+
+size-zero_in_front : size_of (codes "0400") ≡ None
+size-zero_in_front = refl
+
+size-long : size_of (codes "18446744073709551617") ≡ None
+size-long = refl
+
+command-not_built : command_of (words_of (codes "session") 2) ≡ None
 command-not_built = refl
 
 abbrev fires_words : List ℕ → List ℕ → List (List ℕ)

@@ -1,6 +1,10 @@
 pub mod Commands
+pub mod Drill
+pub mod Drilled
+pub mod Drilling
 pub mod Fires
 pub mod Limits
+pub mod Measures
 pub mod Plan
 pub mod Ran
 pub mod Refusal

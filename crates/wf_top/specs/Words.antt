@@ -6,7 +6,7 @@ use Rattle.std.specs.Char.{is_ascii_digit}
 use Rattle.std.specs.Str.{bytes_eq}
 use Rattle.wf_fn_time.specs.Reading.{read_time}
 use Rattle.wf_top.specs.declared.words.Command.{Command}
-use Rattle.wf_top.specs.declared.words.Command.TheVariants.{Check, Run, Trace, Resubmit, ResubmitSet, Fires}
+use Rattle.wf_top.specs.declared.words.Command.TheVariants.{Check, Run, Trace, Resubmit, ResubmitSet, Drill, Fires}
 
 -- the word at a place
 abbrev pub word : List (List ℕ) → ℕ → List ℕ
@@ -49,6 +49,24 @@ fires_with from count = None
 abbrev pub fires_of : List ℕ → List ℕ → Option Command
 fires_of from count = fires_with (read_time from) (count_of count)
 
+-- a number from 1 to 400
+abbrev pub within_size : Option ℕ → Option ℕ
+within_size (Some n) = if nat_le 1 n && nat_le n 400 then Some n else None
+within_size None = None
+
+-- without a zero in front
+abbrev pub size_of : List ℕ → Option ℕ
+size_of [] = None
+size_of (b ∷ bs) = if nat_eq b 48 then None else within_size (digits_from 0 (b ∷ bs))
+
+-- the command `drill` with this number, if it is there
+abbrev pub drill_with : Option ℕ → Option Command
+drill_with (Some n) = Some (Drill n)
+drill_with None = None
+
+abbrev pub drill_of : List ℕ → Option Command
+drill_of size = drill_with (size_of size)
+
 -- the command that the words are, or None
 abbrev pub command_of : List (List ℕ) → Option Command
 command_of words =
@@ -58,7 +76,8 @@ command_of words =
     (if is_command (codes "list") 1 words then Some Command.List else
     (if is_command (codes "resubmit") 5 words || is_command (codes "resubmit") 6 words then Some Resubmit else
     (if is_command_within (codes "resubmit-set") 6 505 words then Some ResubmitSet else
-    (if is_command (codes "fires") 4 words then fires_of (word words 3) (word words 4) else None))))))
+    (if is_command (codes "fires") 4 words then fires_of (word words 3) (word words 4) else
+    (if is_command (codes "drill") 1 words then drill_of (word words 1) else None)))))))
 
 -- the command makes the runs that inputs start
 abbrev pub makes_runs : Command → Bool
@@ -69,6 +88,7 @@ makes_runs Command.List = false
 makes_runs Resubmit = false
 makes_runs ResubmitSet = false
 makes_runs (Fires from count) = false
+makes_runs (Drill n) = false
 
 -- the command writes the events of each run above its record
 abbrev pub is_traced : Command → Bool
@@ -79,6 +99,7 @@ is_traced Command.List = false
 is_traced Resubmit = false
 is_traced ResubmitSet = false
 is_traced (Fires from count) = false
+is_traced (Drill n) = false
 
 -- the command resubmits a run
 abbrev pub resubmits : Command → Bool
@@ -89,6 +110,7 @@ resubmits Command.List = false
 resubmits Resubmit = true
 resubmits ResubmitSet = true
 resubmits (Fires from count) = false
+resubmits (Drill n) = false
 
 -- What a resubmission goes by beside DEF: the words HISTORY, RUN, INPUTS and SCHEDULE, where there is one, and the names of the actions.
 pub record AskedTree : Type 0 where

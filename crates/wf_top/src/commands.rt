@@ -8,6 +8,7 @@ ghost use Rattle.wf_top.specs.Words.{command_of};
 
 use crate::DEFINITION_LIMIT;
 use crate::accepted::accepted_line;
+use crate::drilling::drilled;
 use crate::listing::list;
 use crate::load::{Stop, load};
 use crate::recurring::fired;
@@ -49,7 +50,9 @@ fn accepted<F: Files, E: Engine>(
 {
     let schedule = schedule_word(words);
     match command {
-        Command::Check | Command::List | Command::Fires { .. } => say_accepted(alloc, checked),
+        Command::Check | Command::List | Command::Fires { .. } | Command::Drill { .. } => {
+            say_accepted(alloc, checked)
+        }
         Command::Run => run(alloc, files, engine, false, &words[2], schedule, checked),
         Command::Trace => run(alloc, files, engine, true, &words[2], schedule, checked),
         Command::Resubmit => resubmit(alloc, files, engine, one_asked(words), checked),
@@ -96,5 +99,6 @@ pub fn follow<F: Files, E: Engine>(
         Command::Check | Command::Run | Command::Trace | Command::Resubmit | Command::ResubmitSet =>
             { defined(alloc, words, command, files, engine, &words[1]) }
         Command::Fires { from, count } => fired(alloc, files, &words[1], &words[2], from, count),
+        Command::Drill { size } => drilled(alloc, engine, size),
     }
 }

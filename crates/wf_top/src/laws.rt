@@ -5,6 +5,7 @@ ghost use Rattle.wf_def.specs.DefTree.{DefTree};
 ghost use Rattle.wf_reading.specs.Read.{IsRead};
 ghost use Rattle.wf_record.specs.Record.{RecordTree};
 ghost use Rattle.wf_rules.specs.Broken.{broken_of};
+ghost use Rattle.wf_top.specs.Drilling.{MayTellDrill};
 ghost use Rattle.wf_top.specs.Ran.{HoldsDefinition};
 ghost use Rattle.wf_top.specs.Served.{Say};
 ghost use Rattle.wf_top.specs.Told.{MayTell, MayTellAgain};
@@ -29,6 +30,14 @@ pub fn one_thing_is_told_again()
     wf_told::one_reason_against_a_resubmission();
 }
 
+/// And of a drill.
+pub fn one_thing_is_told_of_a_drill()
+    ensures { (n : ℕ) (d : DefTree) → IsRead d → broken_of d ≡ None → (i : InputsTree) (v w : Verdict) (text other : List ℕ)
+        → MayTellDrill n d i v text → MayTellDrill n d i w other → (v ≡ w) × (text ≡ other) }
+{
+    wf_told::one_measure_is_told();
+}
+
 /// One status and one text is what words say over files that tell, where a definition that they hold was read from a value.
 pub fn one_thing_is_said()
     ensures { (bytes_of : List ℕ → Option (List ℕ)) (words : List (List ℕ))
@@ -38,4 +47,6 @@ pub fn one_thing_is_said()
     wf_told::one_text_is_told();
     wf_told::one_resubmission_is_told();
     wf_told::one_reason_against_a_resubmission();
+    wf_told::one_measure_is_told();
+    wf_drill::a_drill_is_in_form();
 }

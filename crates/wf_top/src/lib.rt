@@ -14,6 +14,7 @@
 
 mod accepted;
 mod commands;
+mod drilling;
 mod laws;
 mod listing;
 mod load;
@@ -27,7 +28,9 @@ mod serve;
 mod trigger;
 mod words;
 
-pub use laws::{one_thing_is_said, one_thing_is_told, one_thing_is_told_again};
+pub use laws::{
+    one_thing_is_said, one_thing_is_told, one_thing_is_told_again, one_thing_is_told_of_a_drill,
+};
 pub use serve::serve_words;
 pub use words::{Command, parse_words};
 

@@ -18,8 +18,8 @@ use wf_rules::Checked;
 use wf_told::{Engine, RunsFault};
 use wf_val::{Schedule, Text};
 
-// Why runs weren't made.
-fn say_runs_fault(alloc: Global, fault: RunsFault) -> Result<Said, Stop>
+/// Why runs weren't made.
+pub fn say_runs_fault(alloc: Global, fault: RunsFault) -> Result<Said, Stop>
     ensures said { IfOk result (λ said. (fault ≢ RunsFault.Memory) × SaysFault fault said.verdict said.text.items) }
     ensures stopped { IfErr result (λ stop. stop ≡ Stop.Memory) }
 {

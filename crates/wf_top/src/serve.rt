@@ -9,6 +9,8 @@ ghost use Rattle.wf_record.specs.Record.{RecordTree};
 ghost use Rattle.wf_recur.specs.Moments.{moments_due};
 ghost use Rattle.wf_recur.specs.declared.recurrence.Recurrence.{Recurrence};
 ghost use Rattle.wf_top.specs.Commands.{accepted_line, listing_text, plan_of};
+ghost use Rattle.wf_top.specs.Drilled.{Drilled, IsToldDrill, PassesDrill, RefusedDrill, RefusedDrillCost, RefusedDrillInputs};
+ghost use Rattle.wf_top.specs.Drilled.{RefusedDrillTrigger};
 ghost use Rattle.wf_top.specs.Fires.{moments_text};
 ghost use Rattle.wf_top.specs.Ran.{Checked, Fired, HoldsDefinition, HoldsHistory, IsToldWhole, IsWhole, Listed, PassesAll};
 ghost use Rattle.wf_top.specs.Ran.{PassesFires, Ran, RefusedCost, RefusedDefinition, RefusedHistory, RefusedInputs, RefusedName};
@@ -110,6 +112,11 @@ pub fn serve_words<F: Files, I: Source, O: Sink, E: Engine>(
     ensures fired { (from count : ℕ) → command_of words.now ≡ Some (Command.Fires from count) → result ≡ 0
         → Fired (F.held files.old) words.now from count (O.taken out.old) (O.taken out.new) }
 
+    // At `drill N` 0 comes where the definition and the inputs of the drill of this size were read, and the sink took exactly the line that
+    // tells how its run goes under each of its three schedules.
+    ensures drilled { (n : ℕ) → command_of words.now ≡ Some (Command.Drill n) → result ≡ 0
+        → Drilled words.now n (O.taken out.old) (O.taken out.new) }
+
     // Where all tests of a command pass and no count rose, that comes and nothing else, but for want of memory.
     ensures complete_check { IfSome (F.held files.old) (λ bytes_of. (definition : DefTree) →
         HoldsDefinition bytes_of words.now Command.Check definition →
@@ -140,8 +147,16 @@ pub fn serve_words<F: Files, I: Source, O: Sink, E: Engine>(
         F.failed files.new ≡ F.failed files.old → IsCalm (O.faults out.old) (O.faults out.new) →
         IsWhole (O.taken out.old) (O.taken out.new) (moments_text (moments_due r from n)) result) }
 
-    // 1 comes where the first file gave no accepted definition.
-    ensures refused_definition { result ≡ 1 → RefusedDefinition (F.held files.old) words.now (O.taken out.old) (O.taken out.new) }
+    // And so at `drill`, which reads no file.
+    ensures complete_drill { IfSome (F.held files.old) (λ bytes_of. (n : ℕ) → (d : DefTree) → (inputs : InputsTree) →
+        PassesDrill words.now n d inputs →
+        F.failed files.new ≡ F.failed files.old → IsCalm (O.faults out.old) (O.faults out.new) →
+        IsToldDrill n d inputs (O.taken out.old) (O.taken out.new) result) }
+
+    // 1 comes where the first file gave no accepted definition; and at `drill`, if the definition of its size weren't accepted. Of no size
+    // it is known that one of the ends of `drill` on 1, 6 and 8 comes.
+    ensures refused_definition { result ≡ 1 → RefusedDefinition (F.held files.old) words.now (O.taken out.old) (O.taken out.new)
+        ⊎ RefusedDrill words.now (O.taken out.old) (O.taken out.new) }
 
     // 6 comes where it gave one, and the second gave no inputs; or gave inputs, and the third no schedule; or gave inputs by which the
     // trigger starts no run for its fault, and there was no third or it gave a schedule. At `fires` it comes where the definition lacks
@@ -153,7 +168,9 @@ pub fn serve_words<F: Files, I: Source, O: Sink, E: Engine>(
         ⊎ RefusedName (F.held files.old) words.now (O.taken out.old) (O.taken out.new)
         ⊎ RefusedRecurrence (F.held files.old) words.now (O.taken out.old) (O.taken out.new)
         ⊎ RefusedAnswers (F.held files.old) words.now (O.taken out.old) (O.taken out.new)
-        ⊎ RefusedTimes (F.held files.old) words.now (O.taken out.old) (O.taken out.new) }
+        ⊎ RefusedTimes (F.held files.old) words.now (O.taken out.old) (O.taken out.new)
+        ⊎ RefusedDrillInputs words.now (O.taken out.old) (O.taken out.new)
+        ⊎ RefusedDrillTrigger words.now (O.taken out.old) (O.taken out.new) }
 
     // 7 comes at `list`, where the file gave no history. At the commands that resubmit it comes where HISTORY gave no history; or where all
     // files gave what they should, and the history has no record of the run, or more than one, or has one that can't be resubmitted from
@@ -165,7 +182,8 @@ pub fn serve_words<F: Files, I: Source, O: Sink, E: Engine>(
 
     // 8 comes where the runs cost too much, or the new record would.
     ensures too_large { result ≡ 8 → RefusedCost (F.held files.old) words.now (O.taken out.old) (O.taken out.new)
-        ⊎ RefusedNewCost (F.held files.old) words.now (O.taken out.old) (O.taken out.new) }
+        ⊎ RefusedNewCost (F.held files.old) words.now (O.taken out.old) (O.taken out.new)
+        ⊎ RefusedDrillCost words.now (O.taken out.old) (O.taken out.new) }
 
     // 2 comes where the words are no command, and always there, 4 apart.
     ensures two { result ≡ 2 → command_of words.now ≡ None }

@@ -1,7 +1,8 @@
 // The words of a command.
 ghost use Rattle.std.specs.Prelude.{◌≡◌, ◌<◌, length, option_copied};
 ghost use Rattle.wf_top.specs.Seen.{asked_tree};
-ghost use Rattle.wf_top.specs.Words.{command_of, count_of, digits_from, fires_of, one_asked, schedule_word, set_asked, within_count, word};
+ghost use Rattle.wf_top.specs.Words.{command_of, count_of, digits_from, drill_of, fires_of, one_asked, schedule_word, set_asked};
+ghost use Rattle.wf_top.specs.Words.{size_of, within_count, within_size, word};
 
 use std::slice::from_ref;
 use wf_fn_time::read_time;
@@ -26,6 +27,8 @@ pub enum Command {
     /// `fires DEF TRIGGER FROM N`: lists the next moments, N at most, at which a trigger that recurs is due from a moment on,
     /// which is in ticks.
     Fires { from: u64, count: u32 },
+    /// `drill N`: makes a run of a size, from 1 to 400, under three schedules, and says how it went.
+    Drill { size: u32 },
 }
 
 /// The command that the words after the program's name are, or `None` where they are no command. It takes no memory.
@@ -41,6 +44,7 @@ pub fn parse_words(words: &[Text]) -> Option<Command>
         ("resubmit", 5 | 6) => Some(Command::Resubmit),
         ("resubmit-set", 6..=505) => Some(Command::ResubmitSet),
         ("fires", 4) => fires_of(words[3].as_str(), words[4].as_str()),
+        ("drill", 1) => drill_of(words[1].as_str()),
         _ => None,
     }
 }
@@ -68,6 +72,32 @@ fn within_count(number: Option<u32>) -> Option<u32>
 {
     match number {
         Some(n) if 1 <= n && n <= 1000 => Some(n),
+        _ => None,
+    }
+}
+
+// The command `drill` with this word N: a number from 1 to 400 without a zero in front.
+fn drill_of(size: &str) -> Option<Command>
+    ensures { result ≡ drill_of size.now }
+{
+    let size = size_of(size.as_bytes())?;
+    Some(Command::Drill { size })
+}
+
+fn size_of(text: &[u8]) -> Option<u32>
+    ensures { result ≡ size_of text.now }
+{
+    match text {
+        [first, ..] if *first != b'0' => within_size(digits_from(text)),
+        _ => None,
+    }
+}
+
+fn within_size(number: Option<u32>) -> Option<u32>
+    ensures { result ≡ within_size number }
+{
+    match number {
+        Some(n) if 1 <= n && n <= 400 => Some(n),
         _ => None,
     }
 }

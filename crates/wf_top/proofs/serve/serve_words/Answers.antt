@@ -4,7 +4,9 @@ use Rattle.wf_top.specs.Commands.{plan}
 use Rattle.wf_top.proofs.Asked.{failed_word}
 use Rattle.wf_top.proofs.Outcomes.{serves_le, serves_told, serves_two, serves_misused, serves_three, serves_unread, no_command}
 use Rattle.wf_top.proofs.AgainWhole.{serves_remade}
-use Rattle.wf_top.proofs.CommandOutcomes.{serves_accepted, serves_again, serves_checked, serves_cost, serves_definition, serves_fired, serves_history}
+use Rattle.wf_top.proofs.DrillWhole.{serves_drill}
+use Rattle.wf_top.proofs.CommandOutcomes.{serves_accepted, serves_again, serves_checked, serves_cost, serves_definition, serves_drilled}
+use Rattle.wf_top.proofs.CommandOutcomes.{serves_fired, serves_history}
 use Rattle.wf_top.proofs.CommandOutcomes.{serves_inputs, serves_list, serves_listed, serves_moments, serves_ran, serves_whole}
 use Rattle.wf_top.proofs.serve.serve_words.Goals as goal
 
@@ -62,6 +64,13 @@ returns-clause-complete_list g c =
 
 pub returns-clause-fired : goal.returns-clause-fired
 returns-clause-fired g c = λ from count names. serves_fired _ _ _ _ _ _ _ from count names c.serve.ensures.outcome
+
+pub returns-clause-drilled : goal.returns-clause-drilled
+returns-clause-drilled g c = λ n names. serves_drilled _ _ _ _ _ _ _ n names c.serve.ensures.outcome
+
+pub returns-clause-complete_drill : goal.returns-clause-complete_drill
+returns-clause-complete_drill g c =
+    serves_drill _ _ _ _ _ _ _ _ _ (serves_told _ _ _ _ _ _ _ _ _ c.serve.ensures.outcome c.serve.ensures.only)
 
 pub returns-clause-complete_fires : goal.returns-clause-complete_fires
 returns-clause-complete_fires g c =
