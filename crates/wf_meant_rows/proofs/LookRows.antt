@@ -1,6 +1,7 @@
 -- Worked definitions and values. What is told at a point: of the start, of the layers, and of actions inside containers and loops.
+use Prim.Native.String.{String}
 use Rattle.std.proofs.Common.{◌≡◌, [], ◌∷◌, refl}
-use Rattle.std.specs.Prelude.{ℕ, ℤ, pos, false, List, None, Some, bytes_eq, codes}
+use Rattle.std.specs.Prelude.{ℕ, ℤ, pos, false, List, map, Option, None, Some, bytes_eq, codes}
 use Rattle.wf_val.specs.ValueTree.{ValueTree, null}
 use Rattle.wf_val.specs.declared.fault.EvalFault.{EvalFault}
 use Rattle.wf_val.specs.declared.function.Fun.{Fun}
@@ -16,12 +17,16 @@ use Rattle.wf_def.specs.declared.sort.Sort.{Sort}
 use Rattle.wf_trigger.specs.Starts.{StartTree, trigger_value}
 use Rattle.wf_record.specs.Record.{Row}
 use Rattle.wf_record.specs.declared.status.RunStatus.{RunStatus}
-use Rattle.wf_record.specs.declared.status.Status.TheVariants.{Failed}
+use Rattle.wf_record.specs.declared.status.Status.{Status}
+use Rattle.wf_record.specs.declared.status.Status.TheVariants.{Succeeded, Failed, Skipped, TimedOut, Cancelled}
 use Rattle.wf_environment.specs.Environment.{Environment, fresh}
+use Rattle.wf_meant.specs.Containers.{closed_as}
 use Rattle.wf_meant.specs.Look.{told_at, told_in_test, told_to_outputs}
 use Rattle.wf_meant.specs.Points.{point_of}
 use Rattle.wf_meant.specs.Record.{meaning}
 use Rattle.wf_meant.specs.References.{result_at, view_at}
+use Rattle.wf_meant.specs.Rows.{row_of}
+use Rattle.wf_meant.specs.Variables.{given_by}
 use Rattle.wf_meant.proofs.Terms.{act, alone, answered, apply, ask, ended, failure_of, fell, fields, giving, initial, inputs_again}
 use Rattle.wf_meant.proofs.Terms.{many, nat, num, obj, of, of_actions, ran, record_is, rows_in, say, success_of, txt, unrun, value, values}
 use Rattle.wf_meant.proofs.Terms.{words}
@@ -406,3 +411,16 @@ no-writer-means : rows_in no-writer [] ≡
     (fields ((codes "body", fields ((codes "name", words "n") ∷ (codes "value", value 0) ∷ [])) ∷ []))
     ∷ []
 no-writer-means = refl
+
+-- Only a row that Succeeded gives a variable its value, whoever wrote the row, and only the variable that it names.
+abbrev given : String → Status → Option ValueTree
+given name status = given_by (codes name) (row_of (closed_as status null told_value) null [])
+
+given-by-succeeded : given "n" Succeeded ≡ Some (value 7)
+given-by-succeeded = refl
+
+given-by-others : map (given "n") (Failed ∷ Skipped ∷ TimedOut ∷ Cancelled ∷ []) ≡ None ∷ None ∷ None ∷ None ∷ []
+given-by-others = refl
+
+given-to-other : given "m" Succeeded ≡ None
+given-to-other = refl
