@@ -1,7 +1,7 @@
 #!/usr/bin/env python3
 """Hands the program files that are as deep, wide or long as they may be, and longer.
 
-  fuzz/large.py [--only WORD] [--stack KIB] [--program PATH]
+  fuzz/large.py [--part deep|wide|long|records] [--only WORD] [--stack KIB] [--program PATH]
 
 Each call has a process of its own, a stack of KIB KiB (1,024 where none is named) and 2 GiB of memory. It has to end within 10 seconds of
 the processor with a status and a text that its command has (harm.py), and not for want of memory. A line tells its name, its command, the
@@ -264,7 +264,7 @@ def long():
             "type": "Recurrence", "recurrence": {"frequency": frequency, "interval": interval, "startTime": first + "T00:00:00Z"}}})}
 
 
-def big_record(program, folder):
+def records(program, folder):
     """A record with 100,000 iterations, which a run left, and its resubmission."""
     files = {"definition": definition({"B": compose(1), "L": foreach("@range(0,100000)", C=compose("@item()"))}), "inputs": PLAIN}
     put(folder, files)
@@ -287,6 +287,7 @@ def put(folder, files):
 
 def main():
     parser = argparse.ArgumentParser(description=__doc__, formatter_class=argparse.RawDescriptionHelpFormatter)
+    parser.add_argument("--part", choices=("deep", "wide", "long", "records"))
     parser.add_argument("--only", default="", metavar="WORD")
     parser.add_argument("--program", default=served.PROGRAM, type=os.path.abspath)
     parser.add_argument("--stack", type=int, default=1024, metavar="KIB")
@@ -294,14 +295,14 @@ def main():
     good, bad = 0, 0
     with served.fast_folder() as folder, \
             served.Served(options.program, folder, served.library(folder), options.stack, harm.MEMORY) as program:
-        for cases in (deep(), wide(), long(), big_record(program, folder)):
-            for name, words, files in cases:
+        for part, cases in (("deep", deep()), ("wide", wide()), ("long", long()), ("records", records(program, folder))):
+            for name, words, files in cases if options.part in (part, None) else ():
                 if options.only not in name:
                     continue
                 put(folder, files)
                 ended, said = next(program.call([("out", words, {})], harm.SECONDS, 1))
                 why = harm.wrong(words, ended, said)
-                print("%s | %s | %d | %s | %.2f s | %d MiB | %s%s" % (
+                print("%s | %s | %d bytes | status %s | %.2f s | %d MiB | %s%s" % (
                     name, words[0], sum(map(len, files.values())), ended.status, ended.seconds, ended.kibibytes // 1024,
                     said[:60].split(b"\n")[0].decode("utf-8", "replace"), " | HARM: " + why if why else ""), flush=True)
                 good, bad = good + (not why), bad + bool(why)
