@@ -1,5 +1,5 @@
 #!/usr/bin/env python3
-"""Hands the program files that are meant to harm: those of examples and rows, changed by bytes, by tokens and by whole members.
+"""Hands the program files that are meant to harm: those of examples and rows, changed by bytes, tokens, single values and whole members.
 
   fuzz/harm.py [--count N] [--minutes M] [--seed N] [--jobs N] [--program PATH] [--stack KIB] [--model FOLDER]
 
@@ -194,6 +194,35 @@ def by_tokens(rng, file, others):
     return b"".join(tokens)
 
 
+NUMBERS = [b"0", b"1", b"-1", b"2", b"99", b"100", b"199", b"200", b"404", b"429", b"503", b"599", b"600", b"100000",
+           b"9223372036854775807"]
+
+
+@functools.lru_cache(4096)
+def scalars_of(file):
+    """The places of texts, of numbers and of words among the tokens of a file, and those of each kind."""
+    found = {}
+    for place, token in enumerate(tokens_of(file)):
+        kind = "text" if token[:1] == b'"' else "number" if token[-1:].isdigit() else "word" if token.isalpha() else None
+        if kind:
+            found.setdefault(kind, ([], []))
+            found[kind][0].append(place)
+            found[kind][1].append(token)
+    return found
+
+
+def by_scalars(rng, file, others):
+    """Texts, numbers and words in the place of others of their kind, so that the file mostly reads."""
+    tokens, more = list(tokens_of(file)), scalars_of(rng.choice(others))
+    found = scalars_of(file)
+    for _ in range(rng.choice((1, 1, 2, 4)) if found else 0):
+        kind = rng.choice(sorted(found))
+        source = rng.choice((found, more))
+        choices = NUMBERS if kind == "number" and rng.randrange(3) == 0 else source.get(kind, found[kind])[1]
+        tokens[rng.choice(found[kind][0])] = rng.choice(choices)
+    return b"".join(tokens)
+
+
 def parts(value):
     """The value and all in it."""
     found = [value]
@@ -248,6 +277,9 @@ def other_words(rng, words, file):
         words[6:] = [rng.choice(words[6:] + names) for _ in range(rng.choice((1, 1, 2, 5)))]
 
 
+CHANGES = (by_bytes, by_tokens, by_members, by_scalars, by_scalars)
+
+
 def case(rng):
     """A call: its words, and the bytes of the files that it names, by their places."""
     calls, files = seeds()
@@ -256,7 +288,7 @@ def case(rng):
     words, named = list(words), dict(named)
     for _ in range(rng.choice((1, 1, 1, 2))):
         place = rng.choice(list(named))
-        named[place] = rng.choice((by_bytes, by_tokens, by_members))(rng, named[place], files[KINDS[command][place]])
+        named[place] = rng.choice(CHANGES)(rng, named[place], files[KINDS[command][place]])
     if command.startswith("resubmit") and rng.randrange(3) == 0:
         other_words(rng, words, named[1])
     return words, named
