@@ -1,7 +1,7 @@
 #!/usr/bin/env python3
 """Runs random definitions of all kinds on random answers under random schedules, and judges what is printed.
 
-  fuzz/all.py [--model FOLDER] [--count N] [--seed N] [--jobs N] [--program PATH] [--case N] [--keep FOLDER]
+  fuzz/all.py [--model FOLDER] [--count N] [--first N] [--seed N] [--jobs N] [--program PATH] [--case N] [--keep FOLDER]
 
 For each case it makes a definition that breaks no rule, with containers in one another, loops, variables, connectors, Responses and
 Terminates, INPUTS with answers to some of the attempts that may come, and a schedule, which in one case of five is empty. It calls `trace
@@ -10,8 +10,9 @@ record and the schedule (traces.py); `run DEF INPUTS SCHEDULE`, which has to pri
 has to leave the same records in as many steps. So of the values in the records nothing is known but that they are the same. With --model
 status and text of the trace have to be to the byte what the engine in that folder says (model.py tells what that is).
 
-Where one doesn't, --keep writes the files of the case to a folder, and --case N makes the Nth case alone. From a thousand cases on it fails
-too where a kind of action, a kind of event or a status of a row was too seldom to have been tried. The last line is 'N passed, M failed'."""
+Where one doesn't, --keep writes the files of the case to a folder, and --case N makes the Nth case alone; --first N begins with it, so a long
+trial is gone on with (the folder of --keep has what is being tried). From a thousand cases on it fails too where a kind of action, a kind
+of event or a status of a row was too seldom to have been tried. The last line is 'N passed, M failed'."""
 import argparse
 import collections
 import concurrent.futures
@@ -350,6 +351,7 @@ def called_with(text=__doc__):
     parser = argparse.ArgumentParser(description=text, formatter_class=argparse.RawDescriptionHelpFormatter)
     parser.add_argument("--model", metavar="FOLDER")
     parser.add_argument("--count", type=int, default=20000)
+    parser.add_argument("--first", type=int, default=0)
     parser.add_argument("--seed", type=int, default=1)
     parser.add_argument("--jobs", type=int, default=os.cpu_count())
     parser.add_argument("--program", help="what to run; the program of bin/program where it is left out")
@@ -363,7 +365,7 @@ def called_with(text=__doc__):
 
 def main():
     words = called_with()
-    numbers = range(words.count) if words.case is None else [words.case]
+    numbers = range(words.first, words.first + words.count) if words.case is None else [words.case]
     counts, failed = collections.Counter(), 0
     with concurrent.futures.ProcessPoolExecutor(words.jobs, initializer=begin, initargs=(words.model,)) as pool:
         for number, (more, wrong) in zip(numbers, pool.map(tried, [words] * len(numbers), numbers, chunksize=16)):
