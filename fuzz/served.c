@@ -127,13 +127,25 @@ static void get(void *into, size_t size)
     }
 }
 
-static void answer(uint32_t status, uint64_t before, int who)
+static struct rusage used_by(int who)
 {
     struct rusage used;
-    struct answer said = {.status = status};
     need(getrusage(who, &used) == 0);
+    return used;
+}
+
+static uint64_t microseconds_of(struct rusage used)
+{
+    return 1000000 * (used.ru_utime.tv_sec + used.ru_stime.tv_sec) + used.ru_utime.tv_usec + used.ru_stime.tv_usec;
+}
+
+/* Answers a call of a process, or of those that have ended, which had used so many microseconds before it. */
+static void answer(uint32_t status, uint64_t before, int who)
+{
+    struct rusage used = used_by(who);
+    struct answer said = {.status = status};
     said.kibibytes = used.ru_maxrss;
-    said.microseconds = 1000000 * (used.ru_utime.tv_sec + used.ru_stime.tv_sec) + used.ru_utime.tv_usec + used.ru_stime.tv_usec - before;
+    said.microseconds = microseconds_of(used) - before;
     memcpy(said.calls, shared->calls, sizeof said.calls);
     shared->answered++;
     need(syscall(SYS_write, ANSWERS, &said, sizeof said) == sizeof said);
@@ -157,13 +169,6 @@ static int find_firsts(struct dl_phdr_info *object, size_t size, void *data)
     return 1;
 }
 
-static uint64_t used_until_now(void)
-{
-    struct rusage used;
-    need(getrusage(RUSAGE_SELF, &used) == 0);
-    return 1000000 * (used.ru_utime.tv_sec + used.ru_stime.tv_sec) + used.ru_utime.tv_usec + used.ru_stime.tv_usec;
-}
-
 /* Reads a request and makes the call, whose output is a file, and which is ended by SIGPROF after so many seconds of the processor. */
 static void call(char **environment)
 {
@@ -180,7 +185,7 @@ static void call(char **environment)
     int out = syscall(SYS_open, text, O_WRONLY | O_CREAT | O_TRUNC, 0666);
     need(out >= 0 && dup2(out, 1) == 1 && close(out) == 0);
     limit.it_value.tv_sec = asked.seconds;
-    uint64_t before = used_until_now();
+    uint64_t before = microseconds_of(used_by(RUSAGE_SELF));
     need(setitimer(ITIMER_PROF, &limit, NULL) == 0);
     for (size_t at = 0; at < first_count; at++)
         firsts[at](asked.words + 1, words, environment);
@@ -205,6 +210,7 @@ static int serve(int count, char **words, char **environment)
         while (due > 0) {
             int status;
             shared->answered = 0;
+            uint64_t before = microseconds_of(used_by(RUSAGE_CHILDREN));
             pid_t process = fork();
             if (process == 0) {
                 while (due-- > 0)
@@ -214,7 +220,7 @@ static int serve(int count, char **words, char **environment)
             need(process > 0 && waitpid(process, &status, 0) == process);
             due -= shared->answered;
             if (due > 0) {
-                answer(status, 0, RUSAGE_CHILDREN);
+                answer(status, before, RUSAGE_CHILDREN);
                 due--;
             }
         }
