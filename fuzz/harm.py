@@ -409,6 +409,8 @@ def main():
             harms += found
             for why, words in found:
                 print("%s: %s" % (" ".join(words), why), flush=True)
+            if time.time() > until:
+                break
     print(", ".join("%s: %d" % it for it in sorted(ends.items())))
     print("%d s, seed %d" % (time.time() - began, options.seed))
     print("%d passed, %d failed" % (done - len(harms), len(harms)))
