@@ -6,7 +6,7 @@
 For each case it makes a definition and inputs as all.py does, runs it, takes one of the records, and resubmits it from one to three
 actions, most of which ran and stand in no loop, with answers of a second making and under a schedule; then the new record once more, with a
 third. Of each resubmission it judges apart from the program what is kept: rows of actions that are neither redone nor round a chosen one are
-those of the old record, byte for byte, and so are its trigger and parameters; under another schedule there is the same record in as many
+those of the old record, byte for byte, and so are its trigger and parameters; it is refused only for a chosen action; under another schedule there is the same record in as many
 steps; `resubmit` says of one action what `resubmit-set` says; and with the answers, the moment, the seed and the name of the old run there
 is the old record. Then a record is forged: a row less, one more, another status, another decision; the program has to refuse it, or to end.
 With --model status and text of each call have to be to the byte what the engine in that folder says (model.py tells what that is).
@@ -217,6 +217,8 @@ class Tried:
             single = self.said(["resubmit", "definition", "history", run, chosen[0], inputs, "schedule"])
             if single != (status, text):
                 raise Wrong("resubmit of %s says something else" % chosen[0])
+        if status == 7 and all(self.may_be_resubmitted(one, old) for one in chosen):
+            raise Wrong("%s: refused, though a run wrote the record and the actions ran, outside of loops\n%s" % (" ".join(call), text))
         if status:
             return None
         other = self.said(["resubmit-set", "definition", "history", run, inputs, "none"] + chosen)
