@@ -4,12 +4,13 @@
   fuzz/again.py [--model FOLDER] [--count N] [--seed N] [--jobs N] [--program PATH] [--case N] [--keep FOLDER]
 
 For each case it makes a definition and inputs as all.py does, runs it, takes one of the records, and resubmits it from one to three
-actions, most of which ran and stand in no loop, with answers of a second making and under a schedule; then the new record once more, with a
-third. Of each resubmission it judges apart from the program what is kept: rows of actions that are neither redone nor round a chosen one are
-those of the old record, byte for byte, and so are its trigger and parameters; it is refused only for a chosen action; under another schedule there is the same record in as many
-steps; `resubmit` says of one action what `resubmit-set` says; and with the answers, the moment, the seed and the name of the old run there
-is the old record. Then a record is forged: a row less, one more, another status, another decision; the program has to refuse it, or to end.
-With --model status and text of each call have to be to the byte what the engine in that folder says (model.py tells what that is).
+actions, most of which ran and stand in no loop, with answers of a second making and under a schedule; then the new record once more, with
+a third. Of each resubmission it judges apart from the program what is kept: rows of actions that are neither redone nor round a chosen
+one are those of the old record, byte for byte, and so are its trigger and parameters; it is refused only for a chosen action; under
+another schedule there is the same record in as many steps; `resubmit` says of one action what `resubmit-set` says; and with the
+answers, the moment, the seed and the name of the old run there is the old record. Then a record is forged: a row less, one more, another
+status, another decision; the program has to refuse it, or to end. With --model status and text of each call have to be to the byte what
+the engine in that folder says (model.py tells what that is).
 
 And the record of a resubmission has to be that of a fresh run in layers, in which an action has the answers, the moment, the seed and the
 run name of the last layer that holds it. A layer is what a resubmission redoes, by this script's own reading of the definition. There is no
@@ -22,8 +23,8 @@ command for a run in layers, so it is made in three ways, each compared as the w
   - 'layers': with --model, the records of the resubmissions have to be what that engine's recursion over the graphs gives in an environment
     with layers. It knows no event and no old record.
 
-Where a case fails, --keep writes its files to a folder, and --case N makes the Nth case alone. From a thousand cases on it fails too where a
-fault of resubmissions, a fresh run or an end of a forged record came up too seldom. The last line is 'N passed, M failed'."""
+Where a case fails, --keep writes its files to a folder, and --case N makes the Nth case alone. From a thousand cases on it fails too where
+a fault of resubmissions, a fresh run or an end of a forged record came up too seldom. The last line is 'N passed, M failed'."""
 import collections
 import concurrent.futures
 import json
@@ -60,7 +61,8 @@ class Order:
 
     def holders(self, name):
         """The containers round an action, outermost first."""
-        return [part for part in self.paths[name][:-1] if part in self.actions and self.paths[part] == self.paths[name][:len(self.paths[part])]]
+        path = self.paths[name]
+        return [part for part in path[:-1] if part in self.actions and self.paths[part] == path[:len(self.paths[part])]]
 
     def loops(self, name):
         return [held for held in self.holders(name) if rules.type_of(self.actions[held]) in LOOPS]
