@@ -149,7 +149,7 @@ HARD = [b"{", b"}", b"[", b"]", b'"', b"\\", b"\x00", b"\xff", b"\xed\xa0\x80", 
         b"[" * 130, b"]" * 130, b'{"a":' * 130, b'"' + b"a" * 81 + b'"', b'"' + "\U0001f600".encode() * 80 + b'"']
 
 
-@functools.lru_cache(4096)
+@functools.lru_cache(128)
 def tokens_of(file):
     return tuple(TOKENS.findall(file))
 
@@ -198,7 +198,7 @@ NUMBERS = [b"0", b"1", b"-1", b"2", b"99", b"100", b"199", b"200", b"404", b"429
            b"9223372036854775807"]
 
 
-@functools.lru_cache(4096)
+@functools.lru_cache(128)
 def scalars_of(file):
     """The places of texts, of numbers and of words among the tokens of a file, and those of each kind."""
     found = {}
