@@ -265,6 +265,11 @@ def by_members(rng, file, others):
     except (ValueError, RecursionError):
         return by_tokens(rng, file, others)
     for _ in range(rng.choice((1, 1, 2, 3))):
+        # (what was doubled is one and the same value twice, so that a second change in it would double it again)
+        text = json.dumps(value)
+        if len(text) > 2**21:
+            break
+        value = json.loads(text)
         holders = [part for part in parts(value) if isinstance(part, (dict, list)) and part]
         if not holders:
             break
