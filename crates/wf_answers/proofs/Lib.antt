@@ -1,3 +1,4 @@
+mod AddedLemmas
 mod AnswerLemmas
 mod DoubleLemmas
 mod GatherLemmas

@@ -1,5 +1,5 @@
--- The definitions at worked inputs: each member absent, of a wrong kind and at its bounds, which place is named, which double attempt, and
--- in which order the faults come.
+-- The definitions at worked inputs: each member absent, of a wrong kind and at its bounds, which place is named, which double attempt, in
+-- which order the faults come, what one answer by itself means, and where an added one stands.
 use Rattle.std.proofs.Common.{◌≡◌, ℕ, zero, suc, List, [], ◌∷◌, ◌++◌, true, Some, None, Ok, Err, pos, negsuc, refl, map}
 use Rattle.std.specs.Fmt.{digits}
 use Rattle.std.specs.Prelude.{codes, ◌-◌, ◌^◌, ⊤}
@@ -11,9 +11,12 @@ use Rattle.wf_retry.specs.declared.policy.Outcome.{Outcome}
 use Rattle.wf_val.specs.Get.{name_of}
 use Rattle.wf_val.specs.NameOrder.{put_named, without_named}
 use Rattle.wf_val.specs.ValueTree.{ValueTree, null, boolean, number, text, list, object, trees, members, no_members, Member}
+use Rattle.wf_answers.specs.Added.{with_added}
 use Rattle.wf_answers.specs.AnswerTree.{AnswerTree, find_answer}
-use Rattle.wf_answers.specs.Inputs.{inputs_of, with_moment}
+use Rattle.wf_answers.specs.Inputs.{InputsTree, inputs_of, with_moment}
 use Rattle.wf_answers.specs.InputsForm.{inputs_form}
+use Rattle.wf_answers.specs.OneAnswer.{one_answer}
+use Rattle.wf_answers.specs.declared.fault.AnswerFault.{AnswerFault}
 use Rattle.wf_answers.specs.declared.fault.InputsFault.{InputsFault}
 use Rattle.wf_answers.specs.declared.part.Part.{Part}
 
@@ -61,11 +64,17 @@ answered answers = with (codes "answers") (items answers)
 abbrev answer_members : List Member
 answer_members = (codes "action", text (codes "A")) ∷ (codes "status", n 200) ∷ []
 
+abbrev one_with : List ℕ → ValueTree → ValueTree
+one_with name v = of (put_named name_of (name, v) answer_members)
+
+abbrev one_without : List ℕ → ValueTree
+one_without name = of (without_named name_of name answer_members)
+
 abbrev answer_with : List ℕ → ValueTree → ValueTree
-answer_with name v = answered (of (put_named name_of (name, v) answer_members) ∷ [])
+answer_with name v = answered (one_with name v ∷ [])
 
 abbrev answer_without : List ℕ → ValueTree
-answer_without name = answered (of (without_named name_of name answer_members) ∷ [])
+answer_without name = answered (one_without name ∷ [])
 
 -- an answer for an attempt at an address
 abbrev answer_for : List ℕ → List ℕ → ℕ → ValueTree
@@ -84,6 +93,9 @@ IsRight t = least (places inputs_form Part.Whole t) ≡ None
 
 abbrev IsWrongAt : ValueTree → List ℕ → Type 0
 IsWrongAt t pointer = inputs_of t ≡ Err (InputsFault.Form pointer)
+
+abbrev IsNoAnswerAt : ValueTree → List ℕ → Type 0
+IsNoAnswerAt t pointer = one_answer t ≡ Err (AnswerFault.Form pointer)
 
 abbrev IsTwice : ValueTree → List ℕ → ℕ → Type 0
 IsTwice t address attempt = inputs_of t ≡ Err (InputsFault.Twice address attempt)
@@ -648,3 +660,131 @@ find-another_case = refl
 
 find-in_none : find_answer (record { name = codes "A"; at = [] }, 1) [] ≡ None
 find-in_none = refl
+
+-- ---- one answer by itself
+
+one-whole :
+    one_answer (of ((codes "action", text (codes "A")) ∷ (codes "at", items (n 2 ∷ n 0 ∷ [])) ∷ (codes "attempt", n 91)
+    ∷ (codes "body", n 5) ∷ (codes "headers", of ((codes "h", n 1) ∷ [])) ∷ (codes "status", n 404) ∷ []))
+    ≡ Ok (record {
+      address = record { name = codes "A"; at = 2 ∷ 0 ∷ [] };
+      attempt = 91;
+      outcome = Outcome.Code 404;
+      headers = of ((codes "h", n 1) ∷ []);
+      body = n 5;
+    })
+unfolding computed
+one-whole = refl
+
+-- the least answer, outside of all loops and for the first attempt, without headers and with a null body
+abbrev least_answer : AnswerTree
+least_answer = record {
+  address = record { name = codes "A"; at = [] };
+  attempt = 1;
+  outcome = Outcome.Code 200;
+  headers = object no_members;
+  body = null;
+}
+
+one-least : one_answer (of answer_members) ≡ Ok least_answer
+unfolding computed
+one-least = refl
+
+one-said : one_answer (for_a [] 1) ≡ Ok least_answer
+unfolding computed
+one-said = refl
+
+one-further : one_answer (one_with (codes "further") (nested 70)) ≡ Ok least_answer
+unfolding computed
+one-further = refl
+
+one-noConnection : one_answer (one_with (codes "status") (text (codes "noConnection"))) ≡ Ok (record {
+  address = record { name = codes "A"; at = [] };
+  attempt = 1;
+  outcome = Outcome.NoConnection;
+  headers = object no_members;
+  body = null;
+})
+unfolding computed
+one-noConnection = refl
+
+no_answer-wrong_status : IsNoAnswerAt (one_with (codes "status") (n 99)) (codes "/status")
+unfolding computed
+no_answer-wrong_status = refl
+
+no_answer-null_status : IsNoAnswerAt (one_with (codes "status") null) (codes "/status")
+unfolding computed
+no_answer-null_status = refl
+
+no_answer-without_status : IsNoAnswerAt (one_without (codes "status")) (codes "/status")
+unfolding computed
+no_answer-without_status = refl
+
+no_answer-without_action : IsNoAnswerAt (one_without (codes "action")) (codes "/action")
+unfolding computed
+no_answer-without_action = refl
+
+no_answer-attempt_92 : IsNoAnswerAt (one_with (codes "attempt") (n 92)) (codes "/attempt")
+unfolding computed
+no_answer-attempt_92 = refl
+
+no_answer-negative_index : IsNoAnswerAt (one_with (codes "at") (items (n 0 ∷ less 0 ∷ []))) (codes "/at/1")
+unfolding computed
+no_answer-negative_index = refl
+
+no_answer-deep_body : IsNoAnswerAt (one_with (codes "body") (nested 65)) (codes "/body")
+unfolding computed
+no_answer-deep_body = refl
+
+no_answer-list : IsNoAnswerAt (items (of answer_members ∷ [])) []
+unfolding computed
+no_answer-list = refl
+
+no_answer-null : IsNoAnswerAt null []
+unfolding computed
+no_answer-null = refl
+
+no_answer-nothing : IsNoAnswerAt (of []) (codes "/action")
+unfolding computed
+no_answer-nothing = refl
+
+-- inputs are no answer, whatever answers they have
+no_answer-inputs : IsNoAnswerAt (answered (of answer_members ∷ [])) (codes "/action")
+unfolding computed
+no_answer-inputs = refl
+
+no_answer-two_faults :
+    IsNoAnswerAt (of ((codes "action", text []) ∷ (codes "attempt", n 0) ∷ (codes "status", n 1) ∷ [])) (codes "/attempt")
+unfolding computed
+no_answer-two_faults = refl
+
+-- the absent member is named at which a present one is passed
+no_answer-absent_before_present : IsNoAnswerAt (of ((codes "at", null) ∷ (codes "status", n 200) ∷ [])) (codes "/action")
+unfolding computed
+no_answer-absent_before_present = refl
+
+-- ---- one answer more
+
+abbrev holding : List AnswerTree → InputsTree
+holding answers = record {
+  run = codes "r 1";
+  seed = codes "s";
+  moment = 7;
+  trigger = Some (codes "t");
+  outputs = n 7;
+  parameters = (codes "p", n 3) ∷ [];
+  answers = answers;
+}
+
+added-first_of_all : with_added (holding []) first_of_a ≡ holding (first_of_a ∷ [])
+added-first_of_all = refl
+
+added-in_front : with_added (holding (second_of_a ∷ first_of_b ∷ [])) first_of_a ≡ holding (first_of_a ∷ second_of_a ∷ first_of_b ∷ [])
+added-in_front = refl
+
+-- behind the attempt before it, and before an iteration whose number is above
+added-between : with_added (holding (first_of_a ∷ tenth_of_a ∷ first_of_b ∷ [])) second_of_a ≡ holding all
+added-between = refl
+
+added-behind : with_added (holding (first_of_a ∷ second_of_a ∷ tenth_of_a ∷ [])) first_of_b ≡ holding all
+added-behind = refl

@@ -1,3 +1,4 @@
+pub mod Added
 pub mod AnswerSeen
 pub mod AnswerTree
 pub mod Asked
@@ -8,3 +9,4 @@ pub mod Inputs
 pub mod InputsForm
 pub mod InputsSeen
 pub mod Members
+pub mod OneAnswer

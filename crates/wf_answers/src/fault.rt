@@ -24,3 +24,23 @@ impl From<AllocError> for InputsFault {
         InputsFault::Memory
     }
 }
+
+/// Why a value is no answer.
+#[derive(Drop)]
+pub enum AnswerFault {
+    /// It isn't of the form of an answer. The pointer (RFC 6901), from the value on, is the least by bytes.
+    Form { pointer: Text },
+    /// Memory ran out.
+    Memory,
+}
+
+impl From<AllocError> for AnswerFault {
+    ghost use Rattle.std.specs.Prelude.{◌≡◌};
+    ghost use Rattle.wf_answers.specs.declared.fault.AnswerFault.{AnswerFault};
+
+    ghost from_gives = { λ _ e. e ≡ AnswerFault.Memory };
+
+    fn from(_error: AllocError) -> AnswerFault {
+        AnswerFault::Memory
+    }
+}

@@ -7,7 +7,7 @@ ghost use Rattle.wf_answers.specs.Members.{answer_of};
 ghost use Rattle.wf_val.specs.Seen.{tree};
 
 use crate::answer::{Answer, Answers};
-use crate::members::answer_of;
+use crate::members::as_answer;
 use std::alloc::{AllocError, Global};
 use std::cmp::Ordering;
 use std::collections::BTreeSet;
@@ -26,7 +26,7 @@ pub(crate) fn gathered(alloc: Global, values: &[Val]) -> Result<Gather, AllocErr
 {
     let mut gather = Gather::new(alloc);
     for value in values {
-        gather = gather.with(answer_of(alloc, value)?)?;
+        gather = gather.with(as_answer(alloc, value)?)?;
     }
     Ok(gather)
 }

@@ -1,10 +1,12 @@
 //! What a run is handed.
-ghost use Rattle.std.specs.Prelude.{◌≡◌, option_map};
+ghost use Rattle.std.specs.Prelude.{◌≡◌, None, OnErr, OnOk, option_map};
+ghost use Rattle.wf_answers.specs.Added.{with_added};
 ghost use Rattle.wf_answers.specs.AnswerSeen.{answer_tree};
-ghost use Rattle.wf_answers.specs.AnswerTree.{find_answer};
+ghost use Rattle.wf_answers.specs.AnswerTree.{find_answer, key_of};
 ghost use Rattle.wf_answers.specs.InputsSeen.{inputs_tree};
 
 use crate::answer::{Answer, Answers, find};
+use std::alloc::AllocError;
 use wf_fn_time::Ticks;
 use wf_val::{Address, Fields, Name, Text, Val};
 
@@ -31,5 +33,16 @@ impl Inputs {
         ensures { option_map (λ a. answer_tree a.now) result ≡ find_answer (address.now, attempt) (inputs_tree self.now).answers }
     {
         find(self.answers.as_slice(), address, attempt)
+    }
+
+    /// Adds an answer for an attempt that has none yet, as it comes while a run goes on. It moves every answer for an
+    /// attempt behind it.
+    #[tactic(auto, using(crate::proofs::AddedLemmas::put_seen))]
+    pub fn add(&mut self, answer: Answer) -> Result<(), AllocError>
+        requires { find_answer (key_of (answer_tree answer)) (inputs_tree self.old).answers ≡ None }
+        ensures ok { OnOk result (inputs_tree self.new ≡ with_added (inputs_tree self.old) (answer_tree answer)) }
+        ensures err { OnErr result (self.new ≡ self.old) }
+    {
+        self.answers.put(answer)
     }
 }

@@ -63,7 +63,7 @@ pub(crate) fn items_or_none<'a>(member: Option<&'a Val>) -> &'a [Val]
 }
 
 /// The answer that a value says.
-pub(crate) fn answer_of(alloc: Global, value: &Val) -> Result<Answer, AllocError>
+pub(crate) fn as_answer(alloc: Global, value: &Val) -> Result<Answer, AllocError>
     ensures { IfOk result (λ a. answer_tree a ≡ answer_of (tree value.now)) }
 {
     let name = text_or_empty(alloc, value.member("action"))?;

@@ -1,0 +1,3 @@
+mod LastLemmas
+mod SourceLemmas
+mod WorkedRows

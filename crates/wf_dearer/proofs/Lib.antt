@@ -1,0 +1,4 @@
+pub mod GoesOnLemmas
+pub mod JoinLemmas
+pub mod CostLemmas
+pub mod StateCostRows
