@@ -17,8 +17,8 @@ use wf_record::Tries;
 use wf_retry::Policy;
 use wf_val::{Indexes, Name};
 
-// The answer for an attempt of an action, by a binary search.
-fn answer_at<'a>(
+/// The answer for an attempt of an action, by a binary search.
+pub fn answer_at<'a>(
     answers: &'a Answers,
     name: &Name,
     at: &Indexes,

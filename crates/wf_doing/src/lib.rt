@@ -22,7 +22,7 @@ mod rows;
 mod setting;
 mod weights;
 
-pub use attempts::{ended, has_try, tries};
+pub use attempts::{answer_at, ended, has_try, tries};
 pub use ending::{close, finish, makes_another};
 pub use halting::{halts, terminates};
 pub use laws::{

@@ -9,8 +9,10 @@ ghost use Rattle.wf_asks.specs.Instances.{rows_in};
 ghost use Rattle.wf_asks.specs.Known.{store_in, writer};
 ghost use Rattle.wf_plan.specs.PlanSeen.{plan_tree};
 ghost use Rattle.wf_tables.specs.Tables.{event_tree};
-ghost use Rattle.wf_steps.specs.Kept.{IsPlanned};
+ghost use Rattle.wf_steps.specs.Kept.{AreEnabled, IsPlanned};
+ghost use Rattle.wf_steps.specs.Rest.{IsRest};
 ghost use Rattle.wf_steps.specs.Shown.{shown};
+ghost use Rattle.wf_metered.specs.Sums.{AreSumsOf};
 ghost use Rattle.wf_drive.specs.Driven.{IsFirst};
 ghost use Rattle.wf_making.specs.Priced.{lists_cost};
 
@@ -20,8 +22,9 @@ use std::alloc::{AllocError, Global};
 use std::marker::Model;
 use wf_asks::{Acts, Opens, Rows, Store};
 use wf_drive::Machine;
-use wf_metered::Metered;
+use wf_metered::{Metered, MeteredRest as Rest};
 use wf_plan::Plan;
+use wf_room::Roomy;
 use wf_steps::State as Kept;
 use wf_tables::EventAt;
 
@@ -87,6 +90,14 @@ impl<'a, A: Acts> Making<'a, A> {
         self.metered.state()
     }
 
+    /// The events that may happen.
+    pub fn ready(&self) -> &Roomy<EventAt>
+        ensures { AreEnabled (A.graph self.now.0) (A.source self.now.0)
+            (shown A.row_tree A.begun_tree A.decision_tree A.verdict_tree self.now.1) result.now.0 }
+    {
+        self.state().ready()
+    }
+
     // What its rows, running leaves and open containers cost.
     fn so_far(&self) -> u64
         ensures { result ≡ cut_u64 (lists_cost A.row_tree A.begun_tree A.decision_tree A.verdict_tree (A.graph self.now.0)
@@ -102,6 +113,37 @@ impl<'a, A: Acts> Making<'a, A> {
         ensures store { result.1.0 ≡ self.entry.1.1.1.1 }
     {
         self.metered.into_parts()
+    }
+
+    /// The run is put aside, without the actions and the plan that it borrows.
+    pub fn rest(self) -> Rest<A::Row, A::Begun, A::Decision, A::Verdict>
+        ensures lists { result.0.0 ≡ self.entry.1 }
+        ensures kept { IsRest A.row_tree A.begun_tree A.decision_tree A.verdict_tree (A.graph self.entry.0) (A.source self.entry.0)
+            (A.depth self.entry.0) (A.writes self.entry.0) result.0 }
+        ensures sums { AreSumsOf A.row_tree A.begun_tree A.decision_tree A.verdict_tree (A.graph self.entry.0) (A.cost_of_row self.entry.0)
+            (A.weight_of_begun self.entry.0) (A.source self.entry.0).items (A.weight_of_decision self.entry.0) result.0.0.0 result.0.0.1.0
+            result.0.0.1.1.0 result.1 }
+    {
+        self.metered.rest()
+    }
+
+    /// A run that was put aside goes on, with actions by which it is one too, and costs what it did.
+    pub fn again(
+        acts: &'a A,
+        plan: &'a Plan,
+        rest: Rest<A::Row, A::Begun, A::Decision, A::Verdict>,
+    ) -> Making<'a, A>
+        requires planned { IsPlanned (A.graph acts.now) (plan_tree plan.now) }
+        requires kept { IsRest A.row_tree A.begun_tree A.decision_tree A.verdict_tree (A.graph acts.now) (A.source acts.now)
+            (A.depth acts.now) (A.writes acts.now) rest.0 }
+        requires sums { AreSumsOf A.row_tree A.begun_tree A.decision_tree A.verdict_tree (A.graph acts.now) (A.cost_of_row acts.now)
+            (A.weight_of_begun acts.now) (A.source acts.now).items (A.weight_of_decision acts.now) rest.0.0.0 rest.0.0.1.0
+            rest.0.0.1.1.0 rest.1 }
+        ensures acts { result.0 ≡ acts.now }
+        ensures lists { result.1 ≡ rest.0.0 }
+    {
+        let metered = Metered::again(acts, plan, rest);
+        Making { metered }
     }
 }
 

@@ -1,1 +1,2 @@
 pub mod MeteredLemmas
+pub mod RestLemmas

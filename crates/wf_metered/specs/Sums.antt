@@ -1,11 +1,13 @@
 -- The sums that are kept beside a state.
 use Rattle.std.specs.Prelude.{◌≡◌, ◌≤◌, ◌<◌, ◌+◌, ◌-◌, ◌^◌, ℕ, Bool, List, cond}
 use Rattle.wf_layers.specs.Address.{Address}
+use Rattle.wf_layers.specs.Definition.{Graph}
 use Rattle.wf_asks.specs.Instances.{rows_in}
 use Rattle.wf_asks.specs.Known.{opens_in}
 use Rattle.wf_asks.specs.declared.known.OpenAt.{OpenAt}
 use Rattle.wf_asks.specs.declared.known.RowAt.{RowAt}
 use Rattle.wf_plan.specs.Plan.{PlanTree}
+use Rattle.wf_plan.specs.PlanOf.{IsPlanOf}
 use Rattle.wf_tables.specs.Tables.{running_in}
 use Rattle.wf_tables.specs.declared.entries.LeafAt.{LeafAt}
 use Rattle.wf_meter.specs.Parts.{block_of, block_worth, decision_part, leaf_part, row_part, turns_part, worth, decisions_sum, leaves_sum, rows_sum, turns_sum}
@@ -29,6 +31,14 @@ module _ {Row Begun Decision Verdict Kept Started Decided Told : Type 0} (see : 
     pub running_are : parts.running ≡ worth (leaf_part begun_weight) x (running_in started running x)
     pub turns_are : parts.turns ≡ worth (turns_part p items) x (opens_in decided told opens x)
     pub decisions_are : parts.decisions ≡ cond weighs (worth (decision_part weight) x (opens_in decided told opens x)) 0
+
+-- THE SAME BY A GRAPH: whichever plan of it one goes by.
+module _ {Row Begun Decision Verdict Kept Started Decided Told : Type 0} (see : Row → Kept) (started : Begun → Started)
+    (decided : Decision → Decided) (told : Verdict → Told) (d : Graph) (cost : Kept → ℕ) (begun_weight : Started → ℕ)
+    (items weight : Decided → ℕ) (rows : List (RowAt Row)) (running : List (LeafAt Begun)) (opens : List (OpenAt Decision Verdict)) where
+  abbrev pub AreSumsOf : Sums → Type 0
+  AreSumsOf sums =
+      (p : PlanTree) → IsPlanOf d p → AreSums see started decided told p cost begun_weight items weight rows running opens sums
 
 -- Sums from which some parts go, and to which others come.
 abbrev pub moved : Sums → Sums → Sums → Sums

@@ -5,6 +5,8 @@
 #![tactic(auto)]
 
 mod metered;
+mod rest;
 mod sums;
 
 pub use metered::Metered;
+pub use rest::MeteredRest;

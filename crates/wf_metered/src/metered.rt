@@ -25,9 +25,9 @@ use wf_tables::EventAt;
 /// A state, and what it costs.
 #[derive(Drop)]
 pub struct Metered<'a, A: Acts> {
-    state: State<'a, A>,
-    plan: &'a Plan,
-    sums: Sums,
+    pub(crate) state: State<'a, A>,
+    pub(crate) plan: &'a Plan,
+    pub(crate) sums: Sums,
 }
 
 impl<'a, A: Acts> Model for Metered<'a, A> {

@@ -6,11 +6,20 @@ use Rattle.wf_asks.specs.Known.{store_in}
 use Rattle.wf_asks.specs.declared.known.RowAt.{RowAt}
 use Rattle.wf_asks.specs.declared.known.WriterAt.{WriterAt}
 use Rattle.wf_def.specs.DefTree.{DefTree}
+use Rattle.wf_done.specs.DoneSeen.{begun_tree}
+use Rattle.wf_doing.specs.Weights.{begun_weight, decision_weight}
 use Rattle.wf_ended.specs.Ended.{HasEnded}
 use Rattle.wf_environment.specs.Environment.{Environment, fresh}
+use Rattle.wf_layers.specs.Machine.{IsOver}
+use Rattle.wf_meant.specs.Answering.{RowSource}
 use Rattle.wf_meant.specs.Points.{graph_of}
-use Rattle.wf_meant.specs.Record.{meaning, record_of_table}
+use Rattle.wf_meant.specs.Record.{depth_of, meaning, record_of_table}
 use Rattle.wf_meant.specs.Resubmitted.{pinned, resubmitted}
+use Rattle.wf_meant.specs.Source.{source}
+use Rattle.wf_metered.specs.Sums.{AreSumsOf}
+use Rattle.wf_metered.specs.declared.sums.Sums.{Sums}
+use Rattle.wf_opening.specs.DecisionSeen.{decision_tree, verdict_tree}
+use Rattle.wf_paying.specs.Paying.{cost_of_row}
 use Rattle.wf_plan.specs.PlanSeen.{plan_tree}
 use Rattle.wf_plan.specs.declared.plan.Plan.{Plan}
 use Rattle.wf_reading.specs.ReadSeen.{def_tree}
@@ -22,13 +31,17 @@ use Rattle.wf_record.specs.declared.row.Row.{Row}
 use Rattle.wf_resubmit.specs.Refused.{numbers_of}
 use Rattle.wf_rules.specs.declared.checked.Checked.{Checked}
 use Rattle.wf_prepare.specs.Prepared.{MayBeResubmitted}
+use Rattle.wf_sight_laws.specs.Writes.{writes}
 use Rattle.wf_steps.specs.Kept.{IsPlanned}
+use Rattle.wf_steps.specs.Rest.{IsRest}
+use Rattle.wf_tables.specs.declared.entries.CountAt.{CountAt}
+use Rattle.wf_tables.specs.declared.entries.EventAt.{EventAt}
 use Rattle.wf_told.specs.Resubmissions.{IsResubmittedUnder, resumed_state}
 use Rattle.wf_told.specs.Under.{IsRunUnder, Told}
 use Rattle.wf_trigger.specs.StartsSeen.{start_tree}
 use Rattle.wf_trigger.specs.declared.starts.Start.{Start}
-use Rattle.wf_views.specs.Seen.{rows_seen}
-use Rattle.wf_run.specs.Made.{Moment}
+use Rattle.wf_views.specs.Seen.{row_content, rows_seen}
+use Rattle.wf_run.specs.Made.{Lists, Moment, moment}
 
 -- the definition of one that was accepted, and the environment of a run that begins so
 abbrev pub definition : Checked → DefTree
@@ -97,3 +110,20 @@ cost_of log = cost (record_tree log)
 -- a run costs too little to be refused, beside what others cost
 abbrev pub IsWithin : ℕ → ℕ → Type 0
 IsWithin spent cost = spent + cost ≤ 67108864
+
+-- ---- a run that was put aside
+
+-- a state without its actions, its counts and ready set, and its sums
+abbrev pub Aside : Type 0
+Aside = (Lists × (List CountAt × (List CountAt × List EventAt))) × Sums
+
+-- It is one of a run that began so, which may be gone on from, and costs what its sums say.
+pub record IsAside (d : DefTree) (e : Environment) (m : RowSource) (rest : Aside) : Type 0 where
+  pub kept : IsRest row_content begun_tree decision_tree verdict_tree (graph_of d) m (depth_of d) (writes d) rest.0
+  pub sums : AreSumsOf row_content begun_tree decision_tree verdict_tree (graph_of d) cost_of_row begun_weight m.items decision_weight
+      rest.0.0.0 rest.0.0.1.0 rest.0.0.1.1.0 rest.1
+
+-- And nothing may happen in it any more.
+pub record IsAsideAtLast (checked : Checked) (start : Start) (inputs : Inputs) (rest : Aside) : Type 0 where
+  pub aside : IsAside (definition checked) (begun_with start inputs) (source (definition checked) (begun_with start inputs)) rest
+  pub over : IsOver (graph_of (definition checked)) (source (definition checked) (begun_with start inputs)) (moment rest.0.0)

@@ -18,6 +18,7 @@
 
 mod again;
 mod driven;
+mod finished;
 mod fresh;
 mod least;
 mod made;
@@ -27,6 +28,6 @@ mod runnable;
 
 pub use least::cost_too_much;
 pub use run::Ended;
-pub use runnable::Runnable;
+pub use runnable::{Runnable, is_planned};
 pub use wf_actions::Ready;
 pub use wf_ended::Ends;

@@ -17,16 +17,16 @@ use wf_trigger::Start;
 #[derive(Drop)]
 pub struct Runnable<'a> {
     pub checked: &'a Checked,
-    pub(crate) ready: &'a Ready<'a>,
+    pub ready: &'a Ready<'a>,
     ends: &'a Ends<'a>,
-    pub(crate) plan: &'a Plan,
+    pub plan: &'a Plan,
     ghost readied: { ready.now.checked.now ≡ checked.now },
     ghost ending: { ends.now.checked.now ≡ checked.now },
     ghost planned: { ∥ Plans plan.now checked.now ∥₁ },
 }
 
 /// Tells a caller that the plan is the definition's, and does nothing.
-pub(crate) fn is_planned(runnable: &Runnable<'_>)
+pub fn is_planned(runnable: &Runnable<'_>)
     ensures { Plans runnable.now.plan.now runnable.now.checked.now }
 {
     let _ = &runnable.checked;

@@ -1,3 +1,3 @@
 pub mod Shown
 pub mod Kept
-pub mod Resumed
+pub mod Rest

@@ -6,7 +6,10 @@
 //! counts and ready set are those of its tables. What actions do is asked of `wf_asks::Acts`, and what may happen next of `wf_events`.
 //!
 //! A run begins from `State::fresh`, or goes on from an old record from `State::resumed`, of which rows and open containers are given and
-//! counts and ready set are made by one walk over the graphs that are open then (`specs/Resumed`). The steps know no difference.
+//! counts and ready set are made by one walk over the graphs that are open then (`wf_resting`). The steps know no difference.
+//!
+//! A state borrows its actions. Where these are to change, as more becomes known of what they do, it is put aside as a `Rest`, which has
+//! the lists alone, and taken up again with the new ones: nothing is made anew, and nothing is copied.
 #![tactic(auto)]
 
 mod begin;
@@ -14,12 +17,12 @@ mod close;
 mod end;
 mod fresh;
 mod opening;
-mod recount;
+mod rest;
 mod resumed;
 mod seen;
 mod skip;
-mod standing;
 mod state;
 mod step;
 
+pub use rest::Rest;
 pub use state::State;

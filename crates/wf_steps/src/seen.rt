@@ -9,14 +9,14 @@ ghost use Rattle.wf_asks.specs.Instances.{address_of, instance_cmp};
 ghost use Rattle.wf_asks.specs.Known.{open_tree, store_in, writer};
 ghost use Rattle.wf_plan.specs.PlanSeen.{plan_tree};
 ghost use Rattle.wf_tables.specs.Tables.{leaf_tree};
-ghost use Rattle.wf_steps.specs.Kept.{IsOver, IsPlanned};
+ghost use Rattle.wf_steps.specs.Kept.{AreEnabled, IsOver, IsPlanned};
 ghost use Rattle.wf_steps.specs.Shown.{shown};
 
 use crate::state::State;
 use wf_asks::{Acts, Instance, OpenAt, Opens, Rows, Store};
 use wf_plan::Plan;
 use wf_room::Roomy;
-use wf_tables::LeafAt;
+use wf_tables::{EventAt, LeafAt};
 
 impl<'a, A: Acts> State<'a, A> {
     /// How many leaves run.
@@ -72,6 +72,15 @@ impl<'a, A: Acts> State<'a, A> {
         ensures { result.now.0 ≡ self.now.1.1.1.0 }
     {
         &self.opens
+    }
+
+    /// The events that may happen.
+    pub fn ready(&self) -> &Roomy<EventAt>
+        ensures { AreEnabled (A.graph self.now.0) (A.source self.now.0)
+            (shown A.row_tree A.begun_tree A.decision_tree A.verdict_tree self.now.1) result.now.0 }
+    {
+        let _count = self.ready.len();
+        &self.ready
     }
 
     /// The rows and the last writers, and the state is given up.

@@ -1,0 +1,2 @@
+pub mod RestingLemmas
+pub mod RestingRows

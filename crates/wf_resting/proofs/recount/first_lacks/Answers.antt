@@ -1,0 +1,15 @@
+use Rattle.std.proofs.Common.{◌∙◌}
+use Rattle.wf_asks.specs.Instances.{rows_in}
+use Rattle.wf_asks.specs.Known.{opens_in}
+use Rattle.wf_plan.specs.PlanSeen.{plan_tree}
+use Rattle.wf_resting.specs.Resting.{lacks_at}
+use Rattle.wf_resting.proofs.RestingLemmas.{counts_of_all}
+use Rattle.wf_resting.proofs.recount.first_lacks.Goals as goal
+
+pub returns : goal.returns
+returns g c = λ x.
+    let a = g.A.Acts in
+    c.set_counts.ensures x
+    ∙ counts_of_all (lacks_at (plan_tree c.args.plan.now) (a.source c.args.acts.now).taken (rows_in a.row_tree c.args.rows.now.0)
+    (opens_in a.decision_tree a.verdict_tree c.args.opens.now.0)) c.args.actions.now
+    c.in_ok-counts.ensures c.new.ensures (c.in_ok-make_room.ensures.items ∙ c.new-lacks.ensures) x
