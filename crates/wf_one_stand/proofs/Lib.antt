@@ -1,0 +1,2 @@
+pub mod KeyListLemmas
+pub mod OneStand

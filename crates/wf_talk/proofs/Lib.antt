@@ -1,0 +1,7 @@
+mod HearLemmas
+mod HoldLemmas
+mod TalkLemmas
+mod WholeLemmas
+mod Worked
+mod WorkedTalks
+mod Written

@@ -1,0 +1,10 @@
+pub mod Standing
+pub mod Keys
+pub mod Whole
+pub mod Line
+pub mod Hearing
+pub mod Says
+pub mod Written
+pub mod Talks
+pub mod Byte
+pub mod Seen
