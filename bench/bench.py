@@ -5,10 +5,11 @@ import definitions
 import functions
 import loops
 import measure
+import sessions
 
 SECTIONS = {section.__name__: section for section in (
     definitions.definitions, definitions.checks, definitions.inputs, definitions.traces, definitions.histories, definitions.resubmissions,
-    loops.loops, loops.kinds, loops.data, loops.steps,
+    loops.loops, loops.kinds, loops.data, loops.steps, sessions.sessions,
     functions.texts, functions.functions, functions.lists, functions.times, functions.templates)}
 
 

@@ -18,7 +18,7 @@ _wflow_words() {
 
 _wflow() {
     if [ "$COMP_CWORD" -eq 1 ]; then
-        _wflow_words "check run trace resubmit resubmit-set list drill fires" "${COMP_WORDS[1]}"
+        _wflow_words "check run trace resubmit resubmit-set list drill session fires" "${COMP_WORDS[1]}"
     else
         _wflow_files "${COMP_WORDS[COMP_CWORD]}"
     fi

@@ -3,13 +3,13 @@
 
   fuzz/harm.py [--count N] [--minutes M] [--seed N] [--jobs N] [--program PATH] [--stack KIB] [--model FOLDER]
 
-Each call is one of an example or of a row of run_rows, with one of its files changed, at times two; at a resubmission the run and the
-actions that it names may be others too. What is watched for: an end by a signal, a status that isn't the command's, a text that isn't
-one of that status (docs/MESSAGES.md), a word on standard error, over 10 seconds of the processor, over 2 GiB of memory, a stack of more
-than KIB KiB (1,024 where none is named). With --model the engine of that folder (model.py) is asked what the call owes, and status and
-text compared, where it answers within 10 seconds. The program is loaded once by each job, and up to 50 calls follow each other in a
-process (served.py). After M minutes no more calls are begun. A file that does harm is kept in fuzz/harm-found/, with the words of its
-command. The last line is 'N passed, M failed'."""
+Each call is one of an example or of a row of run_rows, with one of its files changed, at times two, or the lines of a talk; at a
+resubmission the run and the actions that it names may be others too. What is watched for: an end by a signal, a status that isn't the
+command's, a text that isn't one of that status (docs/MESSAGES.md), a word on standard error, over 10 seconds of the processor, over 2 GiB
+of memory, a stack of more than KIB KiB (1,024 where none is named). With --model the engine of that folder (model.py) is asked what the
+call owes, and status and text compared, where it answers within 10 seconds. The program is loaded once by each job, and up to 50 calls
+follow each other in a process (served.py). After M minutes no more calls are begun. A file that does harm is kept in fuzz/harm-found/,
+with the words of its command. The last line is 'N passed, M failed'."""
 import argparse
 import collections
 import functools
@@ -70,6 +70,9 @@ TRACES = Pieces(rb"# [0-9]+ [^\n]*\n|" + RUN, last=RUN, alone=b"# no run\n")
 HISTORY = rb"history (?:too long|Line [0-9]+)\n"
 NOT_AGAIN = rb"history (?:NoRun|Twice [0-9]+ [0-9]+)\n" \
     rb"|resubmit (?:NoAction %b|InLoop %b %b|NotRun %b|OtherDefinition [0-9a-f]{64} [0-9a-f]{64}|Shape %b)\n" % ((QUOTED,) * 5)
+LINE = rb"# refused [0-9]+ (?:%b|Form %b\n|NotWanted %b [0-9]+\n)" % (FILE, QUOTED, QUOTED)
+HEARD = rb"# want [^\n]* [0-9]+\n|" + LINE
+TALK = rb"\{[^\n]*\}\n# session lines [0-9]+ refused [0-9]+\n"
 MADE = {0: RUNS, 1: REFUSED, 6: rb"%b|%b|%b" % (INPUTS, SCHEDULE, TRIGGER), 8: rb"too large\n"}
 MADE_AGAIN = {0: RUN, 1: REFUSED, 6: rb"%b|%b" % (INPUTS, SCHEDULE), 7: rb"%b|%b" % (HISTORY, NOT_AGAIN), 8: rb"too large\n"}
 SAYS = {
@@ -81,8 +84,14 @@ SAYS = {
     "list": {0: Pieces(rb"run [^\n]* (?:Succeeded|Failed|Cancelled) rows [0-9]+\n", least=0), 7: HISTORY},
     "fires": {0: Pieces(rb"[0-9]{4}-[^\n]*\n", alone=b"# none\n", least=0), 1: REFUSED, 2: rb"usage: [^\n]*\n",
               6: rb"recurrence (?:NoTrigger|NotRecurrence|(?:Form|Zone) %b)\n" % QUOTED},
+    "session": {0: Pieces(HEARD + rb"|" + TALK, last=TALK, alone=b"# no run\n"), 1: REFUSED,
+                6: rb"%b|%b|session ManyRuns [0-9]+\n" % (INPUTS, TRIGGER), 8: Pieces(HEARD + rb"|too large\n", last=rb"too large\n"),
+                9: Pieces(HEARD + rb"|# open [^\n]* [0-9]+\n|input ended\n", last=rb"input ended\n", least=3)},
 }
-COUNTS = {"check": (2,), "run": (3, 4), "trace": (4,), "resubmit": (6, 7), "resubmit-set": range(7, 24), "list": (2,), "fires": (5,)}
+COUNTS = {"check": (2,), "run": (3, 4), "trace": (4,), "resubmit": (6, 7), "resubmit-set": range(7, 24), "list": (2,), "fires": (5,),
+          "session": (3,)}
+# The place of a call's standard input, among those of its words.
+INPUT = 0
 # Which words of a command are files, and of what kind.
 KINDS = {
     "check": {1: "definition"},
@@ -92,6 +101,7 @@ KINDS = {
     "resubmit-set": {1: "definition", 2: "history", 4: "inputs", 5: "schedule"},
     "list": {1: "history"},
     "fires": {1: "definition"},
+    "session": {1: "definition", 2: "inputs", INPUT: "lines"},
 }
 
 
@@ -110,6 +120,7 @@ def of_examples():
         yield ["check", "definition.json"], held
         for inputs in (name for name in held if name.startswith("inputs")):
             yield ["run", "definition.json", inputs], held
+            yield from talks_of(held, inputs)
             for schedule in (name for name in held if name.endswith("schedule")):
                 yield ["trace", "definition.json", inputs, schedule], held
             for history in (name for name in held if name.startswith("output")):
@@ -120,19 +131,33 @@ def of_examples():
             yield ["list", history], held
 
 
+def talks_of(held, inputs):
+    """Talks with the answers of INPUTS as lines, each of them three times."""
+    whole = json.loads(held[inputs])
+    lines = b"".join(json.dumps(answer).encode() + b"\n" for answer in whole.pop("answers", []))
+    if lines:
+        yield ["session", "definition.json", inputs], {**held, inputs: json.dumps(whole).encode(), INPUT: lines * 3}
+
+
 ESCAPED = {b"n": b"\n", b"r": b"\r", b"t": b"\t", b"\\": b"\\"}
+
+
+def unescaped(text):
+    return re.sub(rb"\\([nrt\\])", lambda found: ESCAPED[found.group(1)], text)
 
 
 def of_rows():
     """The calls of run_rows (the head of its main.rt says what a line means), without those of which a read or a write fails."""
-    held, failing = {}, False
+    held, failing = {INPUT: b""}, False
     for line in read("crates", "run_rows", "stdin").split(b"\n"):
         word, _, rest = line.partition(b" ")
         if word in (b"file", b"bytes"):
             name, _, text = rest.partition(b" ")
-            held[name.decode()] = text if word == b"file" else re.sub(rb"\\([nrt\\])", lambda found: ESCAPED[found.group(1)], text)
+            held[name.decode()] = text if word == b"file" else unescaped(text)
+        elif word == b"input":
+            held[INPUT] = unescaped(rest)
         elif word == b"pad":
-            held = {}
+            held = {INPUT: b""}
         elif word == b"fail":
             failing = True
         elif word == b"check":
@@ -151,7 +176,7 @@ def seeds():
         if len(words) not in COUNTS.get(words[0], ()):
             continue
         kinds = KINDS[words[0]]
-        named = {place: held.get(words[place]) for place in kinds if place < len(words)}
+        named = {place: held.get(INPUT if place == INPUT else words[place]) for place in kinds if place < len(words)}
         if any(file is None or len(file) > SIZE for file in named.values()):
             continue
         calls[words[0]][(tuple(words), tuple(named.values()))] = named
@@ -355,7 +380,8 @@ def other(engine, words, named, ended, text):
     signal.signal(signal.SIGALRM, slow)
     signal.alarm(SECONDS)
     try:
-        owed = engine(words, {words[place]: file for place, file in named.items()})
+        files = {words[place]: file for place, file in named.items() if place != INPUT}
+        owed = engine[1](words, files, named[INPUT])[:2] if INPUT in named else engine[0](words, files)
     except (Slow, RecursionError, MemoryError):
         return None, 0
     finally:
@@ -371,14 +397,14 @@ def start(base, built, options):
     folder = os.path.join(base, str(os.getpid()))
     os.mkdir(folder)
     program = served.Served(options.program, folder, built, options.stack, MEMORY)
-    engine = model.of(options.model) if options.model else None
+    engine = (model.of(options.model), model.talking(options.model)) if options.model else None
 
 
 def keep(name, words, named, why):
     kept = os.path.join(FOUND, name)
     os.makedirs(kept, exist_ok=True)
     for place, file in named.items():
-        with open(os.path.join(kept, words[place]), "wb") as copy:
+        with open(os.path.join(kept, "lines" if place == INPUT else words[place]), "wb") as copy:
             copy.write(file)
     with open(os.path.join(kept, "words"), "w") as note:
         note.write("%s\n%s\n" % (" ".join(words), why))
@@ -393,12 +419,17 @@ def work(task):
     cases, calls = [], []
     for number in range(count):
         words, named = case(rng)
+        kinds, given = KINDS[words[0]], os.devnull
         for place, file in named.items():
-            words[place] = "%s-%d" % (KINDS[words[0]][place], number)
-            with open(os.path.join(program.folder, words[place]), "wb") as copy:
+            name = "%s-%d" % (kinds[place], number)
+            with open(os.path.join(program.folder, name), "wb") as copy:
                 copy.write(file)
+            if place == INPUT:
+                given = name
+            else:
+                words[place] = name
         cases.append((words, named))
-        calls.append(("out-%d" % number, words, {}))
+        calls.append(("out-%d" % number, words, {}, given))
     for number, ((words, named), (ended, text)) in enumerate(zip(cases, program.call(calls, SECONDS))):
         ends["%s %s" % (words[0], ended.status)] += 1
         why = wrong(words, ended, text)

@@ -1,6 +1,7 @@
 """A second engine, apart from the program and from the judges here, where there is one: a folder with a package `wfo` in Python whose
 module `say` has `set_stage(number)` and `say(words, files)`, the status and the text of a call on files held by name. Where its other
-modules read a definition and inputs and give the record of an environment with layers, that is asked, too. This repository has none."""
+modules hold a talk, or read a definition and inputs and give the record of an environment with layers, that is asked, too. This repository
+has none."""
 import importlib
 import json
 import sys
@@ -18,6 +19,24 @@ def of(folder):
     def said(words, files):
         status, text = say.say(words, files)
         return status, text.encode()
+    return said
+
+
+def talking(folder):
+    """What the engine in a folder says of `session`: a function from its words, files and the bytes of standard input to status, text and
+    how many of the bytes are taken. Of so many `blanks` before these bytes it is told by their number alone."""
+    sys.path.insert(0, folder)
+    say, session = importlib.import_module("wfo.say"), importlib.import_module("wfo.session")
+    say.set_stage(STAGE)
+    most = session.MOST_BYTES
+
+    def said(words, files, source, blanks=0):
+        session.MOST_BYTES = most - blanks
+        try:
+            status, text, taken = session.session(files, say.parse_words(words)[1], source)
+            return status, text.encode(), taken and taken + blanks
+        except say.Stop as refused:
+            return refused.status, (refused.line + "\n").encode(), 0
     return said
 
 

@@ -1,5 +1,5 @@
 #!/usr/bin/env python3
-"""Lets each call of files and of the output fail, or give less than it was asked for.
+"""Lets each call of files, of the input and of the output fail, or give less than it was asked for.
 
   fuzz/outside.py [--program PATH]
 
@@ -7,8 +7,10 @@ Each call of calls.py is made once as it is, and then
 - with each open and each read of a file failing, by several errors: it has to end with status 3 and `cannot read` with the file's name,
   or with status 5 where the system says that it is for want of memory;
 - with reads that give but 1, 7 or 4,096 bytes: it has to end as it does otherwise;
+- with each read of a talk's input failing: with status 3, what the whole lines before it make it say, and `cannot read input`;
 - with each write failing, by several errors or since nothing is taken, whole or in pieces of 1, 16 and 4,096 bytes: it has to end with
-  status 4 and the pieces before it written, and as it does otherwise where the text ends before that write;
+  status 4 and the pieces before it written, and as it does otherwise where the text ends before that write; a talk writes what each line
+  makes it say by itself;
 - with a write and an open failing: with status 4 and nothing written.
 The last line is 'N passed, M failed'."""
 import argparse
@@ -19,6 +21,7 @@ import sys
 import time
 
 import calls
+import moments
 import served
 
 SECONDS = 30
@@ -26,7 +29,7 @@ OPENS = (errno.ENOENT, errno.EACCES, errno.EMFILE, errno.ENOMEM, errno.EIO)
 READS = (errno.EIO, errno.EISDIR, errno.ENOMEM)
 WRITES = (errno.ENOSPC, errno.EPIPE, errno.EIO, errno.EBADF, 0)
 # The words of a command that are files, in the order in which they are read.
-READ = {"check": (1,), "run": (1, 2), "trace": (1, 2, 3), "list": (1,), "fires": (1,),
+READ = {"check": (1,), "run": (1, 2), "trace": (1, 2, 3), "list": (1,), "fires": (1,), "session": (1, 2),
         "resubmit": (1, 2, 5, 6), "resubmit-set": (1, 2, 4, 5)}
 
 
@@ -40,10 +43,13 @@ def unread(name, error):
     return (5, b"out of memory\n") if error == errno.ENOMEM else (3, b"cannot read %s\n" % json.dumps(name).encode())
 
 
-def of_files(words, plain, own, read_before):
+def files_of(plain):
+    return [plain.words[place] for place in READ[plain.words[0]] if place < len(plain.words)]
+
+
+def of_files(plain, read_before):
     """The plans of failing files, with what each has to end with: status and text."""
-    files = [words[place] for place in READ[words[0]] if place < len(words)]
-    for number, name in enumerate(files, 1):
+    for number, name in enumerate(files_of(plain), 1):
         for error in OPENS:
             yield served.fails("open", number, error=error), unread(name, error)
         for read in range(read_before[number - 1] + 1, read_before[number] + 1):
@@ -51,27 +57,35 @@ def of_files(words, plain, own, read_before):
                 yield served.fails("read", read, error=error), unread(name, error)
         yield {**served.fails("open", number), **served.fails("write", 1)}, (4, b"")
     for most in (1, 7, 4096):
-        yield {"read": (0, 0, 0, most)}, (plain.status, own)
+        yield {"read": (0, 0, 0, most)}, (plain.ended.status, plain.own)
 
 
-def of_output(plain, own):
+def of_input(plain, before):
+    """The same of a failing input, of whose reads so many of files come before."""
+    for number in range(1, plain.moments[-1][0] + 1):
+        status, made = moments.cut_by_source(plain.ended.status, plain.moments, number)
+        for error in READS:
+            yield served.fails("read", before + number, error=error), (status, b"".join(text for _, text in made))
+
+
+def of_output(plain):
     """The same of a failing output."""
-    for piece in (len(own), 4096, 16, 1):
-        writes = -(-len(own) // piece)
-        yield {"write": (0, 0, 0, piece)}, (plain.status, own)
+    for piece in (len(plain.own), 4096, 16, 1):
+        yield {"write": (0, 0, 0, piece)}, (plain.ended.status, plain.own)
+        writes = sum(-(-len(text) // piece) for _, text in plain.moments)
         for number in some(range(1, writes + 2), 400):
             for error in WRITES if piece > 1 else WRITES[number % len(WRITES):][:1]:
-                owed = (4, own[:piece * (number - 1)]) if number <= writes else (plain.status, own)
+                owed = moments.cut_by_sink(plain.ended.status, plain.moments, piece, number)[:2]
                 yield served.fails("write", number, error=error, most=piece), owed
 
 
-def tried(program, words, plain, own):
+def tried(program, plain):
     """How many calls ended as they have to, and what was wrong."""
-    files = [words[place] for place in READ[words[0]] if place < len(words)]
-    counted = program.call([("out", words, served.fails("open", number)) for number in range(1, len(files) + 1)], SECONDS, 1)
-    read_before = [ended.calls["read"] for ended, _ in counted] + [plain.calls["read"]]
-    plans = [*of_files(words, plain, own, read_before), *of_output(plain, own)]
-    made = [("out-%d" % (place % served.BATCH), words, plan) for place, (plan, _) in enumerate(plans)]
+    failing = [("out", plain.words, served.fails("open", number), plain.given) for number in range(1, len(files_of(plain)) + 1)]
+    reads = plain.ended.calls["read"] - plain.moments[-1][0]
+    read_before = [ended.calls["read"] for ended, _ in program.call(failing, SECONDS, 1)] + [reads]
+    plans = [*of_files(plain, read_before), *of_input(plain, reads), *of_output(plain)]
+    made = [("out-%d" % (place % served.BATCH), plain.words, plan, plain.given) for place, (plan, _) in enumerate(plans)]
     harms = []
     for (plan, owed), (ended, text) in zip(plans, program.call(made, SECONDS)):
         if ended.signal or (ended.status, text) != owed:
@@ -86,12 +100,12 @@ def main():
     options = parser.parse_args()
     began, good, bad = time.time(), 0, 0
     with served.fast_folder() as folder, served.Served(options.program, folder, served.library(folder), memory=2**31) as program:
-        for name, words, plain, own in calls.prepared(program, folder):
-            passed, harms = tried(program, words, plain, own)
+        for plain in calls.prepared(program, folder):
+            passed, harms = tried(program, plain)
             print("%s: %d opens, %d reads, %d bytes written; %d calls" % (
-                name, plain.calls["open"], plain.calls["read"], len(own), passed + len(harms)), flush=True)
+                plain.name, plain.ended.calls["open"], plain.ended.calls["read"], len(plain.own), passed + len(harms)), flush=True)
             for harm in harms[:20]:
-                print("  %s: %s" % (" ".join(words), harm), flush=True)
+                print("  %s: %s" % (" ".join(plain.words), harm), flush=True)
             good += passed
             bad += len(harms)
         said = program.said_on_error()

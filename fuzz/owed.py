@@ -13,7 +13,9 @@ import sys
 
 import histories
 import model
+import moments
 import recurrences
+import rules
 from fuzz import wanted
 from reading import read
 
@@ -23,7 +25,8 @@ USAGE = (
     " | list HISTORY | drill N | session DEF INPUTS | fires DEF TRIGGER FROM N\n"
 )
 # How many words each command has; and what is read, with bytes that it can't be.
-COUNTS = {"check": (2,), "run": (3, 4), "trace": (4,), "list": (2,), "drill": (2,), "fires": (5,), "resubmit": (6, 7), "resubmit-set": range(7, 507)}
+COUNTS = {"check": (2,), "run": (3, 4), "trace": (4,), "list": (2,), "drill": (2,), "fires": (5,), "session": (3,), "resubmit": (6, 7),
+          "resubmit-set": range(7, 507)}
 ESCAPED = {"n": "\n", "r": "\r", "t": "\t", "\\": "\\"}
 STAGES = [(b"definition", b""), (b"inputs", b""), (b"schedule", b"\n")]
 AGAIN = [(b"definition", b""), (b"history", b"x"), (b"inputs", b""), (b"schedule", b"\n")]
@@ -89,6 +92,41 @@ def drilled(size, engine):
     return engine(["drill", size], {}) if engine else (None, b"")
 
 
+# What the second engine says of calls, with and without a talk.
+class Engine:
+    def __init__(self, folder):
+        self.said, self.talking, self.talks = model.of(folder), model.talking(folder), {}
+
+    def talk(self, definition, inputs, source, blanks):
+        """Status and moments of a talk."""
+        key = definition, inputs, source, blanks
+        if key not in self.talks:
+            self.talks[key] = self.held(*key)
+        return self.talks[key]
+
+    def held(self, definition, inputs, source, blanks):
+        files = {"definition": definition, "inputs": inputs}
+        # (a talk in which nothing is asked for costs what the run does, which the engine says sooner)
+        if not has_connectors(definition) and self.said(["run", *files], files)[0] == 8:
+            return 8, [(0, b"too large\n")]
+        return moments.of(lambda front: self.talking(["session", *files], files, front, blanks)[:2], source, blanks)
+
+
+def has_connectors(definition):
+    held = rules.definition_in(read(definition, len(definition)))
+    return any(rules.type_of(action) in rules.CONNECTORS for _, action, _ in rules.actions(held))
+
+
+# `session`: its status and moments. DEF and INPUTS are read as `run` does; what is said of them and of the lines the engine tells.
+def talked(files, words, source, blanks, engine):
+    definition = files.read(words[1])
+    refused = wanted("run", definition, b"")
+    if not refused[1].startswith(b"inputs "):
+        return refused[0], [(0, refused[1])]
+    inputs = files.read(words[2])
+    return engine.talk(definition, inputs, source, blanks) if engine else (None, [])
+
+
 # A file is read once those before it are taken, which shows by what is refused where the next one is unfit.
 def said(files, words, engine):
     if len(words) not in COUNTS.get(words[0], ()):
@@ -122,18 +160,24 @@ def unescaped(text):
     return re.sub(r"\\([nrt\\])", lambda found: ESCAPED[found.group(1)], text)
 
 
-# What of a text is taken where a write takes so many bytes, and the one of this number, counted from 1, fails.
-def taken(text, piece, failing):
-    writes = -(-len(text) // piece)
-    return text[:piece * (failing - 1)] if 1 <= failing <= writes else text
+# The status of a call and its moments; all commands but `session` write a text at once, and take nothing of the source.
+def moments_of(files, words, source, blanks, engine):
+    if words[0] == "session" and len(words) in COUNTS["session"]:
+        try:
+            return talked(files, words, source, blanks, engine)
+        except Unread as line:
+            return 3, [(0, str(line).encode())]
+    status, text = said(files, words, engine and engine.said)
+    return status, [(0, text)]
 
 
 def main():
     parser = argparse.ArgumentParser(description=__doc__, formatter_class=argparse.RawDescriptionHelpFormatter)
     parser.add_argument("--model")
     words = parser.parse_args()
-    engine = model.of(words.model) if words.model else None
+    engine = Engine(words.model) if words.model else None
     held, last, trouble, unknown = {}, None, {}, 0
+    source, blanks = b"untouched", 0
     for line in sys.stdin.read().split("\n"):
         word, _, rest = line.partition(" ")
         if word in ("file", "bytes"):
@@ -141,6 +185,10 @@ def main():
             held[last] = (text if word == "file" else unescaped(text)).encode()
         elif word == "pad":
             held[last] = held[last].ljust(int(rest))
+        elif word == "input":
+            source, blanks = unescaped(rest).encode(), 0
+        elif word == "indent":
+            blanks = int(rest) - len(source)
         elif word == "fail":
             trouble[rest.split()[0]] = int(rest.split()[1])
         elif word == "pieces":
@@ -150,16 +198,20 @@ def main():
             print("%d %s" % (status, text.decode()), end="")
         elif word == "words":
             files = Files(held, trouble.get("read"))
-            status, whole = said(files, rest.split(), engine)
+            status, told = moments_of(files, rest.split(), source, blanks, engine)
             if status is None:
                 unknown += 1
                 print("owed: nothing is known of a row with the words %s" % rest, file=sys.stderr)
                 continue
-            part = taken(whole, trouble.get("pieces", len(whole) or 1), trouble.get("write", 0))
-            cut = part != whole
+            status, told = moments.cut_by_source(status, told, trouble.get("input", 0))
+            piece = trouble.get("pieces", moments.MOST_BYTES)
+            ended, text, calls = moments.cut_by_sink(status, told, piece, trouble.get("write", 0))
+            # a call that fails takes no byte
+            taken = calls - 1 if 0 < trouble.get("input", 0) <= calls else calls
+            left = max(len(source) + blanks - taken, 0)
             print("words %s: status %d, failed reads %d, failed writes %d, left in the source %d" % (
-                rest, 4 if cut else status, files.faults, cut, len("untouched")))
-            print(part.decode())
+                rest, ended, files.faults, ended == 4, left))
+            print(text.decode())
             trouble = {}
     return 1 if unknown else 0
 

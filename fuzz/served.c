@@ -27,7 +27,7 @@ struct plan {
     uint32_t error, most;
 };
 
-/* A call of the program. Behind it come `length` bytes: the file of the output, and the words, each with a byte 0 behind it. */
+/* A call of the program. Behind it come `length` bytes: the files of its output and its input, and the words, each with a byte 0 behind it. */
 struct request {
     uint32_t words, length, seconds, unused;
     struct plan plans[KINDS];
@@ -169,7 +169,15 @@ static int find_firsts(struct dl_phdr_info *object, size_t size, void *data)
     return 1;
 }
 
-/* Reads a request and makes the call, whose output is a file, and which is ended by SIGPROF after so many seconds of the processor. */
+/* Opens a file in the place of another. */
+static void put_at(int place, const char *name, int flags)
+{
+    int file = syscall(SYS_open, name, flags, 0666);
+    need(file >= 0 && dup2(file, place) == place && close(file) == 0);
+}
+
+/* Reads a request and makes the call, whose output and input are files, and which is ended by SIGPROF after so many seconds of the
+   processor. */
 static void call(char **environment)
 {
     static char *words[WORDS + 2] = {"wflow"};
@@ -178,12 +186,12 @@ static void call(char **environment)
     need(asked.length < BYTES && asked.words <= WORDS);
     get(text, asked.length);
     memset(shared->calls, 0, sizeof shared->calls);
-    char *word = text + strlen(text) + 1;
+    char *input = text + strlen(text) + 1, *word = input + strlen(input) + 1;
     for (uint32_t at = 1; at <= asked.words; at++, word += strlen(word) + 1)
         words[at] = word;
     words[asked.words + 1] = NULL;
-    int out = syscall(SYS_open, text, O_WRONLY | O_CREAT | O_TRUNC, 0666);
-    need(out >= 0 && dup2(out, 1) == 1 && close(out) == 0);
+    put_at(1, text, O_WRONLY | O_CREAT | O_TRUNC);
+    put_at(0, input, O_RDONLY);
     limit.it_value.tv_sec = asked.seconds;
     uint64_t before = microseconds_of(used_by(RUSAGE_SELF));
     need(setitimer(ITIMER_PROF, &limit, NULL) == 0);

@@ -82,8 +82,8 @@ class Served:
 
     def _ask(self, calls, seconds):
         asked = COUNT.pack(len(calls))
-        for out, words, plan in calls:
-            text = b"".join(os.fsencode(word) + b"\0" for word in (out, *words))
+        for out, words, plan, *given in calls:
+            text = b"".join(os.fsencode(word) + b"\0" for word in (out, *(given or [os.devnull]), *words))
             asked += REQUEST.pack(len(words), len(text), seconds, 0)
             asked += b"".join(PLAN.pack(*plan.get(kind, (0, 0, 0, 0))) for kind in KINDS) + text
         os.write(self.requests, asked)
@@ -93,10 +93,11 @@ class Served:
             yield Ended(signal, None if signal else os.WEXITSTATUS(status), kibibytes, used / 1e6, dict(zip(KINDS, counts)))
 
     def call(self, calls, seconds=10, together=BATCH):
-        """Makes calls, each with the file of its output, its words and its plan, and tells of each how it ended and what it wrote."""
+        """Makes calls, each with the file of its output, its words, its plan and, where it has one, the file of its input; and tells of each
+        how it ended and what it wrote."""
         for first in range(0, len(calls), together):
             some = calls[first:first + together]
-            for (out, _, _), ended in zip(some, list(self._ask(some, seconds))):
+            for (out, *_), ended in zip(some, list(self._ask(some, seconds))):
                 with open(os.path.join(self.folder, out), "rb") as file:
                     yield ended, file.read()
 

@@ -7,7 +7,11 @@
 //! - `bytes NAME TEXT`: the same, where `\n` in the text stands for a line feed, `\r` for a carriage return, `\t` for a tab and `\\` for a
 //!   backslash;
 //! - `pad SIZE`: the file of the last such line is as long as that many bytes, by blanks behind its text;
-//! - `fail read N`, `fail write N`: in the next row the Nth read of a file, or the Nth write, fails;
+//! - `input TEXT`: from here on the source holds the text, with escapes as above, and nothing else; at first it holds some bytes that no
+//!   command but `session` reads;
+//! - `indent SIZE`: the source is as long as that many bytes, by blanks in front of its text;
+//! - `fail read N`, `fail write N`, `fail input N`: in the next row the Nth read of a file, the Nth write, or the Nth call of the source,
+//!   fails;
 //! - `pieces SIZE`: in the next row a write takes at most so many bytes;
 //! - `words WORD ..`: a row. It is answered at once;
 //! - `check TEXT`: a row of `check` on a file that holds the text, answered in one line: the status and what is written.
@@ -33,17 +37,20 @@ struct Held {
     bytes: Vec<u8>,
 }
 
-// What fails in the next row: the number of a read and of a write, where 0 is none, and how many bytes a write takes at most.
+// What fails in the next row: the number of a read, of a write and of a call of the source, where 0 is none, and how many bytes a write
+// takes at most.
 #[derive(Clone, Copy)]
 struct Trouble {
     read: u64,
     write: u64,
+    input: u64,
     piece: u64,
 }
 
 const NO_TROUBLE: Trouble = Trouble {
     read: 0,
     write: 0,
+    input: 0,
     piece: ROOM,
 };
 
@@ -59,6 +66,9 @@ fn with_trouble(trouble: Trouble, line: &str) -> Trouble {
     }
     if let Some(count) = line.strip_prefix("fail write ") {
         more.write = number(count);
+    }
+    if let Some(count) = line.strip_prefix("fail input ") {
+        more.input = number(count);
     }
     if let Some(size) = line.strip_prefix("pieces ") {
         more.piece = number(size);
@@ -126,6 +136,14 @@ fn pad(held: &mut Vec<Held>, size: u64) -> Result<(), AllocError> {
     Ok(())
 }
 
+// The text behind as many blanks as make it that long.
+fn indented(alloc: Global, text: &[u8], size: u64) -> Result<Vec<u8>, AllocError> {
+    let mut bytes = Vec::new(alloc);
+    bytes.resize((size as usize).saturating_sub(text.len()), b' ')?;
+    bytes.extend_from_slice(text)?;
+    Ok(bytes)
+}
+
 fn files_of(alloc: Global, held: &[Held], trouble: Trouble) -> Result<MemFiles, AllocError> {
     let mut files = MemFiles::new(alloc);
     files.fail_at(trouble.read)?;
@@ -143,6 +161,12 @@ fn words_of(alloc: Global, line: &str) -> Result<Vec<Text>, AllocError> {
     Ok(words)
 }
 
+fn source_of(alloc: Global, input: &[u8], trouble: Trouble) -> Result<MemSource, AllocError> {
+    let mut source = MemSource::new(alloc, input)?;
+    source.fail_at(trouble.input)?;
+    Ok(source)
+}
+
 fn sink_of(alloc: Global, trouble: Trouble) -> Result<MemSink, AllocError> {
     let mut sink = MemSink::new(alloc, trouble.piece.max(1), ROOM)?;
     sink.fail_at(trouble.write)?;
@@ -152,13 +176,14 @@ fn sink_of(alloc: Global, trouble: Trouble) -> Result<MemSink, AllocError> {
 fn answer<R: Print + AllocGlobal>(
     rt: &R,
     held: &[Held],
+    input: &[u8],
     trouble: Trouble,
     line: &str,
 ) -> io::Result<()> {
     let alloc = rt.alloc();
     let words = words_of(alloc, line)?;
     let mut files = files_of(alloc, held, trouble)?;
-    let mut source = MemSource::new(alloc, b"untouched")?;
+    let mut source = source_of(alloc, input, trouble)?;
     let mut sink = sink_of(alloc, trouble)?;
     let status = serve_words(alloc, &words, &mut files, &Printer, &mut source, &mut sink);
     println!(rt;
@@ -192,6 +217,7 @@ fn main(rt: HostRuntime) -> io::Result<()> {
     let alloc = rt.alloc();
     let rows = io::read_to_string(alloc, rt.reader())?;
     let mut held: Vec<Held> = Vec::new(alloc);
+    let mut input = b"untouched".to_vec(alloc)?;
     let mut trouble = NO_TROUBLE;
     for line in rows.lines() {
         trouble = with_trouble(trouble, line);
@@ -199,11 +225,17 @@ fn main(rt: HostRuntime) -> io::Result<()> {
         if let Some(size) = line.strip_prefix("pad ") {
             pad(&mut held, number(size))?;
         }
+        if let Some(text) = line.strip_prefix("input ") {
+            input = unescaped(alloc, text)?;
+        }
+        if let Some(size) = line.strip_prefix("indent ") {
+            input = indented(alloc, &input, number(size))?;
+        }
         if let Some(definition) = line.strip_prefix("check ") {
             answer_check(&rt, definition)?;
         }
         if let Some(words) = line.strip_prefix("words ") {
-            answer(&rt, &held, trouble, words)?;
+            answer(&rt, &held, &input, trouble, words)?;
             trouble = NO_TROUBLE;
         }
     }

@@ -25,8 +25,9 @@ use Rattle.wf_top.specs.Words.{AskedTree, asked_of, resubmits}
 use Rattle.wf_top.specs.declared.said.Verdict.{Verdict}
 use Rattle.wf_top.specs.declared.said.Verdict.TheVariants.{History, Inputs}
 use Rattle.wf_top.specs.declared.words.Command.{Command}
-use Rattle.wf_top.specs.declared.words.Command.TheVariants.{Check, Run, Trace, Resubmit, ResubmitSet, Drill, Fires}
-use Rattle.wf_top.proofs.CommandOutcomes.{IsTold, MayBeSaid, defined_on, held_on, say_by}
+use Rattle.wf_top.specs.declared.words.Command.TheVariants.{Check, Run, Trace, Resubmit, ResubmitSet, Drill, Fires, Session}
+use Rattle.wf_top.proofs.Spoken.{again_no_talk}
+use Rattle.wf_top.proofs.Completeness.{no_talk, IsTold, MayBeSaid, defined_on, held_on, say_by}
 
 -- nothing stands against what may be resubmitted and doesn't cost too much
 abbrev pub NothingAgainst : Type 0
@@ -45,6 +46,7 @@ module _ (bytes_of : List ℕ → Option (List ℕ)) (words : List (List ℕ)) (
   again_on Trace d anew holds saying = absurd cc
   again_on (Fires from count) d anew holds saying = absurd cc
   again_on (Drill n) d anew holds saying = absurd cc
+  again_on Session d anew holds saying = absurd cc
   again_on Command.List d anew holds saying = absurd cc
   again_on Resubmit d anew holds saying = defined_on bytes_of words verdict text Resubmit d holds saying
   again_on ResubmitSet d anew holds saying = defined_on bytes_of words verdict text ResubmitSet d holds saying
@@ -107,7 +109,8 @@ pub serves_remade : NothingAgainst → (held : Held) (words : List (List ℕ)) (
     IsToldAgain d log (asked_of command words).names inputs schedule before after result)
 serves_remade nothing None words old new before after count later result said = tt
 serves_remade nothing (Some bytes_of) words old new before after count later result said =
-    λ command d log inputs schedule passes same calm. elim (said same calm) [
+    λ command d log inputs schedule passes same calm.
+    elim (said (no_talk bytes_of words command (again_no_talk command passes.again) passes.definition_held.names) same calm) [
       | inl all ↦
           let is = says_again bytes_of words result all.0 nothing command d log inputs schedule passes all.1 in
           inl (all.0, is.0, is.1, all.2)

@@ -1,5 +1,5 @@
 -- What words say over files that tell is one thing, where the definition that they hold was read.
-use Rattle.std.proofs.Common.{◌≡◌, ◌≤◌, ℕ, List, [], Bool, Option, None, Some, Result, Ok, Err, inl, inr, refl, ap, subst, sym, ◌∙◌}
+use Rattle.std.proofs.Common.{◌≡◌, ◌≤◌, ℕ, List, [], ◌∷◌, Bool, Option, None, Some, Result, Ok, Err, inl, inr, refl, ap, subst, sym, ◌∙◌}
 use Rattle.std.specs.Prelude.{codes}
 use Rattle.std.specs.Option.{option_map}
 use Rattle.wf_answers.specs.Inputs.{InputsTree}
@@ -24,7 +24,7 @@ use Rattle.wf_top.specs.Commands.{accepted, defined, judged_definition, judged_h
 use Rattle.wf_top.specs.Commands.{recurs, scheduled, triggered}
 use Rattle.wf_drill.specs.Drill.{drill_definition, drill_inputs}
 use Rattle.wf_told.specs.Measured.{IsMeasured}
-use Rattle.wf_told.specs.Records.{runs_records}
+use Rattle.wf_told.specs.Records.{runs_records, starts_of}
 use Rattle.wf_told.specs.declared.measure.Measure.{Measure}
 use Rattle.wf_val.specs.WellFormed.{IsWellFormed}
 use Rattle.wf_top.proofs.DrillLemmas.{was_read}
@@ -37,18 +37,21 @@ use Rattle.wf_files.specs.Form.{history_form, schedule_form, value_form}
 use Rattle.wf_files.specs.declared.fault.FindFault.{FindFault}
 use Rattle.wf_record.specs.Record.{RecordTree}
 use Rattle.wf_top.specs.Limits.{definition_bytes}
-use Rattle.wf_top.specs.Plan.{Plan, Says, Reads, Makes, Remakes, Drills, MaySay, within}
+use Rattle.wf_top.specs.Plan.{Plan, Says, Reads, Makes, Remakes, Drills, Talks, MaySay, within}
 use Rattle.wf_top.specs.Ran.{HoldsDefinition}
 use Rattle.wf_top.specs.Resubmit.{judged, remade, remade_under, remade_with, resubmit}
 use Rattle.wf_top.specs.Served.{PlanSays, Say, number}
+use Rattle.wf_top.specs.Session.{joined, session, started}
+use Rattle.wf_trigger.specs.Starts.{StartTree}
+use Rattle.wf_trigger.specs.declared.fault.TriggerFault.{TriggerFault}
 use Rattle.wf_top.specs.Told.{MayTell, MayTellAgain, SaysFault, SaysRefusal}
 use Rattle.wf_top.specs.Words.{AskedTree, command_of, is_traced, one_asked, schedule_word, set_asked, word}
-use Rattle.wf_top.proofs.CommandOutcomes.{read_on}
+use Rattle.wf_top.proofs.Completeness.{read_on}
 use Rattle.wf_files.specs.declared.fault.FormFault.{FormFault}
 use Rattle.wf_top.specs.declared.said.Verdict.{Verdict}
-use Rattle.wf_top.specs.declared.said.Verdict.TheVariants.{History, Inputs}
+use Rattle.wf_top.specs.declared.said.Verdict.TheVariants.{Definition, History, Inputs}
 use Rattle.wf_top.specs.declared.words.Command.{Command}
-use Rattle.wf_top.specs.declared.words.Command.TheVariants.{Check, Run, Trace, Resubmit, ResubmitSet, Drill, Fires}
+use Rattle.wf_top.specs.declared.words.Command.TheVariants.{Check, Run, Trace, Resubmit, ResubmitSet, Drill, Fires, Session}
 
 -- ---- an accepted definition breaks no rule
 
@@ -208,6 +211,7 @@ module _ (one : OneTextIsTold) (again : AreOneThing) (figures : FiguresAreOne) (
   AreOfRead (Makes traced d inputs schedule) = IsRead d × (broken_of d ≡ None)
   AreOfRead (Remakes d r names inputs schedule) = IsRead d × (broken_of d ≡ None)
   AreOfRead (Drills n d inputs) = IsRead d × (broken_of d ≡ None)
+  AreOfRead (Talks d start inputs) = Unit {0}
 
   plan_alike : (plan : Plan) → AreOfRead plan → (v w : Verdict) (text other : List ℕ) → MaySay (Some bytes_of) plan v text →
       MaySay (Some bytes_of) plan w other → (v ≡ w) × (text ≡ other)
@@ -223,6 +227,7 @@ module _ (one : OneTextIsTold) (again : AreOneThing) (figures : FiguresAreOne) (
       told_again_alike again d of_read.0 of_read.1 r names inputs schedule v w text other first second
   plan_alike (Drills n d inputs) of_read v w text other first second =
       drill_alike figures n d of_read.0 of_read.1 inputs v w text other first second
+  plan_alike (Talks d start inputs) of_read v w text other first second = absurd first
 
   module _ (traced : Bool) (d : DefTree) (was : IsRead d) (unbroken : broken_of d ≡ None) where
     schedule_read : (inputs : InputsTree) (form : Result (List ℕ) FormFault) → AreOfRead (judged_schedule traced d inputs form)
@@ -275,6 +280,19 @@ module _ (one : OneTextIsTold) (again : AreOneThing) (figures : FiguresAreOne) (
   accepted_read Command.List d was unbroken = tt
   accepted_read (Fires from count) d was unbroken = tt
   accepted_read (Drill n) d was unbroken = tt
+  accepted_read Session d was unbroken = tt
+
+  started_read : (d : DefTree) (inputs : InputsTree) (found : Result (List StartTree) TriggerFault) → AreOfRead (started d inputs found)
+  started_read d inputs (Err fault) = tt
+  started_read d inputs (Ok []) = tt
+  started_read d inputs (Ok (start ∷ [])) = tt
+  started_read d inputs (Ok (start ∷ next ∷ starts)) = tt
+
+  session_read : (definition inputs : List ℕ) → AreOfRead (session definition inputs)
+  session_read definition inputs = λ bytes there.
+      judged_read Definition (codes "definition ") (joined inputs) (definition_form (within _ bytes)) (λ d. λ more also.
+      judged_read Inputs (codes "inputs ") (λ i. started d i (starts_of d i)) (inputs_form (within _ more))
+      (λ i. started_read d i (starts_of d i)))
 
   recurs_read : (from count : ℕ) (found : Result Recurrence RecurrenceFault) → AreOfRead (recurs from count found)
   recurs_read from count (Ok r) = tt
@@ -327,6 +345,7 @@ module _ (one : OneTextIsTold) (again : AreOneThing) (figures : FiguresAreOne) (
     plan_read ResubmitSet names = defined_read ResubmitSet names
     plan_read (Fires from count) names = λ bytes there. value_read (word words 2) from count (value_form (within _ bytes))
     plan_read (Drill n) names = drill_read n (drill_size words n names) (definition_of (drill_definition n)) refl
+    plan_read Session names = session_read (word words 1) (word words 2)
     plan_read Command.List names = λ bytes there. history_read (listing_form (within _ bytes))
 
     said_alike : (s u : ℕ) (text other : List ℕ) (command : Option Command) → command_of words ≡ command →

@@ -1,14 +1,13 @@
 -- A command asks for no file but those that its words name.
-use Rattle.std.proofs.Common.{◌≡◌, ◌⊎◌, ◌<◌, ℕ, List, [], length, Bool, true, Option, None, Some, Result, Ok, Err, inl, inr, refl, subst, sym}
-use Rattle.std.proofs.Common.{arith}
+use Rattle.std.proofs.Common.{◌≡◌, ◌⊎◌, ◌<◌, ℕ, List, [], ◌∷◌, length, Bool, true, Option, None, Some, Result, Ok, Err, inl, inr, refl}
+use Rattle.std.proofs.Common.{subst, sym, arith}
 use Rattle.std.specs.Prelude.{Contains, codes, slice_get}
-use Rattle.std.specs.Option.{IfSome}
-use Rattle.std.specs.Option.{option_map}
+use Rattle.std.specs.Option.{IfSome, option_map}
 use Rattle.std.proofs.lemmas.Grind.{common_steps}
 use Rattle.std.proofs.lemmas.List.Elements.{Contains-get_or}
 use Rattle.std.proofs.lemmas.Option.{get_or_from_slice_get, slice_get_within}
 use Rattle.wf_outside.specs.Outside.{Held}
-use Rattle.wf_top.specs.Plan.{Plan, Says, Reads, Makes, Remakes, Drills, ComesTo, AsksAmong}
+use Rattle.wf_top.specs.Plan.{Plan, Says, Reads, Makes, Remakes, Drills, Talks, ComesTo, AsksAmong}
 use Rattle.wf_answers.specs.Inputs.{InputsTree}
 use Rattle.wf_def.specs.DefTree.{DefTree}
 use Rattle.wf_history.specs.History.{ListedTree}
@@ -27,12 +26,16 @@ use Rattle.wf_top.specs.Commands.{plan, plan_of, accepted, defined, judged_defin
 use Rattle.wf_top.specs.Commands.{judged_value, recurs, run, scheduled, triggered}
 use Rattle.wf_top.specs.Resubmit.{judged, remade, remade_under, remade_with, resubmit}
 use Rattle.wf_top.specs.Served.{FailedAt}
-use Rattle.wf_top.proofs.LengthLemmas.{drill_length, fires_length, resubmit_length, set_length, trace_length}
+use Rattle.wf_top.specs.Session.{joined, session, started}
+use Rattle.wf_told.specs.Records.{starts_of}
+use Rattle.wf_trigger.specs.Starts.{StartTree}
+use Rattle.wf_trigger.specs.declared.fault.TriggerFault.{TriggerFault}
+use Rattle.wf_top.proofs.LengthLemmas.{drill_length, fires_length, resubmit_length, run_length, session_length, set_length, trace_length}
 use Rattle.wf_top.specs.Words.{AskedTree, command_of, is_traced, makes_runs, one_asked, schedule_word, set_asked, word}
 use Rattle.wf_top.specs.declared.said.Verdict.{Verdict}
-use Rattle.wf_top.specs.declared.said.Verdict.TheVariants.{History, Inputs}
+use Rattle.wf_top.specs.declared.said.Verdict.TheVariants.{Definition, History, Inputs}
 use Rattle.wf_top.specs.declared.words.Command.{Command}
-use Rattle.wf_top.specs.declared.words.Command.TheVariants.{Check, Run, Trace, Resubmit, ResubmitSet, Drill, Fires}
+use Rattle.wf_top.specs.declared.words.Command.TheVariants.{Check, Run, Trace, Resubmit, ResubmitSet, Drill, Fires, Session}
 use Rattle.wf_files.specs.declared.fault.FormFault.{FormFault}
 
 asked : (held : Held) (words : List (List ℕ)) (plan : Plan) (name : List ℕ) → AsksAmong words plan → ComesTo held plan name →
@@ -46,6 +49,7 @@ asked held words (Reads first limit next) name among comes =
 asked held words (Makes traced d inputs schedule) name among comes = absurd comes
 asked held words (Remakes d r names inputs schedule) name among comes = absurd comes
 asked held words (Drills n d inputs) name among comes = absurd comes
+asked held words (Talks d start inputs) name among comes = absurd comes
 
 schedule_asks : (words : List (List ℕ)) (traced : Bool) (d : DefTree) (inputs : InputsTree) (form : Result (List ℕ) FormFault) →
     AsksAmong words (judged_schedule traced d inputs form)
@@ -76,9 +80,6 @@ module _ (words : List (List ℕ)) (traced : Bool) (d : DefTree) where
 check_length : (words : List (List ℕ)) → command_of words ≡ Some Check → 1 < length words
 check_length words is = grind (arith, common_steps)
 
-run_length : (words : List (List ℕ)) → command_of words ≡ Some Run → 2 < length words
-run_length words is = grind (arith, common_steps)
-
 list_length : (words : List (List ℕ)) → command_of words ≡ Some Command.List → 1 < length words
 list_length words is = grind (arith, common_steps)
 
@@ -93,6 +94,7 @@ second_length Command.List words makes is = absurd (cc)
 second_length Resubmit words makes is = absurd (cc)
 second_length ResubmitSet words makes is = absurd (cc)
 second_length (Drill n) words makes is = absurd (cc)
+second_length Session words makes is = absurd (cc)
 
 run_asks : (words : List (List ℕ)) (traced : Bool) (d : DefTree) → 2 < length words →
     AsksAmong words (run traced (word words 2) (schedule_word words) d)
@@ -100,6 +102,12 @@ run_asks words traced d longer = (
   Contains-get_or words 2 [] longer,
   λ file. inputs_ask words traced d (schedule_word words) (word_among words 3) (inputs_form file),
 )
+
+-- what follows the judging of a file
+judged_asks : {T : Type 0} (words : List (List ℕ)) (verdict : Verdict) (part : List ℕ) (next : T → Plan) (form : Result T FormFault) →
+    ((t : T) → AsksAmong words (next t)) → AsksAmong words (judged verdict part next form)
+judged_asks words verdict part next (Ok t) all = all t
+judged_asks words verdict part next (Err fault) all = tt
 
 -- the files that a resubmission asks for
 record AreAmong (words : List (List ℕ)) (asked : AskedTree) : Type 0 where
@@ -113,31 +121,26 @@ module _ (words : List (List ℕ)) (asked : AskedTree) (d : DefTree) where
   remade_asks inputs schedule (Ok r) = tt
   remade_asks inputs schedule (Err fault) = tt
 
-  judged_asks : {T : Type 0} (verdict : Verdict) (part : List ℕ) (next : T → Plan) (form : Result T FormFault) →
-      ((t : T) → AsksAmong words (next t)) → AsksAmong words (judged verdict part next form)
-  judged_asks verdict part next (Ok t) all = all t
-  judged_asks verdict part next (Err fault) all = tt
-
   remade_under_asks : (named : Option (List ℕ)) → IfSome named (λ name. Contains words name) → (found : Result RecordTree FindFault)
       (inputs : InputsTree) → AsksAmong words (remade_under asked d named found inputs)
   remade_under_asks None among found inputs = remade_asks inputs [] found
   remade_under_asks (Some name) among found inputs = (
     among,
-    λ file. judged_asks Inputs (codes "schedule ") (λ numbers. remade asked d inputs numbers found) (schedule_form file)
+    λ file. judged_asks words Inputs (codes "schedule ") (λ numbers. remade asked d inputs numbers found) (schedule_form file)
         (λ numbers. remade_asks inputs numbers found),
   )
 
   remade_with_asks : AreAmong words asked → (found : Result RecordTree FindFault) → AsksAmong words (remade_with asked d found)
   remade_with_asks among found = (
     among.inputs,
-    λ file. judged_asks Inputs (codes "inputs ") (remade_under asked d asked.schedule found) (inputs_form file)
+    λ file. judged_asks words Inputs (codes "inputs ") (remade_under asked d asked.schedule found) (inputs_form file)
         (remade_under_asks asked.schedule among.schedule found),
   )
 
   resubmit_asks : AreAmong words asked → AsksAmong words (resubmit asked d)
   resubmit_asks among = (
     among.history,
-    λ file. judged_asks History (codes "history ") (remade_with asked d) (history_form asked.run file) (remade_with_asks among),
+    λ file. judged_asks words History (codes "history ") (remade_with asked d) (history_form asked.run file) (remade_with_asks among),
   )
 
 one_among : (words : List (List ℕ)) → command_of words ≡ Some Resubmit → AreAmong words (one_asked words)
@@ -166,6 +169,7 @@ accepted_asks Command.List words d is = tt
 accepted_asks Resubmit words d is = resubmit_asks words (one_asked words) d (one_among words is)
 accepted_asks ResubmitSet words d is = resubmit_asks words (set_asked words) d (set_among words is)
 accepted_asks (Drill n) words d is = tt
+accepted_asks Session words d is = tt
 
 definition_asks : (command : Command) (words : List (List ℕ)) (form : Result DefTree FormFault) → command_of words ≡ Some command →
     AsksAmong words (judged_definition command words form)
@@ -182,6 +186,7 @@ some_length Command.List words is = list_length words is
 some_length Resubmit words is = let more : 5 < length words = resubmit_length words is in omega arith
 some_length ResubmitSet words is = let more : 6 < length words = set_length words is in omega arith
 some_length (Drill n) words is = drill_length words n is
+some_length Session words is = let more : 2 < length words = session_length words is in omega arith
 
 -- the commands that read a definition, and what they then say
 abbrev pub IsDefining : Command → Type 0
@@ -211,6 +216,7 @@ plan_defined Command.List words is = absurd (other Command.List (λ x. cc) (λ x
 plan_defined (Fires from count) words is =
     absurd (other (Fires from count) (λ x. cc) (λ x. cc) (λ x. cc) (λ x. cc) (λ x. cc) is)
 plan_defined (Drill n) words is = absurd (other (Drill n) (λ x. cc) (λ x. cc) (λ x. cc) (λ x. cc) (λ x. cc) is)
+plan_defined Session words is = absurd (other Session (λ x. cc) (λ x. cc) (λ x. cc) (λ x. cc) (λ x. cc) is)
 
 pub plan_drilled : (n : ℕ) (words : List (List ℕ)) → plan (Drill n) words ≡ drilled n
 unfolding plan
@@ -251,6 +257,25 @@ drill_asks : (words : List (List ℕ)) (n : ℕ) (form : Result DefTree FormFaul
 drill_asks words n (Ok d) = drill_inputs_ask words n d (inputs_of (drill_inputs n))
 drill_asks words n (Err fault) = tt
 
+started_asks : (words : List (List ℕ)) (d : DefTree) (inputs : InputsTree) (found : Result (List StartTree) TriggerFault) →
+    AsksAmong words (started d inputs found)
+started_asks words d inputs (Err fault) = tt
+started_asks words d inputs (Ok []) = tt
+started_asks words d inputs (Ok (start ∷ [])) = tt
+started_asks words d inputs (Ok (start ∷ next ∷ starts)) = tt
+
+-- `session` asks for two
+session_asks : (words : List (List ℕ)) → command_of words ≡ Some Session → AsksAmong words (session (word words 1) (word words 2))
+session_asks words is =
+    let longer : 2 < length words = session_length words is in (
+      Contains-get_or words 1 [] (omega (arith, longer)),
+      λ file. judged_asks words Definition (codes "definition ") (joined (word words 2)) (definition_form file) (λ d. (
+        Contains-get_or words 2 [] longer,
+        λ other. judged_asks words Inputs (codes "inputs ") (λ i. started d i (starts_of d i)) (inputs_form other)
+            (λ i. started_asks words d i (starts_of d i)),
+      )),
+    )
+
 plan_asks : (command : Command) (words : List (List ℕ)) → command_of words ≡ Some command → AsksAmong words (plan command words)
 unfolding plan
 plan_asks Check words is = defined_asks Check words is
@@ -263,6 +288,7 @@ plan_asks (Fires from count) words is = (
   λ file. value_asks words (word words 2) from count (value_form file),
 )
 plan_asks (Drill n) words is = drill_asks words n (definition_of (drill_definition n))
+plan_asks Session words is = session_asks words is
 plan_asks Command.List words is = (
   Contains-get_or words 1 [] (list_length words is),
   λ file. history_asks words (listing_form file),

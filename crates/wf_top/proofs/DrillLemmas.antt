@@ -8,7 +8,6 @@ use Rattle.wf_answers.specs.declared.fault.InputsFault.{InputsFault}
 use Rattle.wf_def.specs.DefTree.{DefTree}
 use Rattle.wf_drill.specs.Drill.{drill_definition, drill_inputs}
 use Rattle.wf_files.specs.Form.{broken_in, checked, definition_of, formed, inputs_of, or_inputs_fault}
-use Rattle.wf_files.specs.declared.fault.FormFault.{FormFault}
 use Rattle.wf_form.specs.Fault.{fault_of}
 use Rattle.wf_reading.specs.Meant as read
 use Rattle.wf_reading.specs.Read.{IsRead}

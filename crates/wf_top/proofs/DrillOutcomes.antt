@@ -21,7 +21,7 @@ use Rattle.wf_top.specs.Trigger.{trigger_line}
 use Rattle.wf_top.specs.Words.{command_of}
 use Rattle.wf_top.specs.declared.said.Verdict.{Verdict}
 use Rattle.wf_top.specs.declared.words.Command.{Command}
-use Rattle.wf_top.specs.declared.words.Command.TheVariants.{Check, Run, Trace, Resubmit, ResubmitSet, Drill, Fires}
+use Rattle.wf_top.specs.declared.words.Command.TheVariants.{Check, Run, Trace, Resubmit, ResubmitSet, Drill, Fires, Session}
 use Rattle.wf_trigger.specs.declared.fault.TriggerFault.{TriggerFault}
 
 -- What it may say: what its definition and its inputs were, the status and the text.
@@ -46,6 +46,7 @@ is_drill Resubmit = false
 is_drill ResubmitSet = false
 is_drill (Fires from count) = false
 is_drill (Drill n) = true
+is_drill Session = false
 
 -- ---- what the plan comes to
 

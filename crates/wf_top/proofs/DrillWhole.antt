@@ -1,5 +1,5 @@
 -- Where all tests of `drill` pass and no count rose, the whole line was taken, or memory ran out.
-use Rattle.std.proofs.Common.{◌≡◌, ℕ, List, Option, None, Some, Result, Ok, Err, inl, inr, ap, subst, sym, ◌∙◌}
+use Rattle.std.proofs.Common.{◌≡◌, ℕ, List, Option, None, Some, Ok, Err, inl, inr, ap, subst, sym, ◌∙◌}
 use Rattle.std.specs.Option.{IfSome}
 use Rattle.wf_answers.specs.Inputs.{InputsTree}
 use Rattle.wf_def.specs.DefTree.{DefTree}
@@ -14,7 +14,7 @@ use Rattle.wf_top.specs.Plan.{Drills}
 use Rattle.wf_top.specs.Served.{Say, number}
 use Rattle.wf_top.specs.declared.said.Verdict.{Verdict}
 use Rattle.wf_top.specs.declared.words.Command.TheVariants.{Drill}
-use Rattle.wf_top.proofs.CommandOutcomes.{IsTold, MayBeSaid, say_by}
+use Rattle.wf_top.proofs.Completeness.{IsTold, MayBeSaid, no_talk, say_by}
 
 module _ (bytes_of : List ℕ → Option (List ℕ)) (words : List (List ℕ)) (verdict : Verdict) (text : List ℕ) where
   -- a drill whose run leaves a record is told
@@ -45,7 +45,7 @@ pub serves_drill : (held : Held) (words : List (List ℕ)) (old new : List (List
     IsToldDrill n d inputs before after result)
 serves_drill None words old new before after count later result said = tt
 serves_drill (Some bytes_of) words old new before after count later result said = λ n d inputs passes same calm.
-    elim (said same calm) [
+    elim (said (no_talk bytes_of words (Drill n) (λ is. cc) passes.given.names) same calm) [
       | inl all ↦
           let is = says_drill bytes_of words result all.0 n d inputs passes all.1 in
           inl (all.0, is.0, is.1, all.2)

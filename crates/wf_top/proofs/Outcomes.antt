@@ -7,8 +7,9 @@ use Rattle.wf_outside.specs.Outside.{Held, Rose, IsCalm}
 use Rattle.wf_top.specs.declared.said.Verdict.{Verdict}
 use Rattle.wf_top.specs.declared.said.Verdict.TheVariants.{Done, Definition, History, Inputs, TooLarge}
 use Rattle.wf_top.specs.Plan.{Plan}
-use Rattle.wf_top.specs.Served.{number, Outcome, Misused, Speaks, Unread, Spent, status_of, text_of, Comes, Writes, Serves, FailedAt}
-use Rattle.wf_top.specs.Served.{IsSaid, PlanSays, cannot_read, usage}
+use Rattle.wf_top.specs.Served.{number, Outcome, Misused, Speaks, Unread, Spent, status_of, text_of, Comes, Serves, FailedAt, IsSaid}
+use Rattle.wf_top.specs.Served.{PlanSays, cannot_read, usage}
+use Rattle.wf_talk.specs.Written.{Writes}
 
 -- no status of a command is 2, 3, 4 or 5
 pub number_le : (verdict : Verdict) → number verdict ≤ 8
@@ -26,7 +27,7 @@ number_apart History = (λ h. cc, λ h. cc)
 number_apart TooLarge = (λ h. cc, λ h. cc)
 
 -- a list isn't itself with one more
-no_longer : (xs : List (List ℕ)) (ys : List (List ℕ)) (x : List ℕ) → ys ≡ xs ++ x ∷ [] → ys ≡ xs → ⊥
+pub no_longer : (xs : List (List ℕ)) (ys : List (List ℕ)) (x : List ℕ) → ys ≡ xs ++ x ∷ [] → ys ≡ xs → ⊥
 no_longer xs ys x more same = omega (arith, ap length more, ap length same, length-append xs (x ∷ []))
 
 said_at : (bytes_of : List ℕ → Option (List ℕ)) (plan : Option Plan) (old new : List (List ℕ)) (before after : Option (List ℕ))

@@ -17,7 +17,7 @@ use Rattle.wf_template.specs.TemplateTree.{whole}
 use Rattle.wf_top.specs.Commands.{accepted, accepted_line, judged_definition, judged_inputs, judged_schedule, judged_value, plan, recurs}
 use Rattle.wf_top.specs.Commands.{run, scheduled, triggered}
 use Rattle.wf_files.specs.Fault.{fault_line}
-use Rattle.wf_top.specs.Plan.{Plan, Says, Reads, Makes, Remakes, Drills, MaySay, within}
+use Rattle.wf_top.specs.Plan.{Plan, Says, Reads, Makes, Remakes, Drills, Talks, MaySay, within}
 use Rattle.wf_top.specs.Served as served
 use Rattle.wf_top.specs.Trigger.{trigger_line, trigger_words}
 use Rattle.jiff_core.specs.Calendar.{days_of_months}
@@ -48,6 +48,7 @@ first_limit (Reads name limit next) = limit
 first_limit (Makes traced d inputs schedule) = 0
 first_limit (Remakes d r names inputs schedule) = 0
 first_limit (Drills n d inputs) = 0
+first_limit (Talks d start inputs) = 0
 
 abbrev first_name : Plan → List ℕ
 first_name (Says verdict said) = []
@@ -55,6 +56,7 @@ first_name (Reads name limit next) = name
 first_name (Makes traced d inputs schedule) = []
 first_name (Remakes d r names inputs schedule) = []
 first_name (Drills n d inputs) = []
+first_name (Talks d start inputs) = []
 
 -- words of a command and its files
 abbrev words_of : List ℕ → ℕ → List (List ℕ)
@@ -202,9 +204,6 @@ size-zero_in_front = refl
 
 size-long : size_of (codes "18446744073709551617") ≡ None
 size-long = refl
-
-command-not_built : command_of (words_of (codes "session") 2) ≡ None
-command-not_built = refl
 
 abbrev fires_words : List ℕ → List ℕ → List (List ℕ)
 fires_words from count = codes "fires" ∷ letters 1 ∷ letters 2 ∷ from ∷ count ∷ []
@@ -457,7 +456,7 @@ status-unread name = refl
 status-spent : served.status_of served.Spent ≡ 5
 status-spent = refl
 
--- every command of the finished program with its words, also those that aren't built yet
+-- every command with its words
 text-misused : served.text_of served.Misused
     ≡ codes "usage: wflow check DEF"
     ++ codes " | run DEF INPUTS [SCHEDULE]"

@@ -23,7 +23,7 @@ use Rattle.wf_told.specs.Resubmissions.{TellsResubmission, refused, too_large}
 use Rattle.wf_told.specs.declared.fault.ResubmissionFault.{ResubmissionFault}
 use Rattle.wf_val.specs.ValueTree.{null}
 use Rattle.wf_top.specs.Commands.{accepted, plan}
-use Rattle.wf_top.specs.Plan.{Plan, Says, Reads, Makes, Remakes, Drills, MaySay}
+use Rattle.wf_top.specs.Plan.{Plan, Says, Reads, Makes, Remakes, Drills, Talks, MaySay}
 use Rattle.wf_top.specs.Refusal.{find_line, refusal_line}
 use Rattle.wf_top.specs.Resubmit.{judged, remade, remade_under, remade_with}
 use Rattle.wf_top.specs.Words.{AskedTree, asked_of, command_of, is_traced, makes_runs, one_asked, resubmits, set_asked}
@@ -126,6 +126,7 @@ first_name (Reads name limit next) = name
 first_name (Makes traced d inputs schedule) = []
 first_name (Remakes d r names inputs schedule) = []
 first_name (Drills n d inputs) = []
+first_name (Talks d start inputs) = []
 
 abbrev first_limit : Plan → ℕ
 first_limit (Says verdict said) = 0
@@ -133,6 +134,7 @@ first_limit (Reads name limit next) = limit
 first_limit (Makes traced d inputs schedule) = 0
 first_limit (Remakes d r names inputs schedule) = 0
 first_limit (Drills n d inputs) = 0
+first_limit (Talks d start inputs) = 0
 
 first-definition : first_name (plan Resubmit five_words) ≡ codes "d"
 unfolding plan

@@ -18,11 +18,12 @@ use Rattle.wf_files.specs.Form.{definition_form, inputs_form, listing_form, sche
 use Rattle.wf_top.specs.Limits.{definition_bytes, history_bytes, inputs_bytes, schedule_bytes}
 use Rattle.wf_top.specs.Plan.{Plan, Says, Reads, Makes}
 use Rattle.wf_top.specs.Resubmit.{resubmit}
+use Rattle.wf_top.specs.Session.{session}
 use Rattle.wf_top.specs.Words.{command_of, is_traced, one_asked, schedule_word, set_asked, word}
 use Rattle.wf_files.specs.declared.fault.FormFault.{FormFault}
 use Rattle.wf_top.specs.declared.said.Verdict.TheVariants.{Done, Definition, History, Inputs}
 use Rattle.wf_top.specs.declared.words.Command.{Command}
-use Rattle.wf_top.specs.declared.words.Command.TheVariants.{Check, Run, Trace, Resubmit, ResubmitSet, Drill, Fires}
+use Rattle.wf_top.specs.declared.words.Command.TheVariants.{Check, Run, Trace, Resubmit, ResubmitSet, Drill, Fires, Session}
 
 -- what `check` writes of an accepted definition: how many actions it has, at any depth
 unfoldable pub accepted_line : DefTree → List ℕ
@@ -54,10 +55,11 @@ accepted Run words d = run (is_traced Run) (word words 2) (schedule_word words) 
 accepted Trace words d = run (is_traced Trace) (word words 2) (schedule_word words) d
 accepted Resubmit words d = resubmit (one_asked words) d
 accepted ResubmitSet words d = resubmit (set_asked words) d
--- These are never met: `list` and `drill` read no definition, and `fires` has a plan of its own.
+-- These are never met: `list` and `drill` read no definition, and `fires` and `session` have plans of their own.
 accepted Command.List words d = Says Done (accepted_line d)
 accepted (Fires from count) words d = Says Done (accepted_line d)
 accepted (Drill n) words d = Says Done (accepted_line d)
+accepted Session words d = Says Done (accepted_line d)
 
 -- DEF is read and judged: the command goes on with it, or it is refused for its fault.
 abbrev pub judged_definition : Command → List (List ℕ) → Result DefTree FormFault → Plan
@@ -115,6 +117,7 @@ plan Resubmit words = defined (word words 1) Resubmit words
 plan ResubmitSet words = defined (word words 1) ResubmitSet words
 plan (Fires from count) words = fired (word words 1) (word words 2) from count
 plan (Drill n) words = drilled n
+plan Session words = session (word words 1) (word words 2)
 plan Command.List words = list (word words 1)
 
 -- what the words ask for, or None where they are no command

@@ -1,10 +1,12 @@
 pub mod Commands
+pub mod Conversed
 pub mod Drill
 pub mod Drilled
 pub mod Drilling
 pub mod Fires
 pub mod Limits
 pub mod Measures
+pub mod Opening
 pub mod Plan
 pub mod Ran
 pub mod Refusal
@@ -12,6 +14,7 @@ pub mod Resubmit
 pub mod Resubmitted
 pub mod Seen
 pub mod Served
+pub mod Session
 pub mod Told
 pub mod Trigger
 pub mod Words

@@ -1,10 +1,11 @@
 -- How a call ends, and what it wrote.
-use Rattle.std.specs.Prelude.{◌≡◌, ◌⊎◌, ℕ, ◌≤◌, List, [], ◌∷◌, ◌++◌, length, take, Option, None, Some, Result, Ok, Err, codes}
+use Rattle.std.specs.Prelude.{◌≡◌, ◌⊎◌, ℕ, List, [], ◌∷◌, ◌++◌, Option, None, Some, Result, Ok, Err, codes}
 use Rattle.std.specs.Io.KnownBytes.{Appends}
 use Rattle.wf_outside.specs.Outside.{Held}
 use Rattle.wf_top.specs.Plan.{Plan, MaySay, ComesTo}
 use Rattle.wf_top.specs.Commands.{plan_of}
 use Rattle.wf_json.specs.Json.{string}
+use Rattle.wf_talk.specs.Written.{Writes}
 use Rattle.wf_top.specs.declared.said.Verdict.{Verdict}
 use Rattle.wf_top.specs.declared.said.Verdict.TheVariants.{Done, Definition, History, Inputs, TooLarge}
 use Rattle.wf_top.specs.declared.said.Said.{Said}
@@ -74,15 +75,6 @@ outcome_of (Err Memory) = Spent
 
 abbrev pub Follows : Held → Plan → List (List ℕ) → List (List ℕ) → Result Said Stop → Type 0
 Follows held plan old new result = Reaches held plan old new (outcome_of result)
-
--- known bytes grow by a prefix of bs
-abbrev pub AppendsPrefix : Option (List ℕ) → Option (List ℕ) → List ℕ → Type 0
-AppendsPrefix old new bs = (n : ℕ) × (n ≤ length bs) × Appends old new (take n bs)
-
--- All of a text was taken, and the status is its own; or a prefix of it, and the status is 4.
-abbrev pub Writes : Option (List ℕ) → Option (List ℕ) → ℕ → List ℕ → ℕ → Type 0
-Writes before after status text result =
-    ((result ≡ status) × Appends before after text) ⊎ ((result ≡ 4) × AppendsPrefix before after text)
 
 -- The whole of a call: its words came to an outcome, whose text it wrote.
 pub record Serves (held : Held) (plan : Option Plan) (old new : List (List ℕ)) (before after : Option (List ℕ)) (result : ℕ) : Type 0 where

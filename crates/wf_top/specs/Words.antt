@@ -6,7 +6,7 @@ use Rattle.std.specs.Char.{is_ascii_digit}
 use Rattle.std.specs.Str.{bytes_eq}
 use Rattle.wf_fn_time.specs.Reading.{read_time}
 use Rattle.wf_top.specs.declared.words.Command.{Command}
-use Rattle.wf_top.specs.declared.words.Command.TheVariants.{Check, Run, Trace, Resubmit, ResubmitSet, Drill, Fires}
+use Rattle.wf_top.specs.declared.words.Command.TheVariants.{Check, Run, Trace, Resubmit, ResubmitSet, Drill, Fires, Session}
 
 -- the word at a place
 abbrev pub word : List (List ℕ) → ℕ → List ℕ
@@ -77,7 +77,8 @@ command_of words =
     (if is_command (codes "resubmit") 5 words || is_command (codes "resubmit") 6 words then Some Resubmit else
     (if is_command_within (codes "resubmit-set") 6 505 words then Some ResubmitSet else
     (if is_command (codes "fires") 4 words then fires_of (word words 3) (word words 4) else
-    (if is_command (codes "drill") 1 words then drill_of (word words 1) else None)))))))
+    (if is_command (codes "drill") 1 words then drill_of (word words 1) else
+    (if is_command (codes "session") 2 words then Some Session else None))))))))
 
 -- the command makes the runs that inputs start
 abbrev pub makes_runs : Command → Bool
@@ -89,6 +90,7 @@ makes_runs Resubmit = false
 makes_runs ResubmitSet = false
 makes_runs (Fires from count) = false
 makes_runs (Drill n) = false
+makes_runs Session = false
 
 -- the command writes the events of each run above its record
 abbrev pub is_traced : Command → Bool
@@ -100,6 +102,7 @@ is_traced Resubmit = false
 is_traced ResubmitSet = false
 is_traced (Fires from count) = false
 is_traced (Drill n) = false
+is_traced Session = false
 
 -- the command resubmits a run
 abbrev pub resubmits : Command → Bool
@@ -111,6 +114,7 @@ resubmits Resubmit = true
 resubmits ResubmitSet = true
 resubmits (Fires from count) = false
 resubmits (Drill n) = false
+resubmits Session = false
 
 -- What a resubmission goes by beside DEF: the words HISTORY, RUN, INPUTS and SCHEDULE, where there is one, and the names of the actions.
 pub record AskedTree : Type 0 where

@@ -1,5 +1,5 @@
 // The commands: each function follows the plan of its name, and reads at most one file.
-ghost use Rattle.std.specs.Prelude.{◌≡◌, Some, IfOk, IfErr};
+ghost use Rattle.std.specs.Prelude.{◌≡◌, ◌≢◌, Some, IfOk, IfErr};
 ghost use Rattle.wf_reading.specs.ReadSeen.{def_tree};
 ghost use Rattle.wf_top.specs.Commands.{accepted, accepted_line, defined, plan};
 ghost use Rattle.wf_top.specs.Plan.{Says};
@@ -50,9 +50,11 @@ fn accepted<F: Files, E: Engine>(
 {
     let schedule = schedule_word(words);
     match command {
-        Command::Check | Command::List | Command::Fires { .. } | Command::Drill { .. } => {
-            say_accepted(alloc, checked)
-        }
+        Command::Check
+        | Command::List
+        | Command::Fires { .. }
+        | Command::Drill { .. }
+        | Command::Session => say_accepted(alloc, checked),
         Command::Run => run(alloc, files, engine, false, &words[2], schedule, checked),
         Command::Trace => run(alloc, files, engine, true, &words[2], schedule, checked),
         Command::Resubmit => resubmit(alloc, files, engine, one_asked(words), checked),
@@ -81,7 +83,7 @@ fn defined<F: Files, E: Engine>(
     }
 }
 
-/// Follows the plan of the command that the words are.
+/// Follows the plan of the command that the words are, which isn't `session`.
 #[tactic(auto, unfolding(crate::specs::Commands::plan))]
 pub fn follow<F: Files, E: Engine>(
     alloc: Global,
@@ -90,7 +92,8 @@ pub fn follow<F: Files, E: Engine>(
     files: &mut F,
     engine: &E,
 ) -> Result<Said, Stop>
-    requires { command_of words.now ≡ Some command }
+    requires names { command_of words.now ≡ Some command }
+    requires other { command ≢ Command.Session }
     ensures follows { Follows (F.held files.old) (plan command words.now) (F.failed files.old) (F.failed files.new) result }
     ensures same { F.held files.new ≡ F.held files.old }
 {
@@ -100,5 +103,6 @@ pub fn follow<F: Files, E: Engine>(
             { defined(alloc, words, command, files, engine, &words[1]) }
         Command::Fires { from, count } => fired(alloc, files, &words[1], &words[2], from, count),
         Command::Drill { size } => drilled(alloc, engine, size),
+        Command::Session => unreachable!(),
     }
 }

@@ -5,7 +5,11 @@ ghost use Rattle.wf_def.specs.DefTree.{DefTree};
 ghost use Rattle.wf_reading.specs.Read.{IsRead};
 ghost use Rattle.wf_record.specs.Record.{RecordTree};
 ghost use Rattle.wf_rules.specs.Broken.{broken_of};
+ghost use Rattle.wf_outside.specs.Outside.{Held};
+ghost use Rattle.wf_top.specs.Commands.{plan};
 ghost use Rattle.wf_top.specs.Drilling.{MayTellDrill};
+ghost use Rattle.wf_top.specs.Plan.{LeadsTo};
+ghost use Rattle.wf_trigger.specs.Starts.{StartTree};
 ghost use Rattle.wf_top.specs.Ran.{HoldsDefinition};
 ghost use Rattle.wf_top.specs.Served.{Say};
 ghost use Rattle.wf_top.specs.Told.{MayTell, MayTellAgain};
@@ -50,3 +54,9 @@ pub fn one_thing_is_said()
     wf_told::one_measure_is_told();
     wf_drill::a_drill_is_in_form();
 }
+
+/// No command but `session` leads to a talk.
+pub fn only_a_session_talks()
+    ensures { (held : Held) (words : List (List ℕ)) (d : DefTree) (start : StartTree) (inputs : InputsTree) (command : Command)
+        → LeadsTo held (plan command words) d start inputs → command ≡ Command.Session }
+{}

@@ -8,6 +8,8 @@
 //! and makes no run: that is left to the objects which it is lent, of which an engine of runs (`wf_told`) promises exactly what is told of
 //! runs and of a resubmission.
 //!
+//! At `session` it does what comes before a talk, which is left to what holds one (`wf_stands`).
+//!
 //! What may be said of runs is a relation (`specs/Told`), since runs are told by the events that a schedule leads to. `one_thing_is_said`
 //! says that it leaves no choice where the definition is one that was read: the files decide on the status and the text.
 #![tactic(auto)]
@@ -18,18 +20,20 @@ mod drilling;
 mod laws;
 mod listing;
 mod load;
-mod put;
+mod obey;
 mod recurring;
 mod refusal;
 mod resubmitting;
 mod runs;
 mod said;
 mod serve;
+mod session;
 mod trigger;
 mod words;
 
 pub use laws::{
     one_thing_is_said, one_thing_is_told, one_thing_is_told_again, one_thing_is_told_of_a_drill,
+    only_a_session_talks,
 };
 pub use serve::serve_words;
 pub use words::{Command, parse_words};

@@ -1,5 +1,5 @@
 // The top call.
-ghost use Rattle.std.specs.Prelude.{◌≡◌, ◌⊎◌, ◌<◌, ◌≤◌, ℕ, List, true, Some, None, Contains, IfOk, IfSome};
+ghost use Rattle.std.specs.Prelude.{◌≡◌, ◌⊎◌, ◌<◌, ◌≤◌, ℕ, List, [], ◌∷◌, length, true, Some, None, Contains, IfSome};
 ghost use Rattle.std.specs.Io.KnownBytes.{Appends};
 ghost use Rattle.wf_outside.specs.Outside.{IsCalm, Rose};
 ghost use Rattle.wf_answers.specs.Inputs.{InputsTree};
@@ -9,6 +9,7 @@ ghost use Rattle.wf_record.specs.Record.{RecordTree};
 ghost use Rattle.wf_recur.specs.Moments.{moments_due};
 ghost use Rattle.wf_recur.specs.declared.recurrence.Recurrence.{Recurrence};
 ghost use Rattle.wf_top.specs.Commands.{accepted_line, listing_text, plan_of};
+ghost use Rattle.wf_top.specs.Conversed.{HoldsStarts, HoldsTalk, IsRefusedWhole, IsServed, IsTalkedWhole, NoneStarts, RefusesTalk, Talked};
 ghost use Rattle.wf_top.specs.Drilled.{Drilled, IsToldDrill, PassesDrill, RefusedDrill, RefusedDrillCost, RefusedDrillInputs};
 ghost use Rattle.wf_top.specs.Drilled.{RefusedDrillTrigger};
 ghost use Rattle.wf_top.specs.Fires.{moments_text};
@@ -17,60 +18,21 @@ ghost use Rattle.wf_top.specs.Ran.{PassesFires, Ran, RefusedCost, RefusedDefinit
 ghost use Rattle.wf_top.specs.Ran.{RefusedRecurrence, RefusedSchedule, RefusedTrigger};
 ghost use Rattle.wf_top.specs.Resubmitted.{IsToldAgain, PassesAgain, RefusedAnswers, RefusedLog, RefusedNames, RefusedNewCost, RefusedRun};
 ghost use Rattle.wf_top.specs.Resubmitted.{RefusedTimes, Resubmitted};
-ghost use Rattle.wf_top.specs.Served.{FailedAt, IsSaid, Say, Serves, cannot_read};
+ghost use Rattle.wf_top.specs.Served.{FailedAt, IsSaid, Say, cannot_read};
+ghost use Rattle.wf_top.specs.Session.{many_runs, no_run};
 ghost use Rattle.wf_top.specs.Words.{asked_of, command_of, is_traced, makes_runs, resubmits};
+ghost use Rattle.wf_trigger.specs.Starts.{StartTree};
 
-use crate::commands::follow;
-use crate::load::Stop;
-use crate::put::close;
-use crate::words::{Command, parse_words};
-use std::alloc::{AllocError, Global};
+use crate::obey::obey;
+use crate::words::Command;
+use std::alloc::Global;
 use wf_outside::{Files, Sink, Source};
+use wf_stands::Converses;
 use wf_told::Engine;
 use wf_val::Text;
 
-const USAGE: &[u8] =
-    b"usage: wflow check DEF | run DEF INPUTS [SCHEDULE] | trace DEF INPUTS SCHEDULE | resubmit DEF HISTORY RUN ACTION INPUTS [SCHEDULE] | resubmit-set DEF HISTORY RUN INPUTS SCHEDULE ACTION... | list HISTORY | drill N | session DEF INPUTS | fires DEF TRIGGER FROM N\n";
-
-const OUT_OF_MEMORY: &[u8] = b"out of memory\n";
-
-fn unread_line(alloc: Global, name: Text) -> Result<Vec<u8>, AllocError>
-    ensures { IfOk result (λ line. line.items ≡ cannot_read name) }
-{
-    let mut line = b"cannot read ".to_vec(alloc)?;
-    wf_json::quote_to(&mut line, name.as_str())?;
-    line.push(b'\n')?;
-    Ok(line)
-}
-
-fn serve<F: Files, O: Sink, E: Engine>(
-    alloc: Global,
-    words: &[Text],
-    files: &mut F,
-    engine: &E,
-    out: &mut O,
-) -> u8
-    ensures outcome { Serves (F.held files.old) (plan_of words.now) (F.failed files.old) (F.failed files.new) (O.taken out.old)
-        (O.taken out.new) result }
-    ensures only { result ≡ 4 → Rose (O.faults out.old) (O.faults out.new) }
-    ensures always { O.faults out.old < O.faults out.new → result ≡ 4 }
-    ensures same { F.held files.new ≡ F.held files.old }
-{
-    let Some(command) = parse_words(words) else {
-        return close(out, 2, USAGE);
-    };
-    match follow(alloc, words, command, files, engine) {
-        Ok(said) => close(out, said.verdict.number(), &said.text),
-        Err(Stop::CannotRead(name)) => match unread_line(alloc, name) {
-            Ok(line) => close(out, 3, &line),
-            Err(_) => close(out, 5, OUT_OF_MEMORY),
-        },
-        Err(Stop::Memory) => close(out, 5, OUT_OF_MEMORY),
-    }
-}
-
 /// Does what the words after the program's name ask for, and answers the status that the program ends with.
-pub fn serve_words<F: Files, I: Source, O: Sink, E: Engine>(
+pub fn serve_words<F: Files, I: Source, O: Sink, E: Engine + Converses>(
     alloc: Global,
     words: &[Text],
     files: &mut F,
@@ -78,17 +40,18 @@ pub fn serve_words<F: Files, I: Source, O: Sink, E: Engine>(
     input: &mut I,
     out: &mut O,
 ) -> u8
-    ensures status { result ≤ 8 }
+    ensures status { result ≤ 9 }
 
-    // Where the files tell and no count rose, a status that the words say is answered, and all of its text written; or memory ran out.
-    ensures said { IfSome (F.held files.old) (λ bytes_of.
+    // Where the files tell and no count rose, a status that the words say is answered, and all of its text written; or memory ran out. Of
+    // files that hold what a talk begins with `complete_session` says it.
+    ensures said { IfSome (F.held files.old) (λ bytes_of. (HoldsTalk bytes_of words.now → ⊥) →
         F.failed files.new ≡ F.failed files.old → IsCalm (O.faults out.old) (O.faults out.new) →
         IsSaid (Say bytes_of words.now) (O.taken out.old) (O.taken out.new) result) }
 
-    // In any case the words come to one outcome, and its status is answered and its text written; or with 4 a prefix of
-    // the text.
-    ensures outcome { Serves (F.held files.old) (plan_of words.now) (F.failed files.old) (F.failed files.new)
-        (O.taken out.old) (O.taken out.new) result }
+    // In any case the words come to one outcome, and its status is answered and its text written, or with 4 a prefix of the text, and the
+    // source is as it was; or they are `session`, and the talk is held of the one run that starts.
+    ensures outcome { IsServed (F.held files.old) words.now (F.failed files.old) (F.failed files.new) (I.faults input.old)
+        (I.faults input.new) (I.left input.old) (I.left input.new) (O.taken out.old) (O.taken out.new) result }
 
     // At `check DEF` 0 comes where a definition was read that is accepted, and the sink took exactly the line with the number of its
     // actions.
@@ -116,6 +79,12 @@ pub fn serve_words<F: Files, I: Source, O: Sink, E: Engine>(
     // tells how its run goes under each of its three schedules.
     ensures drilled { (n : ℕ) → command_of words.now ≡ Some (Command.Drill n) → result ≡ 0
         → Drilled words.now n (O.taken out.old) (O.taken out.new) }
+
+    // At `session DEF INPUTS` 0 comes where a definition and inputs were read by which no run starts, and the sink took exactly the line
+    // that says so; or the talk was held of the one run that starts, and it came to its end.
+    ensures conversed { command_of words.now ≡ Some Command.Session → result ≡ 0
+        → NoneStarts (F.held files.old) words.now (O.taken out.old) (O.taken out.new)
+        ⊎ Talked (F.held files.old) words.now (I.left input.old) (I.left input.new) (O.taken out.old) (O.taken out.new) result }
 
     // Where all tests of a command pass and no count rose, that comes and nothing else, but for want of memory.
     ensures complete_check { IfSome (F.held files.old) (λ bytes_of. (definition : DefTree) →
@@ -153,6 +122,20 @@ pub fn serve_words<F: Files, I: Source, O: Sink, E: Engine>(
         F.failed files.new ≡ F.failed files.old → IsCalm (O.faults out.old) (O.faults out.new) →
         IsToldDrill n d inputs (O.taken out.old) (O.taken out.new) result) }
 
+    // And so at `session`: where one run starts and no file failed, its talk is held from its first byte to its last, or memory ran out
+    // before it, and the source is as it was. Where none starts, or several, that is said.
+    ensures complete_session { IfSome (F.held files.old) (λ bytes_of. (d : DefTree) → (inputs : InputsTree) → (start : StartTree) →
+        HoldsStarts bytes_of words.now d inputs (start ∷ []) → F.failed files.new ≡ F.failed files.old →
+        IsTalkedWhole d start inputs (I.left input.old) (I.left input.new) (O.taken out.old) (O.taken out.new) result) }
+    ensures opened_nothing { IfSome (F.held files.old) (λ bytes_of. (d : DefTree) → (inputs : InputsTree) →
+        HoldsStarts bytes_of words.now d inputs [] →
+        F.failed files.new ≡ F.failed files.old → IsCalm (O.faults out.old) (O.faults out.new) →
+        IsWhole (O.taken out.old) (O.taken out.new) no_run result) }
+    ensures many { IfSome (F.held files.old) (λ bytes_of. (d : DefTree) → (inputs : InputsTree) → (starts : List StartTree) →
+        HoldsStarts bytes_of words.now d inputs starts → 2 ≤ length starts →
+        F.failed files.new ≡ F.failed files.old → IsCalm (O.faults out.old) (O.faults out.new) →
+        IsRefusedWhole (O.taken out.old) (O.taken out.new) (many_runs (length starts)) result) }
+
     // 1 comes where the first file gave no accepted definition; and at `drill`, if the definition of its size weren't accepted. Of no size
     // it is known that one of the ends of `drill` on 1, 6 and 8 comes.
     ensures refused_definition { result ≡ 1 → RefusedDefinition (F.held files.old) words.now (O.taken out.old) (O.taken out.new)
@@ -161,7 +144,8 @@ pub fn serve_words<F: Files, I: Source, O: Sink, E: Engine>(
     // 6 comes where it gave one, and the second gave no inputs; or gave inputs, and the third no schedule; or gave inputs by which the
     // trigger starts no run for its fault, and there was no third or it gave a schedule. At `fires` it comes where the definition lacks
     // the trigger, or the trigger has no recurrence whose moments can be told. At the commands that resubmit it comes where HISTORY gave a
-    // history, and INPUTS no inputs, or SCHEDULE no schedule.
+    // history, and INPUTS no inputs, or SCHEDULE no schedule. At `session` it comes where INPUTS gave no inputs, or inputs by which the
+    // trigger starts no run for its fault or several start; or where the talk went on too long.
     ensures refused_inputs { result ≡ 6 → RefusedInputs (F.held files.old) words.now (O.taken out.old) (O.taken out.new)
         ⊎ RefusedSchedule (F.held files.old) words.now (O.taken out.old) (O.taken out.new)
         ⊎ RefusedTrigger (F.held files.old) words.now (O.taken out.old) (O.taken out.new)
@@ -170,7 +154,9 @@ pub fn serve_words<F: Files, I: Source, O: Sink, E: Engine>(
         ⊎ RefusedAnswers (F.held files.old) words.now (O.taken out.old) (O.taken out.new)
         ⊎ RefusedTimes (F.held files.old) words.now (O.taken out.old) (O.taken out.new)
         ⊎ RefusedDrillInputs words.now (O.taken out.old) (O.taken out.new)
-        ⊎ RefusedDrillTrigger words.now (O.taken out.old) (O.taken out.new) }
+        ⊎ RefusedDrillTrigger words.now (O.taken out.old) (O.taken out.new)
+        ⊎ RefusesTalk (F.held files.old) words.now (O.taken out.old) (O.taken out.new)
+        ⊎ Talked (F.held files.old) words.now (I.left input.old) (I.left input.new) (O.taken out.old) (O.taken out.new) result }
 
     // 7 comes at `list`, where the file gave no history. At the commands that resubmit it comes where HISTORY gave no history; or where all
     // files gave what they should, and the history has no record of the run, or more than one, or has one that can't be resubmitted from
@@ -180,19 +166,26 @@ pub fn serve_words<F: Files, I: Source, O: Sink, E: Engine>(
         ⊎ RefusedRun (F.held files.old) words.now (O.taken out.old) (O.taken out.new)
         ⊎ RefusedNames (F.held files.old) words.now (O.taken out.old) (O.taken out.new) }
 
-    // 8 comes where the runs cost too much, or the new record would.
+    // 8 comes where the runs cost too much, or the new record would, or the run that is talked of.
     ensures too_large { result ≡ 8 → RefusedCost (F.held files.old) words.now (O.taken out.old) (O.taken out.new)
         ⊎ RefusedNewCost (F.held files.old) words.now (O.taken out.old) (O.taken out.new)
-        ⊎ RefusedDrillCost words.now (O.taken out.old) (O.taken out.new) }
+        ⊎ RefusedDrillCost words.now (O.taken out.old) (O.taken out.new)
+        ⊎ Talked (F.held files.old) words.now (I.left input.old) (I.left input.new) (O.taken out.old) (O.taken out.new) result }
+
+    // 9 comes at `session` alone, where the input ended and answers are wanted.
+    ensures open { result ≡ 9 → Talked (F.held files.old) words.now (I.left input.old) (I.left input.new) (O.taken out.old)
+        (O.taken out.new) result }
 
     // 2 comes where the words are no command, and always there, 4 apart.
     ensures two { result ≡ 2 → command_of words.now ≡ None }
     ensures misused { command_of words.now ≡ None → (result ≡ 2) ⊎ (result ≡ 4) }
 
-    // 3 comes where the read of a name failed whose turn had come, and always there, 4 and 5 apart.
-    ensures three { result ≡ 3 → (name : List ℕ)
+    // 3 comes where the read of a name failed whose turn had come, or in a talk where the source failed, and always there, 4 and 5 apart.
+    ensures three { result ≡ 3 → ((name : List ℕ)
         × FailedAt (F.held files.old) (plan_of words.now) (F.failed files.old) (F.failed files.new) name
-        × Appends (O.taken out.old) (O.taken out.new) (cannot_read name) }
+        × Appends (O.taken out.old) (O.taken out.new) (cannot_read name))
+        ⊎ (Rose (I.faults input.old) (I.faults input.new)
+        × Talked (F.held files.old) words.now (I.left input.old) (I.left input.new) (O.taken out.old) (O.taken out.new) result) }
     ensures unread { (F.failed files.new ≡ F.failed files.old) ⊎ ((name : List ℕ)
         × FailedAt (F.held files.old) (plan_of words.now) (F.failed files.old) (F.failed files.new) name
         × ((result ≡ 3) ⊎ (result ≡ 4) ⊎ (result ≡ 5))) }
@@ -206,12 +199,14 @@ pub fn serve_words<F: Files, I: Source, O: Sink, E: Engine>(
     ensures four { result ≡ 4 → Rose (O.faults out.old) (O.faults out.new) }
     ensures unwritten { O.faults out.old < O.faults out.new → result ≡ 4 }
 
-    // What the files hold stays as it was, and so does the source.
+    // What the files hold stays as it was, and so does the source, but for a talk.
     ensures files_held { F.held files.new ≡ F.held files.old }
-    ensures source_faults { I.faults input.new ≡ I.faults input.old }
-    ensures source_left { I.left input.new ≡ I.left input.old }
+    ensures source_faults { (I.faults input.new ≡ I.faults input.old)
+        ⊎ Talked (F.held files.old) words.now (I.left input.old) (I.left input.new) (O.taken out.old) (O.taken out.new) result }
+    ensures source_left { (I.left input.new ≡ I.left input.old)
+        ⊎ Talked (F.held files.old) words.now (I.left input.old) (I.left input.new) (O.taken out.old) (O.taken out.new) result }
+    ensures source_failed { I.faults input.old < I.faults input.new → (result ≡ 3) ⊎ (result ≡ 4) ⊎ (result ≡ 5) }
 {
-    let _ = input;
     wf_told::one_reason_against_a_resubmission();
-    serve(alloc, words, files, engine, out)
+    obey(alloc, words, files, engine, input, out)
 }

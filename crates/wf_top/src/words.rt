@@ -29,6 +29,8 @@ pub enum Command {
     Fires { from: u64, count: u32 },
     /// `drill N`: makes a run of a size, from 1 to 400, under three schedules, and says how it went.
     Drill { size: u32 },
+    /// `session DEF INPUTS`: talks of the run that inputs start, and takes answers of connectors from outside while it goes on.
+    Session,
 }
 
 /// The command that the words after the program's name are, or `None` where they are no command. It takes no memory.
@@ -45,6 +47,7 @@ pub fn parse_words(words: &[Text]) -> Option<Command>
         ("resubmit-set", 6..=505) => Some(Command::ResubmitSet),
         ("fires", 4) => fires_of(words[3].as_str(), words[4].as_str()),
         ("drill", 1) => drill_of(words[1].as_str()),
+        ("session", 2) => Some(Command::Session),
         _ => None,
     }
 }

@@ -28,7 +28,7 @@ fn words<R: Env + AllocGlobal>(rt: &R) -> io::Result<Vec<Text>> {
 
 // The status that the program ends with.
 fn status_of<R: Env + Files + Input + Print + AllocGlobal>(rt: &R) -> u8
-    ensures { result ≤ 8 }
+    ensures { result ≤ 9 }
 {
     let words = match words(rt) {
         Ok(words) => words,

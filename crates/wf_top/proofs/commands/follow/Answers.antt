@@ -14,14 +14,14 @@ returns-in-Check g c =
     let words = c.args.words.now in
     let second : c.index-words-1-in-Check.result ≡ word words 1 =
     c.index-words-1-in-Check.is
-    ∙ get_or_default words 1 c.index-words-1-in-Check.result [] (some_length c.args.command words c.requires) in record {
+    ∙ get_or_default words 1 c.index-words-1-in-Check.result [] (some_length c.args.command words c.requires.names) in record {
       follows = rw (plan_defined c.args.command words c.in-Check.is, sym second) c.defined.ensures.follows;
       same = c.defined.ensures.same;
     }
 
 -- `drill` reads no file
 pub drilled-requires : goal.drilled-requires
-drilled-requires g c = drill_size c.args.words.now c.in-Drill.size (c.requires ∙ ap Some c.in-Drill.is)
+drilled-requires g c = drill_size c.args.words.now c.in-Drill.size (c.requires.names ∙ ap Some c.in-Drill.is)
 
 pub returns-in-Drill-clause-follows : goal.returns-in-Drill-clause-follows
 returns-in-Drill-clause-follows g c =

@@ -1,0 +1,9 @@
+pub mod WaitLemmas
+pub mod AcceptLemmas
+pub mod CostLemmas
+pub mod ScanLemmas
+pub mod NextLemmas
+pub mod MissingLemmas
+pub mod StoodLemmas
+pub mod StandsLemmas
+pub mod TakenLemmas

@@ -1,0 +1,59 @@
+use Rattle.std.proofs.Common.{IfSome, sym, subst, refl}
+use Rattle.wf_asks.specs.Instances.{address_of}
+use Rattle.wf_asks.specs.declared.instance.Instance.{Instance}
+use Rattle.wf_kept.specs.Reached.{IsReached}
+use Rattle.wf_tables.specs.Tables.{event_tree}
+use Rattle.wf_actions.specs.Meant.{depth, source}
+use Rattle.wf_session.specs.Begun.{going, graph, moment}
+use Rattle.wf_session.specs.Settled.{HasLooked, IsHeld, WillHappen}
+use Rattle.wf_session.specs.Waiting.{IsMissing}
+use Rattle.wf_session.proofs.NextLemmas.{listed_enabled}
+use Rattle.wf_session.proofs.ScanLemmas.{held_alike, held_kept, looked_kept}
+use Rattle.wf_session.proofs.settle.look.Goals as goal
+
+pub returns-then-are_alike-clause-held : goal.returns-then-are_alike-clause-held
+returns-then-are_alike-clause-held c = λ none.
+    held_alike (going c.args.making.now.0) (moment c.args.making.now.1) c.args.now c.args.ready.now.0 c.args.waits.now c.args.place
+    c.requires.waiting (c.are_alike.ensures c.if-are_alike.true)
+
+pub missing-requires : goal.missing-requires
+missing-requires c =
+    let h = c.args.making.now in
+    let reached : IsReached (graph (going h.0)) (depth h.0) (source h.0) (moment h.1) =
+    subst (λ s. IsReached (graph (going s.0)) (depth s.0) (source s.0) (moment s.1)) c.state-kept.ensures c.is_reached.ensures in
+    listed_enabled (going h.0) (moment h.1) c.args.ready.now.0 (depth h.0) reached c.requires.ready c.args.place c.at-event.result.now
+    c.at-event.ensures.item
+
+pub returns-in_ok-keep-in-Some-clause-looked : goal.returns-in_ok-keep-in-Some-clause-looked
+returns-in_ok-keep-in-Some-clause-looked c =
+    let g = going c.args.making.now.0 in
+    let s = moment c.args.making.now.1 in
+    let missing : IsMissing g s (address_of c.at-event.result.now.instance) c.in-Some.want =
+    subst (λ o. IfSome o (IsMissing g s (address_of c.at-event.result.now.instance))) c.in-Some.is c.in_ok-want.ensures.missing in
+    subst (HasLooked g s c.args.now c.args.waits.now) (sym c.in_ok-keep-in-Some.ensures)
+    (looked_kept g s c.args.now c.args.waits.now c.requires.waiting c.in-Some.want c.at-event.result.now.instance missing)
+
+pub returns-in_ok-keep-in-Some-clause-held : goal.returns-in_ok-keep-in-Some-clause-held
+returns-in_ok-keep-in-Some-clause-held c = λ none.
+    let g = going c.args.making.now.0 in
+    let s = moment c.args.making.now.1 in
+    let missing : IsMissing g s (address_of c.at-event.result.now.instance) c.in-Some.want =
+    subst (λ o. IfSome o (IsMissing g s (address_of c.at-event.result.now.instance))) c.in-Some.is c.in_ok-want.ensures.missing in
+    subst (λ ws. IsHeld g s c.args.ready.now.0 ws c.args.place) (sym c.in_ok-keep-in-Some.ensures)
+    (held_kept g s c.args.now c.args.waits.now c.requires.waiting c.in-Some.want c.at-event.result.now.instance missing c.args.ready.now.0
+    c.args.place c.at-event.result.now c.at-event.ensures.item refl)
+
+pub returns-in_ok-instance-in-None-clause-happens : goal.returns-in_ok-instance-in-None-clause-happens
+returns-in_ok-instance-in-None-clause-happens c =
+    let h = c.args.making.now in
+    let g = going h.0 in
+    let s = moment h.1 in
+    let reached : IsReached (graph g) (depth h.0) (source h.0) s =
+    subst (λ k. IsReached (graph (going k.0)) (depth k.0) (source k.0) (moment k.1)) c.state-kept.ensures c.is_reached.ensures in
+    let event = c.at-event.result.now in
+    let happens : WillHappen g s (event_tree event) = record {
+      enabled = listed_enabled g s c.args.ready.now.0 (depth h.0) reached c.requires.ready c.args.place event c.at-event.ensures.item;
+      answered = c.in_ok-want.ensures.none c.in-None.is;
+    } in
+    subst (λ (i : Instance). WillHappen g s (event_tree (record { instance = i; kind = event.kind }))) (sym c.in_ok-instance-in-None.ensures)
+    happens
