@@ -13,8 +13,8 @@ use Rattle.wf_order.specs.Turns.{AreSettled, IsInNoLoop, IsInstance, IsInTurn, I
 use Rattle.wf_paths.proofs.PathLemmas.{or_left, or_right}
 use Rattle.wf_reading.proofs.RunAfterLemmas.{append-first}
 use Rattle.wf_rules.specs.Broken.{offences, told}
-use Rattle.wf_breaks.specs.Rules.{action_breaks, breaks_itself}
-use Rattle.wf_breaks.specs.declared.rule.Rule.{Rule}
+use Rattle.wf_rules.specs.Rules.{action_breaks, breaks_itself}
+use Rattle.wf_rules.specs.Rule.{Rule}
 use Rattle.wf_standing.specs.Kinds.{ends_or_responds, is_loop, is_response, is_terminate}
 use Rattle.wf_standing.specs.Standing.{StandingTree, kind_at, number_at, pointer_at, standings_of}
 use Rattle.wf_standing.specs.Whole.{whole_of}

@@ -19,12 +19,12 @@ use Rattle.wf_refs.specs.declared.site.Site.{Site}
 use Rattle.wf_rules.specs.Broken.{offences, told}
 use Rattle.wf_standing.specs.Kinds.{is_foreach, is_loop, is_until}
 use Rattle.wf_standing.specs.Inside.{has_item, is_inside, is_items, is_left, is_test}
-use Rattle.wf_breaks.specs.Rules.{action_breaks, breaks_if, breaks_with, leaves_loops}
+use Rattle.wf_rules.specs.Rules.{action_breaks, breaks_if, breaks_with, leaves_loops}
 use Rattle.wf_standing.specs.Inside.{loops_left}
-use Rattle.wf_breaks.specs.Rules.{leaves_two, leaves_two_for, names_outer}
+use Rattle.wf_rules.specs.Rules.{leaves_two, leaves_two_for, names_outer}
 use Rattle.wf_standing.specs.Standing.{StandingTree, kind_at, number_at, pointer_at, standings_of}
 use Rattle.wf_standing.specs.Whole.{has_name, whole_of}
-use Rattle.wf_breaks.specs.declared.rule.Rule.{Rule}
+use Rattle.wf_rules.specs.Rule.{Rule}
 use Rattle.wf_accepted_laws.proofs.RoundLemmas.{all-weaker}
 use Rattle.wf_accepted_laws.proofs.SeenLemmas.{at-site, both, either, none-first, none-of, none-second, none-told, two}
 use Rattle.wf_accepted_laws.specs.Loops.{AllAskLoopsRound, AllLeaveFew, AsksLoopsRound, IsInLoop, IsInLoopNamed, IsOneOf, IsRound}

@@ -7,8 +7,8 @@ use Rattle.wf_layers.specs.Definition.{Graph, has}
 use Rattle.wf_def.specs.DefTree.{DefTree}
 use Rattle.wf_reading.proofs.RunAfterLemmas.{append-second, map-none}
 use Rattle.wf_rules.specs.Broken.{first_pointer, offences, pairs_told, parameter_pointer, told, told_in}
-use Rattle.wf_breaks.specs.Rules.{action_breaks, output_breaks, parameter_breaks, trigger_breaks}
-use Rattle.wf_breaks.specs.declared.rule.Rule.{Rule}
+use Rattle.wf_rules.specs.Rules.{action_breaks, output_breaks, parameter_breaks, trigger_breaks}
+use Rattle.wf_rules.specs.Rule.{Rule}
 use Rattle.wf_standing.specs.Standing.{StandingTree, number_at, pointer_at, standings_of}
 use Rattle.wf_standing.specs.Whole.{Whole, whole_of}
 use Rattle.wf_varorder.specs.Pairs.{pairs_of}

@@ -16,11 +16,11 @@ use Rattle.wf_refs.specs.declared.site.Site.{Site}
 use Rattle.wf_rules.specs.Broken.{broken_of, offences, rules_in_order, told}
 use Rattle.wf_rules.specs.First.{first_broken}
 use Rattle.wf_standing.specs.Inside.{is_test}
-use Rattle.wf_breaks.specs.Rules.{action_breaks, breaks_at, breaks_if, breaks_itself, is_found_unseen, is_unseen}
-use Rattle.wf_breaks.specs.Rules.{names_unseen}
+use Rattle.wf_rules.specs.Rules.{action_breaks, breaks_at, breaks_if, breaks_itself, is_found_unseen, is_unseen}
+use Rattle.wf_rules.specs.Rules.{names_unseen}
 use Rattle.wf_standing.specs.Standing.{StandingTree, number_at, pointer_at, standings_of}
 use Rattle.wf_standing.specs.Whole.{Whole, has_name, is_seen, whole_of}
-use Rattle.wf_breaks.specs.declared.rule.Rule.{Rule}
+use Rattle.wf_rules.specs.Rule.{Rule}
 use Rattle.wf_accepted_laws.specs.Seen.{AreSeen, IsNamedAt, IsSeenFrom, IsSiteOf, at_inputs, at_items, at_test, at_tracked}
 
 -- ---- truth values

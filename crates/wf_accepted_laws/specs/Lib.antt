@@ -1,4 +1,5 @@
 pub use Rattle.wf_rules.specs.Broken
+pub use Rattle.wf_varorder.specs.Pairs
 pub mod Seen
 pub mod Instances
 pub mod Loops

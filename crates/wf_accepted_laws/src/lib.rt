@@ -29,6 +29,8 @@ ghost use Rattle.wf_def.specs.AllActions.{all_actions};
 ghost use Rattle.wf_rules.specs.Broken.{broken_of};
 ghost use Rattle.wf_standing.specs.Standing.{number_at, standings_of};
 
+pub use wf_rules::the_first_broken_rule;
+
 /// The rules look at all actions of a graph, at any depth, and at no others.
 pub fn standings_are_the_actions()
     ensures { (graph : ActionTrees) → map (λ s. s.action) (standings_of graph) ≡ all_actions graph }

@@ -8,7 +8,7 @@ use Rattle.wf_layers.specs.Laws.{IsInstance}
 use Rattle.wf_meant.specs.Answering.{RowSource}
 use Rattle.wf_meant.specs.Resubmitted.{pinned_source}
 use Rattle.wf_meant.specs.Source as meant
-use Rattle.wf_meant_laws.specs.Answered.{IsAnswered}
+use Rattle.wf_sight_laws.specs.Answered.{IsAnswered}
 use Rattle.wf_reading.specs.ReadSeen.{def_tree}
 use Rattle.wf_record.specs.Seen.{record_tree}
 use Rattle.wf_record.specs.declared.record.Record.{Record}

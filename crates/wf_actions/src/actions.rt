@@ -5,7 +5,7 @@ ghost use Rattle.wf_asks.specs.Instances.{address_of};
 ghost use Rattle.wf_def.specs.AllActions.{all_actions};
 ghost use Rattle.wf_doing.specs.Halting.{terminates_in};
 ghost use Rattle.wf_environment.specs.Environment.{fresh};
-ghost use Rattle.wf_meant_laws.specs.Answered.{IsAnswered};
+ghost use Rattle.wf_sight_laws.specs.Answered.{IsAnswered};
 ghost use Rattle.wf_reading.specs.ReadSeen.{def_tree};
 ghost use Rattle.wf_trigger.specs.StartsSeen.{start_tree};
 ghost use Rattle.wf_actions.specs.Origin.{source_by};

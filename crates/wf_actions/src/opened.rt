@@ -1,5 +1,5 @@
 //! That a definition was read, and that the actions of a run answer.
-ghost use Rattle.wf_meant_laws.specs.Answered.{IsAnswered};
+ghost use Rattle.wf_sight_laws.specs.Answered.{IsAnswered};
 ghost use Rattle.wf_reading.specs.Read.{IsRead};
 ghost use Rattle.wf_reading.specs.ReadSeen.{def_tree};
 ghost use Rattle.wf_actions.specs.Meant.{definition_of, environment_of, source};

@@ -14,7 +14,7 @@ use Rattle.wf_def.specs.DefTree.{ParamTree}
 use Rattle.wf_def.specs.Sorts.{has_sort}
 use Rattle.wf_def.specs.declared.sort.Sort.{Sort}
 use Rattle.wf_uses.specs.UsesTree.{UsesTree}
-use Rattle.wf_refs.specs.declared.site.Site.{Site}
+use Rattle.wf_standing.specs.Site.{Site}
 use Rattle.wf_standing.specs.Inside.{has_item, is_in_loop, is_outside, is_tracked, loops_left}
 use Rattle.wf_standing.specs.Kinds.{ends_or_responds, is_container, is_initialize, is_loop, suits}
 use Rattle.wf_standing.specs.Standing.{StandingTree, kind_at, number_at}

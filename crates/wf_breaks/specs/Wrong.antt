@@ -1,6 +1,6 @@
 -- What may be wrong with a name at a site.
 use Rattle.std.specs.Prelude.{ℕ, List, Bool, not, Option}
-use Rattle.wf_refs.specs.declared.site.Site.{Site}
+use Rattle.wf_standing.specs.Site.{Site}
 use Rattle.wf_standing.specs.Inside.{is_outside}
 use Rattle.wf_breaks.specs.Rules.{is_misread, is_miswritten, is_no_container, is_uninitialised, is_unseen, leaves_two}
 use Rattle.wf_breaks.specs.Rules.{leaves_two_for}

@@ -14,8 +14,7 @@ ghost use Rattle.wf_val.specs.Seen.{tree};
 use crate::rule::Rule;
 use crate::wrong::{Wrong, any_wrong};
 use wf_def::{Param, Sort};
-use wf_refs::Site;
-use wf_standing::{Known, Standing, ends_or_responds, has_item, is_in_loop, is_tracked};
+use wf_standing::{Known, Site, Standing, ends_or_responds, has_item, is_in_loop, is_tracked};
 use wf_uses::{Names, Uses};
 use wf_val::{Fields, Val, Vals};
 

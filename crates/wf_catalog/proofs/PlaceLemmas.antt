@@ -12,7 +12,7 @@ use Rattle.wf_def.specs.AllActions.{has_number, numbered}
 use Rattle.wf_def.specs.DefTree.{DefTree}
 use Rattle.wf_def.specs.declared.graph.Action.{Action, out-Action}
 use Rattle.wf_def.specs.declared.graph.Kind.TheFolds.{fold_out-Action}
-use Rattle.wf_refs.specs.Sites.{writes_of}
+use Rattle.wf_meant.specs.Sites.{writes_of}
 use Rattle.wf_meant.specs.Points.{graph_of, has_action_name}
 use Rattle.wf_loops.specs.Loops.{loops_of}
 use Rattle.wf_catalog.specs.Keys.{all_put}

@@ -1,3 +1,6 @@
+pub use Rattle.wf_meant.specs.Points
+pub use Rattle.wf_meant.specs.Rows
+pub use Rattle.wf_meant.specs.References
 pub mod Keys
 pub mod Walk
 pub mod WalkSeen

@@ -9,7 +9,7 @@ use Rattle.wf_def.specs.AllActions.{numbered}
 use Rattle.wf_def.specs.DefTree.{DefTree}
 use Rattle.wf_def.specs.declared.graph.Action.{out-Action}
 use Rattle.wf_loops.specs.Loops.{loops_of}
-use Rattle.wf_refs.specs.Sites.{writes_of}
+use Rattle.wf_meant.specs.Sites.{writes_of}
 use Rattle.wf_meant.specs.Points.{action_named, graph_of}
 use Rattle.wf_catalog.specs.Variables.{numbers_by, variable_number, written}
 use Rattle.wf_catalog.specs.Walk.{Walked}

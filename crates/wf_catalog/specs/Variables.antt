@@ -3,7 +3,7 @@ use Rattle.std.specs.Prelude.{ℕ, suc, List, [], ◌∷◌, Option, Some, None,
 use Rattle.wf_def.specs.ActionTree.{ActionTree, action_kind}
 use Rattle.wf_def.specs.AllActions.{all_actions, numbered}
 use Rattle.wf_def.specs.DefTree.{DefTree}
-use Rattle.wf_refs.specs.Sites.{writes_of}
+use Rattle.wf_meant.specs.Sites.{writes_of}
 
 -- the names of the variables that actions write, as often as they are written
 abbrev pub written_names : List ActionTree → List (List ℕ)

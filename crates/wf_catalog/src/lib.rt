@@ -18,3 +18,4 @@ pub use actions::{kind_of, name_of, number_of};
 pub use named::Named;
 pub use places::Places;
 pub use tables::by_keys;
+pub use wf_meant::{items_said, rounds_said};

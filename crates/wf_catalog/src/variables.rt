@@ -1,7 +1,7 @@
 //! The numbers of variables.
 ghost use Rattle.std.specs.Prelude.{◌≡◌, ◌∷◌, ◌++◌, [], ℕ, List, IfOk, map};
 ghost use Rattle.wf_def.specs.ActionSeen.{action_tree, initial_tree, kind_tree};
-ghost use Rattle.wf_refs.specs.Sites.{writes_of};
+ghost use Rattle.wf_meant.specs.Sites.{writes_of};
 ghost use Rattle.wf_catalog.specs.PlacesSeen.{number_in, variable_tree};
 ghost use Rattle.wf_catalog.specs.Variables.{first_place, listed, numbered_from, numbers_by, written_names};
 

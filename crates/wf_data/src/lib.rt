@@ -25,3 +25,4 @@ pub use lists::{join, query, select};
 pub use made::{Made, fitting, one_member};
 pub use parsed::parse_json;
 pub use simple::{compose, response, run_status, terminate, wait};
+pub use wf_eval::eval_tree;

@@ -23,13 +23,13 @@ use crate::rows::{row, unknown_row};
 use crate::setting::{Setting, sight, tracked_of};
 use std::alloc::{AllocError, Global};
 use wf_asks::{Instance, Known};
-use wf_catalog::{kind_of, name_of};
 use wf_closing::Inside;
 use wf_def::Action;
 use wf_done::{Begun, Done, tracked, view};
 use wf_opening::{Decision, Verdict};
 use wf_record::{Row, Tries};
 use wf_val::Val;
+use wf_views::{kind_of, name_of};
 
 // Tracked properties, which see what their action came to.
 fn properties<'a>(

@@ -19,12 +19,12 @@ use crate::rows::unknown;
 use crate::setting::{Setting, sight, sight_in_test};
 use std::alloc::{AllocError, Global};
 use wf_asks::{Instance, Known};
-use wf_catalog::kind_of;
 use wf_def::{Action, Kind};
 use wf_done::{Begun, begin};
 use wf_opening::{Decision, Verdict, open, test};
 use wf_record::Row;
 use wf_sight::Sight;
+use wf_views::kind_of;
 
 fn begun<'a>(
     alloc: Global,

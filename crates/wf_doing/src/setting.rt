@@ -13,7 +13,6 @@ ghost use Rattle.wf_doing.specs.Seen.{environment_of, seen, seen_by_test};
 use std::alloc::{AllocError, Global};
 use wf_answers::Inputs;
 use wf_asks::{Instance, Known};
-use wf_catalog::Places;
 use wf_def::Action;
 use wf_opening::{Decision, Verdict};
 use wf_record::Row;
@@ -21,6 +20,7 @@ use wf_sight::{Run, Sight};
 use wf_template::Tree;
 use wf_trigger::Start;
 use wf_val::Text;
+use wf_views::Places;
 
 /// A definition, and a run of it that isn't made from another.
 #[derive(Drop)]

@@ -5,7 +5,7 @@ use Rattle.wf_val.specs.declared.fault.EvalFault.{EvalFault}
 use Rattle.wf_def.specs.DefTree.{OutputTree}
 use Rattle.wf_look.specs.Outcomes.{Run}
 use Rattle.wf_look.specs.Told.{Told}
-use Rattle.wf_eval.specs.TreeValue.{members_after, tree_value}
+use Rattle.wf_trigger.specs.TreeValue.{members_after, tree_value}
 use Rattle.wf_json.specs.FaultText.{fault_text}
 use Rattle.wf_record.specs.declared.status.Status as row_status
 use Rattle.wf_record.specs.declared.status.RunStatus.{RunStatus}

@@ -1,3 +1,4 @@
+pub use Rattle.wf_look.specs.Args
 pub mod TemplateValue
 pub mod TreeValue
 pub mod Truth

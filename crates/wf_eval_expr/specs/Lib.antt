@@ -1,3 +1,4 @@
+pub use Rattle.wf_look.specs.Args
 pub mod Ways
 pub mod Value
 pub mod Seen

@@ -20,6 +20,10 @@ ghost use Rattle.wf_meant.specs.Points.{graph_of};
 ghost use Rattle.wf_meant.specs.Record.{depth_of};
 ghost use Rattle.wf_meant.specs.Source.{source};
 
+pub use wf_accepted_laws::{
+    standings_are_the_actions, the_first_broken_rule, variables_are_in_one_order,
+};
+
 /// How many actions are before an action falls along every entry of a `runAfter`.
 pub fn depths_are_how_many_are_before()
     ensures { (d : DefTree) → IsRead d → IsDepth (graph_of d) (depth_of d) }

@@ -20,7 +20,7 @@ ghost use Rattle.wf_record.specs.Cost.{cost};
 pub fn a_run_leaves_a_row_of_each_action()
     ensures { (d : DefTree) → IsRead d → broken_of d ≡ None → (e : Environment) → EachHasARow d (table_of d e (depth_of d)) }
 {
-    wf_instance::a_definition_is_an_instance();
+    wf_meant_laws::a_definition_is_an_instance();
 }
 
 /// So it costs at least as much as these rows.

@@ -1,3 +1,4 @@
+pub use Rattle.wf_functions.specs.Rows
 pub mod Told
 pub mod Outcomes
 pub mod Meets

@@ -21,8 +21,8 @@ use Rattle.wf_record.specs.declared.attempt.Try.{Try}
 use Rattle.wf_record.specs.declared.status.RunStatus.{RunStatus}
 use Rattle.wf_record.specs.declared.status.Status.{Status}
 use Rattle.wf_record.specs.declared.status.Status.TheVariants.{Succeeded, Failed, Skipped, TimedOut, Cancelled}
-use Rattle.wf_opening.specs.Decisions.{nothing, chosen, each, too_many, faulty}
-use Rattle.wf_opening.specs.Verdicts.{met, astray}
+use Rattle.wf_says.specs.Decisions.{nothing, chosen, each, too_many, faulty}
+use Rattle.wf_says.specs.Verdicts.{met, astray}
 use Rattle.wf_done.specs.Done as done
 use Rattle.wf_environment.specs.Environment.{Environment}
 use Rattle.wf_meant.specs.Containers.{closed, closed_as, failed_by, iterations_value}

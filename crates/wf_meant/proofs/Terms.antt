@@ -10,7 +10,7 @@ use Rattle.wf_template.specs.TemplateTree.{plain, whole}
 use Rattle.wf_retry.specs.declared.policy.Outcome.{Outcome}
 use Rattle.wf_answers.specs.AnswerTree.{AnswerTree}
 use Rattle.wf_answers.specs.Inputs.{InputsTree}
-use Rattle.wf_trigger.specs.Starts.{StartTree}
+use Rattle.wf_environment.specs.Starts.{StartTree}
 use Rattle.wf_def.specs.ActionTree.{ActionTree, action, InitialTree, KindTree, action_trees}
 use Rattle.wf_def.specs.DefTree.{DefTree}
 use Rattle.wf_def.specs.declared.after.After.{After}

@@ -14,8 +14,8 @@ use Rattle.wf_def.specs.AllActions.{kind_actions}
 use Rattle.wf_record.specs.Record.{Row}
 use Rattle.wf_record.specs.declared.status.Status.{Status}
 use Rattle.wf_record.specs.declared.status.Status.TheVariants.{Succeeded, Failed, Cancelled}
-use Rattle.wf_opening.specs.Decisions.{DecisionTree, held, chosen, each, too_many, faulty, taken}
-use Rattle.wf_opening.specs.Verdicts.{VerdictTree, met, astray, tested_from}
+use Rattle.wf_says.specs.Decisions.{DecisionTree, held, chosen, each, too_many, faulty, taken}
+use Rattle.wf_says.specs.Verdicts.{VerdictTree, met, astray, tested_from}
 use Rattle.wf_done.specs.Done.{DoneTree, faulted}
 use Rattle.wf_meant.specs.Status.{graph_status}
 

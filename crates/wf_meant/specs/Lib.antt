@@ -1,3 +1,5 @@
+pub use Rattle.wf_refs.specs.Sites
+pub use Rattle.wf_done.specs.Done
 pub mod Points
 pub mod Rows
 pub mod References

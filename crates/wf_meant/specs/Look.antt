@@ -10,9 +10,9 @@ use Rattle.wf_layers.specs.Address.{Address, Table, address}
 use Rattle.wf_def.specs.ActionTree.{ActionTree, action_kind, action_name}
 use Rattle.wf_def.specs.AllActions.{numbered}
 use Rattle.wf_def.specs.DefTree.{DefTree}
-use Rattle.wf_trigger.specs.Starts.{StartTree}
+use Rattle.wf_environment.specs.Starts.{StartTree}
 use Rattle.wf_record.specs.Record.{Row}
-use Rattle.wf_opening.specs.Decisions.{DecisionTree, nothing, each, decided}
+use Rattle.wf_says.specs.Decisions.{DecisionTree, nothing, each, decided}
 use Rattle.wf_done.specs.Tracked.{with_own}
 use Rattle.wf_environment.specs.Environment.{Environment, Facts, facts_of, last_facts}
 use Rattle.wf_meant.specs.Points.{Point, point_of, point_of_outputs, point_of_test}

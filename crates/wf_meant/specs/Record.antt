@@ -11,7 +11,7 @@ use Rattle.wf_def.specs.DefTree.{DefTree}
 use Rattle.wf_def.specs.Names.{graph_names}
 use Rattle.wf_record.specs.Record.{RecordTree, Row, RowTree}
 use Rattle.wf_record.specs.declared.status.RunStatus.{RunStatus}
-use Rattle.wf_data.specs.Simple.{run_status_of}
+use Rattle.wf_says.specs.Simple.{run_status_of}
 use Rattle.wf_environment.specs.Ending.{Ending, ending, section}
 use Rattle.wf_environment.specs.Environment.{Environment, last_facts}
 use Rattle.wf_meant.specs.Containers.{has_succeeded, is_terminate}

@@ -11,8 +11,8 @@ use Rattle.wf_def.specs.AllActions.{numbered}
 use Rattle.wf_def.specs.DefTree.{DefTree}
 use Rattle.wf_answers.specs.Inputs.{InputsTree}
 use Rattle.wf_record.specs.Record.{RecordTree, Row, RowTree, find_row}
-use Rattle.wf_opening.specs.Decisions.{DecisionTree, nothing, chosen_as, held_as}
-use Rattle.wf_opening.specs.Verdicts.{VerdictTree}
+use Rattle.wf_says.specs.Decisions.{DecisionTree, nothing, chosen_as, held_as}
+use Rattle.wf_says.specs.Verdicts.{VerdictTree}
 use Rattle.wf_done.specs.Leaf.{BegunTree}
 use Rattle.wf_environment.specs.Environment.{Environment, fresh}
 use Rattle.wf_meant.specs.Look.{instance}

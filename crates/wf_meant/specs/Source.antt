@@ -12,8 +12,8 @@ use Rattle.wf_def.specs.AllActions.{all_actions, numbered}
 use Rattle.wf_def.specs.DefTree.{DefTree}
 use Rattle.wf_record.specs.Record.{Row}
 use Rattle.wf_record.specs.declared.attempt.Try.{Try}
-use Rattle.wf_opening.specs.Decisions.{DecisionTree, items_of, taken}
-use Rattle.wf_opening.specs.Verdicts.{VerdictTree, met, ends}
+use Rattle.wf_says.specs.Decisions.{DecisionTree, items_of, taken}
+use Rattle.wf_says.specs.Verdicts.{VerdictTree, met, ends}
 use Rattle.wf_done.specs.Done as done
 use Rattle.wf_done.specs.Done.{DoneTree}
 use Rattle.wf_done.specs.Leaf as leaf

@@ -10,7 +10,7 @@ use Rattle.wf_def.specs.AllActions.{all_actions}
 use Rattle.wf_def.specs.DefTree.{DefTree}
 use Rattle.wf_refs.specs.Sites.{writes_of}
 use Rattle.wf_record.specs.declared.status.Status.{Status}
-use Rattle.wf_variables.specs.Given.{gives}
+use Rattle.wf_done.specs.Given.{gives}
 use Rattle.wf_loops.specs.Loops.{loops_of}
 use Rattle.wf_meant.specs.Points.{Point, graph_of, point_of, sees}
 use Rattle.wf_meant.specs.References.{upto}

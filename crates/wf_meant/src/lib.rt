@@ -23,6 +23,8 @@ ghost use Rattle.wf_environment.specs.Environment.{Environment};
 ghost use Rattle.wf_meant.specs.Record.{depth_of, meaning, record_of_table, rows_of};
 ghost use Rattle.wf_meant.specs.Source.{table_of};
 
+pub use wf_says::{items_said, rounds_said};
+
 /// A definition means the record of its table, whose depths are how many actions are before an action; the record has the rows of the
 /// table.
 pub fn a_record_is_of_the_table()

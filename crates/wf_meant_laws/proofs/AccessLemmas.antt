@@ -16,8 +16,8 @@ use Rattle.wf_def.specs.DefTree.{DefTree}
 use Rattle.wf_def.specs.Layered.{layered_kind}
 use Rattle.wf_refs.specs.Sites.{uses_at_inputs, writes_of}
 use Rattle.wf_uses.specs.UsesTree.{ordered}
-use Rattle.wf_varorder.specs.Pairs.{writes_if}
-use Rattle.wf_accepted_laws.specs.Variables.{VariablesAreInOneOrder, WritesIt}
+use Rattle.wf_instance.specs.Pairs.{writes_if}
+use Rattle.wf_instance.specs.Variables.{VariablesAreInOneOrder, WritesIt}
 use Rattle.wf_record.specs.Record.{Row}
 use Rattle.wf_record.specs.declared.status.Status.{Status}
 use Rattle.wf_environment.specs.Environment.{Environment}

@@ -6,7 +6,7 @@ use Rattle.wf_layers.specs.Definition.{Graph, Kind, Until, kind_of}
 use Rattle.wf_layers.specs.Variables.{IsLastSeen, SeenByTest, WritersHaveOrder}
 use Rattle.wf_def.specs.DefTree.{DefTree}
 use Rattle.wf_order.specs.Turns.{IsInstance}
-use Rattle.wf_accepted_laws.specs.Variables.{ReadsIt, WritesIt}
+use Rattle.wf_instance.specs.Variables.{ReadsIt, WritesIt}
 use Rattle.wf_record.specs.Record.{Row}
 use Rattle.wf_meant.specs.Answering.{RowSource}
 use Rattle.wf_meant.specs.Points.{Point, graph_of, point_of, point_of_test}

@@ -6,7 +6,7 @@ use Rattle.wf_layers.specs.Machine.{Event, IsDecided, IsThere, MayTest, Opening,
 use Rattle.wf_layers.specs.Variables.{Stores}
 use Rattle.wf_def.specs.DefTree.{DefTree}
 use Rattle.wf_order.specs.Turns.{IsInstance}
-use Rattle.wf_accepted_laws.specs.Variables.{ReadsIt, WritesIt}
+use Rattle.wf_instance.specs.Variables.{ReadsIt, WritesIt}
 use Rattle.wf_opening.specs.Decisions.{DecisionTree}
 use Rattle.wf_opening.specs.Verdicts.{VerdictTree}
 use Rattle.wf_done.specs.Leaf.{BegunTree}

@@ -21,7 +21,7 @@ ghost use Rattle.wf_seen_laws.specs.Laws.{IsKept};
 ghost use Rattle.wf_def.specs.DefTree.{DefTree};
 ghost use Rattle.wf_reading.specs.Read.{IsRead};
 ghost use Rattle.wf_record.specs.Record.{Row};
-ghost use Rattle.wf_accepted_laws.specs.Broken.{broken_of};
+ghost use Rattle.wf_instance.specs.Broken.{broken_of};
 ghost use Rattle.wf_environment.specs.Environment.{Environment};
 ghost use Rattle.wf_meant.specs.Answering.{AnswersAs, RowSource};
 ghost use Rattle.wf_meant.specs.Points.{graph_of};
@@ -33,6 +33,10 @@ ghost use Rattle.wf_meant_laws.specs.Listed.{StandFor};
 ghost use Rattle.wf_meant_laws.specs.Store.{StoresTell};
 ghost use Rattle.wf_meant_laws.specs.Tables.{AreWhole, StandAtInstances};
 ghost use Rattle.wf_meant_laws.specs.Writers.{writes_to};
+
+pub use wf_instance::{
+    a_definition_is_an_instance, depths_are_how_many_are_before, standings_are_the_actions,
+};
 
 /// The rows that an accepted definition means stand at instances, each in iterations of which the rows of the loops round it tell.
 pub fn meant_rows_are_whole()
@@ -51,7 +55,7 @@ pub fn writers_are_in_one_order()
     ensures readers { (d : DefTree) → IsRead d → broken_of d ≡ None → (m : RowSource) (rows : Table Row) → StandAtInstances d rows
         → AccessesHaveOrder d m rows }
 {
-    wf_accepted_laws::variables_are_in_one_order();
+    wf_instance::variables_are_in_one_order();
     wf_known_laws::numbers_stand_once();
     wf_uses::names_are_those_named();
 }

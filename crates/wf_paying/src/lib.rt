@@ -65,7 +65,7 @@ pub fn runs_cost_what_rows_are_meant()
         → IsPriced row_content begun_tree decision_tree verdict_tree (graph_of d) (depth_of d) m cost_of_row begun_weight decision_weight
         (rows_meant d (table_by d m)) }
 {
-    wf_instance::a_definition_is_an_instance();
+    wf_meant_laws::a_definition_is_an_instance();
     rows_pay_their_parts();
     the_record_tells_what_rows_cost();
 }

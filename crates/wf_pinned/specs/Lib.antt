@@ -1,1 +1,2 @@
+pub use Rattle.wf_meant_laws.specs.Answered
 pub mod Old

@@ -24,7 +24,7 @@ pub fn kept_rows_are_the_records()
     ensures { (d : DefTree) → IsRead d → broken_of d ≡ None → (r : RecordTree) (i : InputsTree) (from : List ℕ) → MayGoOn d r i from
         → (x : Address) → keeps d from x.name ≡ true → pinned_table d r i from x ≡ rows_by d r.rows x }
 {
-    wf_instance::a_definition_is_an_instance();
+    wf_meant_laws::a_definition_is_an_instance();
 }
 
 /// And it goes by a source by which the definition answers with the new inputs; all its rows, kept and new ones, are whole and give what
@@ -33,7 +33,7 @@ pub fn a_resubmission_is_answered()
     ensures { (d : DefTree) → IsRead d → broken_of d ≡ None → (r : RecordTree) (i : InputsTree) (from : List ℕ) → MayGoOn d r i from
         → IsAnswered d (resubmitted r i) (pinned_source d r i from) }
 {
-    wf_instance::a_definition_is_an_instance();
+    wf_meant_laws::a_definition_is_an_instance();
     wf_known_laws::numbers_stand_once();
     wf_known_laws::numbers_are_had();
     wf_meant_laws::new_rows_give_what_they_write();

@@ -21,7 +21,7 @@ use Rattle.wf_meant_laws.specs.Listed.{Entry, StandFor, told_as}
 use Rattle.wf_says.specs.Says.{is_skipped}
 use Rattle.wf_shape.specs.Standing.{fails}
 use Rattle.wf_turns.specs.Reading.{reading}
-use Rattle.wf_fits.specs.Fits.{fits_in}
+use Rattle.wf_shaped.specs.Fits.{fits_in}
 use Rattle.wf_shaped.specs.Failing.{IsLeastFailing}
 use Rattle.wf_shaped.specs.Told.{fails_by}
 use Rattle.wf_shaped.proofs.ExactLemmas.{AreKnown}

@@ -25,7 +25,7 @@ use Rattle.wf_environment.specs.Environment.{Environment}
 use Rattle.wf_meant.specs.Points.{graph_of}
 use Rattle.wf_meant.specs.Record.{depth_of}
 use Rattle.wf_meant.specs.Source.{source, table_of}
-use Rattle.wf_fits.specs.Sorts.{initials_of, sort_of}
+use Rattle.wf_shaped.specs.Sorts.{initials_of, sort_of}
 use Rattle.wf_turns.specs.Reading.{reading}
 use Rattle.wf_shaped.proofs.ExactLemmas.{AreKnown}
 use Rattle.wf_shaped.proofs.ListLemmas.{In, in_map}

@@ -22,7 +22,7 @@ use Rattle.wf_says.specs.Says.{is_skipped}
 use Rattle.wf_shape.specs.Standing.{Standing, fails, fails_as}
 use Rattle.wf_ways.proofs.StandLemmas.{stands_along}
 use Rattle.wf_turns.specs.Reading.{reading}
-use Rattle.wf_fits.specs.Fits.{fits_in}
+use Rattle.wf_shaped.specs.Fits.{fits_in}
 use Rattle.wf_shaped.specs.Failing.{IsLeastFailing}
 use Rattle.wf_shaped.specs.Told.{fails_by}
 use Rattle.wf_shaped.proofs.ExactLemmas.{AreKnown}

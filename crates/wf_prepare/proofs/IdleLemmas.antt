@@ -18,8 +18,8 @@ use Rattle.wf_says.specs.Says.{is_skipped}
 use Rattle.wf_says.specs.Told.{items_said, rounds_said}
 use Rattle.wf_shape.specs.Law.{Idle, IdleAny, IdleIn}
 use Rattle.wf_turns.specs.Reading.{reading}
-use Rattle.wf_fits.specs.Fits.{fits_as, fits_in}
-use Rattle.wf_fits.specs.Sorts.{sort_at}
+use Rattle.wf_shaped.specs.Fits.{fits_as, fits_in}
+use Rattle.wf_shaped.specs.Sorts.{sort_at}
 
 left_all : {X : Type 0} (P : X → Type 0) (xs ys : List X) → AllByRecursion P (xs ++ ys) → AllByRecursion P xs
 left_all P [] ys all = tt

@@ -23,7 +23,7 @@ use Rattle.wf_breaks.specs.Rules.{action_breaks, breaks_at, breaks_if, breaks_it
 use Rattle.wf_breaks.specs.declared.rule.Rule.{Rule}
 use Rattle.wf_rules.specs.Broken.{offences, told}
 use Rattle.wf_shaped.proofs.ListLemmas.{In, in_either, of_map}
-use Rattle.wf_fits.specs.Sorts.{all_initials, initials_of, sort_by, sort_of}
+use Rattle.wf_shaped.specs.Sorts.{all_initials, initials_of, sort_by, sort_of}
 use Rattle.wf_prepare.proofs.FailingLemmas.{clash}
 
 none_first : (b c : Bool) → (b || c) ≡ false → b ≡ false

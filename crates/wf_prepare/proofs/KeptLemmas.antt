@@ -34,8 +34,8 @@ use Rattle.wf_meant_laws.specs.Tables.{AreWhole}
 use Rattle.wf_meant_laws.specs.Writers.{writes_if}
 use Rattle.wf_meant_laws.proofs.WholeLemmas.{round_of}
 use Rattle.wf_turns.specs.Reading.{reading}
-use Rattle.wf_fits.specs.Fits.{fits_as, fits_in}
-use Rattle.wf_fits.specs.Sorts.{sort_at}
+use Rattle.wf_shaped.specs.Fits.{fits_as, fits_in}
+use Rattle.wf_shaped.specs.Sorts.{sort_at}
 use Rattle.wf_shaped.specs.Failing.{IsLeastFailing}
 use Rattle.wf_shaped.proofs.ExactLemmas.{AreKnown}
 use Rattle.wf_prepare.specs.Old.{EachRowFits}

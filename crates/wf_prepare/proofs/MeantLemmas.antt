@@ -52,7 +52,7 @@ use Rattle.wf_meant.specs.Look.{decided_by, instance, told_at}
 use Rattle.wf_meant.specs.Points.{graph_of}
 use Rattle.wf_meant.specs.Rows.{row_of, skipped}
 use Rattle.wf_meant.specs.Source.{begun, close_of, finished, source}
-use Rattle.wf_fits.specs.Sorts.{sort_at}
+use Rattle.wf_shaped.specs.Sorts.{sort_at}
 use Rattle.wf_turns.specs.Reading.{reading}
 use Rattle.wf_prepare.proofs.ComeLemmas as come
 use Rattle.wf_prepare.proofs.ComeLemmas.{Came, went_round}

@@ -18,7 +18,7 @@ use Rattle.wf_meant.specs.Source.{source}
 use Rattle.wf_says.specs.Laws.{SkippedSaysNothing}
 use Rattle.wf_says.specs.Says.{is_skipped, skips}
 use Rattle.wf_turns.specs.Reading.{reading}
-use Rattle.wf_fits.specs.Fits.{fits_in}
+use Rattle.wf_shaped.specs.Fits.{fits_in}
 use Rattle.wf_shaped.specs.Failing.{IsLeastFailing}
 use Rattle.wf_shaped.proofs.ExactLemmas.{AreKnown}
 use Rattle.wf_prepare.proofs.FailingLemmas.{no_number_fails}

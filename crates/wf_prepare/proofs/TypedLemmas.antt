@@ -49,7 +49,7 @@ use Rattle.wf_meant.specs.Source.{begun, finished, source}
 use Rattle.wf_meant.specs.Variables.{Written, given_as, given_by, indexes_from, instances_at, last_from, later_of, seen_by, variable_at}
 use Rattle.wf_meant.specs.Variables.{writes, written_at, written_before}
 use Rattle.wf_meant_laws.proofs.ListLemmas.{all_flat, all_given, all_kept, all_mapped}
-use Rattle.wf_fits.specs.Sorts.{changes, initials_of, sort_at, sort_of}
+use Rattle.wf_shaped.specs.Sorts.{changes, initials_of, sort_at, sort_of}
 use Rattle.wf_shaped.proofs.ListLemmas.{In}
 use Rattle.wf_prepare.proofs.FailingLemmas.{all_in, same_some}
 use Rattle.wf_prepare.proofs.HoldLemmas.{Keeps}

@@ -6,7 +6,7 @@ use Rattle.wf_def.specs.DefTree.{DefTree}
 use Rattle.wf_record.specs.Record.{RecordTree, Row}
 use Rattle.wf_resubmit.specs.Refused.{numbers_of}
 use Rattle.wf_resubmit.specs.declared.fault.ResubmitFault.{ResubmitFault}
-use Rattle.wf_fits.specs.Fits.{fits_in}
+use Rattle.wf_shaped.specs.Fits.{fits_in}
 use Rattle.wf_meant.specs.Points.{graph_of}
 use Rattle.wf_meant.specs.Record.{depth_of}
 use Rattle.wf_meant.specs.Resubmitted.{is_chosen}

@@ -70,7 +70,7 @@ pub fn record_is_an_old_table()
         → (e : Environment) → IsOldTable (graph_of d) (source d e) (is_redone d names) (is_closed_again d names) (rows_by d r.rows)
         (recalled d r.rows) }
 {
-    wf_instance::depths_are_how_many_are_before();
+    wf_meant_laws::depths_are_how_many_are_before();
     wf_reading::names_stand_once();
     wf_known_laws::numbers_stand_once();
     wf_known_laws::entries_stay_in_their_graph();
@@ -123,7 +123,7 @@ pub fn each_meant_row_fits()
     ensures { (d : DefTree) → IsRead d → broken_of d ≡ None → (e : Environment) → EachRowFits d (table_of d e (depth_of d)) }
 {
     wf_rules::the_first_broken_rule();
-    wf_accepted_laws::standings_are_the_actions();
+    wf_meant_laws::standings_are_the_actions();
     wf_uses::names_are_those_named();
     wf_order::order_is_exact();
     wf_order::before_is_an_order();
@@ -136,7 +136,7 @@ pub fn each_meant_row_fits()
     wf_variables::what_is_initialized_is_given();
     wf_variables::what_is_written_keeps_its_type();
     wf_variables::what_is_given_is_found();
-    wf_instance::a_definition_is_an_instance();
+    wf_meant_laws::a_definition_is_an_instance();
     wf_turns::numbers_have_the_kinds_of_their_actions();
     wf_turns::rows_tell_what_was_decided();
 }
@@ -160,7 +160,7 @@ pub fn rows_have_the_right_shape()
     ensures { (d : DefTree) → IsRead d → broken_of d ≡ None → (e : Environment)
         → HasShape (graph_of d) (source d e) (reading d) (table_of d e (depth_of d)) }
 {
-    wf_instance::a_definition_is_an_instance();
+    wf_meant_laws::a_definition_is_an_instance();
     wf_turns::rows_tell_what_was_decided();
 }
 

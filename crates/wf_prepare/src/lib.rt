@@ -19,4 +19,5 @@ pub use laws::{
     rows_have_the_right_shape, what_is_chosen_stands_in_no_loop,
 };
 pub use preparing::prepare;
+pub use wf_meant_laws::a_definition_is_an_instance;
 pub use wf_resubmit::ResubmitFault;

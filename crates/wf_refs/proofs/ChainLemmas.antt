@@ -5,7 +5,7 @@ use Rattle.wf_template.specs.ExprCounts.{expr_count}
 use Rattle.wf_template.specs.ExprTree.{ExprTree}
 use Rattle.wf_template.specs.declared.chain.Access.{Access}
 use Rattle.wf_template.proofs.ChainLemmas.{key_count}
-use Rattle.wf_eval_expr.specs.Uses.{Use, uses}
+use Rattle.wf_uses.specs.Uses.{Use, uses}
 use Rattle.wf_refs.specs.Seen.{access_uses}
 
 -- the innermost access stands last, and what it asks for comes first

@@ -9,7 +9,7 @@ use Rattle.wf_template.specs.ExprSeen.{expr_tree}
 use Rattle.wf_template.specs.declared.cond.Cond.{Cond}
 use Rattle.wf_template.specs.declared.expr.Expr.{Expr}
 use Rattle.wf_template.specs.declared.tree.Tree.{Tree}
-use Rattle.wf_look.specs.Args.{args_tree}
+use Rattle.wf_eval.specs.Args.{args_tree}
 use Rattle.wf_eval.specs.Truth.{cond_count, conds_count}
 
 args-fall : (xs : List Expr) (i : ℕ) (d : Expr) → i < length xs → expr_count (expr_tree (get_or xs i d)) < exprs_count (args_tree xs)

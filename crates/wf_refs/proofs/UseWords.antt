@@ -6,7 +6,7 @@ use Rattle.wf_template.specs.ExprTree.{ExprTree, literal, call, expr_trees}
 use Rattle.wf_template.specs.TemplateTree.{TemplateTree, whole}
 use Rattle.wf_template.specs.DataTree.{DataTree, text}
 use Rattle.wf_template.specs.CondTree.{CondTree, holds}
-use Rattle.wf_eval_expr.specs.Uses.{uses}
+use Rattle.wf_uses.specs.Uses.{uses}
 use Rattle.wf_eval.specs.Uses.{cond_uses, template_uses, tree_uses}
 use Rattle.wf_uses.specs.UsesTree.{UsesTree, uses_tree}
 

@@ -1,2 +1,3 @@
+pub use Rattle.wf_reading.specs.ReadSeen
 pub mod Seen
 pub mod Sites

@@ -2,7 +2,7 @@
 use Rattle.std.specs.Prelude.{List, []}
 use Rattle.wf_template.specs.ExprSeen.{expr_tree}
 use Rattle.wf_template.specs.declared.chain.Access.{Access}
-use Rattle.wf_eval_expr.specs.Uses.{Use, uses}
+use Rattle.wf_uses.specs.Uses.{Use, uses}
 
 -- what an access asks for, beside what it stands on
 abbrev pub access_uses : Access → List Use

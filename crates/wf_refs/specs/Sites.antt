@@ -9,7 +9,7 @@ use Rattle.wf_def.specs.ActionTree.{ActionTree, action, InitialTree, KindTree, c
 use Rattle.wf_def.specs.ActionTree.{join, parse_json, initialize, set_to, increment, decrement, append_array, append_string, scope, branch}
 use Rattle.wf_def.specs.ActionTree.{switch, switch_else, foreach, until}
 use Rattle.wf_def.specs.DefTree.{DefTree, OutputTree, TriggerTree}
-use Rattle.wf_eval_expr.specs.Uses.{Use}
+use Rattle.wf_uses.specs.Uses.{Use}
 use Rattle.wf_eval.specs.Uses.{cond_uses, members_uses, template_uses, tree_uses}
 use Rattle.wf_def.specs.AllActions.{numbered}
 use Rattle.wf_uses.specs.UsesTree.{UsesTree, uses_tree}

@@ -2,8 +2,8 @@
 ghost use Rattle.std.specs.Prelude.{◌≡◌, ◌++◌, IfOk};
 ghost use Rattle.wf_template.specs.ChainSeen.{start_tree};
 ghost use Rattle.wf_template.specs.ExprSeen.{expr_tree};
-ghost use Rattle.wf_look.specs.Args.{args_tree};
-ghost use Rattle.wf_eval_expr.specs.Uses.{all_uses, used_by_name, uses};
+ghost use Rattle.wf_eval.specs.Args.{args_tree};
+ghost use Rattle.wf_uses.specs.Uses.{all_uses, used_by_name, uses};
 ghost use Rattle.wf_refs.specs.Seen.{access_uses};
 ghost use Rattle.wf_uses.specs.Seen.{found_uses};
 ghost use Rattle.wf_val.specs.Function.{function_of};

@@ -17,3 +17,4 @@ mod templates;
 pub use laws::{read_actions_have_their_numbers, sites_are_there};
 pub use site::Site;
 pub use sites::{at_inputs, at_items, at_output, at_test, at_tracked, at_trigger};
+pub use wf_reading::Def;

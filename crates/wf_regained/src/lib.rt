@@ -19,3 +19,4 @@ mod regained;
 mod reopened;
 
 pub use regained::{Regained, regain};
+pub use wf_instance::a_definition_is_an_instance;

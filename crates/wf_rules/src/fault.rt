@@ -21,8 +21,7 @@ use wf_def::{Output, Param, Trigger};
 use wf_json::pointer::{lesser, lesser_of, step_to};
 use wf_order::Order;
 use wf_reading::Def;
-use wf_standing::{Known, Standing, standings_of};
-use wf_use_table::refs;
+use wf_standing::{Known, Standing, refs, standings_of};
 use wf_val::{Fields, Name, Text};
 use wf_varorder::{PairRule, least_pair};
 

@@ -7,7 +7,7 @@ use Rattle.wf_asks.specs.declared.known.RowAt.{RowAt}
 use Rattle.wf_asks.specs.declared.known.WriterAt.{WriterAt}
 use Rattle.wf_def.specs.DefTree.{DefTree}
 use Rattle.wf_done.specs.DoneSeen.{begun_tree}
-use Rattle.wf_doing.specs.Weights.{begun_weight, decision_weight}
+use Rattle.wf_actions.specs.Weights.{begun_weight, decision_weight}
 use Rattle.wf_ended.specs.Ended.{HasEnded}
 use Rattle.wf_environment.specs.Environment.{Environment, fresh}
 use Rattle.wf_layers.specs.Machine.{IsOver}
@@ -19,7 +19,7 @@ use Rattle.wf_meant.specs.Source.{source}
 use Rattle.wf_metered.specs.Sums.{AreSumsOf}
 use Rattle.wf_metered.specs.declared.sums.Sums.{Sums}
 use Rattle.wf_opening.specs.DecisionSeen.{decision_tree, verdict_tree}
-use Rattle.wf_paying.specs.Paying.{cost_of_row}
+use Rattle.wf_actions.specs.Paying.{cost_of_row}
 use Rattle.wf_plan.specs.PlanSeen.{plan_tree}
 use Rattle.wf_plan.specs.declared.plan.Plan.{Plan}
 use Rattle.wf_reading.specs.ReadSeen.{def_tree}
@@ -31,7 +31,7 @@ use Rattle.wf_record.specs.declared.row.Row.{Row}
 use Rattle.wf_resubmit.specs.Refused.{numbers_of}
 use Rattle.wf_rules.specs.declared.checked.Checked.{Checked}
 use Rattle.wf_prepare.specs.Prepared.{MayBeResubmitted}
-use Rattle.wf_sight_laws.specs.Writes.{writes}
+use Rattle.wf_ended.specs.Writes.{writes}
 use Rattle.wf_steps.specs.Kept.{IsPlanned}
 use Rattle.wf_steps.specs.Rest.{IsRest}
 use Rattle.wf_tables.specs.declared.entries.CountAt.{CountAt}

@@ -76,7 +76,7 @@ fn first<'s, 'a>(
     is_planned(runnable);
     was_read(&runnable.checked.def);
     runnable.checked.always_checked();
-    wf_instance::a_definition_is_an_instance();
+    wf_regained::a_definition_is_an_instance();
     wf_prepare::what_is_chosen_stands_in_no_loop();
     wf_prepare::record_has_the_right_shape();
     wf_prepare::kept_rows_are_whole();

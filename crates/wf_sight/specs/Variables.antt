@@ -6,7 +6,7 @@ use Rattle.wf_layers.specs.Address.{Address, Table}
 use Rattle.wf_def.specs.DefTree.{DefTree}
 use Rattle.wf_record.specs.Record.{Row}
 use Rattle.wf_meant.specs.Variables.{given_by}
-use Rattle.wf_catalog.specs.Variables.{variable_number}
+use Rattle.wf_views.specs.Variables.{variable_number}
 
 -- the value that the row of its last writer gives a variable
 abbrev pub variable_in : DefTree → Table Row → (ℕ → Option Address) → List ℕ → Option ValueTree

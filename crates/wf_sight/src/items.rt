@@ -11,11 +11,10 @@ ghost use Rattle.wf_sight.specs.Sight.{item_held, item_open, items_open, named_i
 
 use std::alloc::{AllocError, Global};
 use wf_asks::{Instance, Opens};
-use wf_catalog::{Places, name_of};
 use wf_def::Action;
 use wf_opening::{Decision, Verdict};
 use wf_val::{Indexes, Name, Val};
-use wf_views::indexes;
+use wf_views::{Places, indexes, name_of};
 
 /// An item, and the loop whose item it is.
 #[derive(Drop)]

@@ -17,7 +17,6 @@ ghost use Rattle.wf_sight.specs.Variables.{variable_in};
 use crate::items::{Held, index_of, item_of, items_of, nearest};
 use std::alloc::{AllocError, Global};
 use wf_asks::{Instance, Known, Rows, Store};
-use wf_catalog::{Places, name_of};
 use wf_fn_time::Ticks;
 use wf_lists::TryCopy;
 use wf_look::{Look, word_of};
@@ -26,7 +25,7 @@ use wf_record::{Row, Status};
 use wf_trigger::Start;
 use wf_val::{Address, Indexes, Name, Text, Val};
 use wf_variables::value_given;
-use wf_views::{indexes, indexes_then, result_from, row_of, view_from};
+use wf_views::{Places, indexes, indexes_then, name_of, result_from, row_of, view_from};
 
 /// What a run goes by: how it was started, and what the action is told of the run itself. Where a part of a run is done anew, its actions
 /// are told of the run that did them last.

@@ -13,7 +13,7 @@ use Rattle.wf_def.specs.AllActions.{numbered}
 use Rattle.wf_def.specs.DefTree.{DefTree}
 use Rattle.wf_uses.specs.UsesTree.{ordered}
 use Rattle.wf_refs.specs.Sites.{test_uses}
-use Rattle.wf_accepted_laws.specs.Variables.{ReadsIt, WritesIt}
+use Rattle.wf_instance.specs.Variables.{ReadsIt, WritesIt}
 use Rattle.wf_opening.specs.Decisions.{decided}
 use Rattle.wf_opening.specs.Uses.{opening_uses}
 use Rattle.wf_opening.specs.Verdicts.{VerdictTree, tested_from}

@@ -21,7 +21,7 @@ use Rattle.wf_refs.specs.Sites as sites
 use Rattle.wf_refs.specs.Sites.{inputs_uses, items_uses, test_uses, uses_at_inputs, uses_at_items, uses_at_test, uses_of, writes_of}
 use Rattle.wf_refs.specs.declared.site.Site.{Site}
 use Rattle.wf_varorder.specs.Pairs.{reads_if, writes_if}
-use Rattle.wf_accepted_laws.specs.Variables.{ReadsIt, WritesIt}
+use Rattle.wf_instance.specs.Variables.{ReadsIt, WritesIt}
 use Rattle.wf_done.specs.Uses as done
 use Rattle.wf_done.specs.Uses.{beneath, kind_uses}
 use Rattle.wf_opening.specs.Uses.{opening_uses}

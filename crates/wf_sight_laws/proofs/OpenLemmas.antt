@@ -8,7 +8,7 @@ use Rattle.wf_loops.proofs.InsideLemmas.{kind_has}
 use Rattle.wf_def.specs.DefTree.{DefTree}
 use Rattle.wf_opening.specs.Decisions.{DecisionTree}
 use Rattle.wf_opening.specs.Verdicts.{VerdictTree}
-use Rattle.wf_accepted_laws.specs.Variables.{ReadsIt, WritesIt}
+use Rattle.wf_instance.specs.Variables.{ReadsIt, WritesIt}
 use Rattle.wf_meant.specs.Answering.{RowSource}
 use Rattle.wf_meant.specs.Points.{graph_of}
 use Rattle.wf_meant_laws.specs.Store.{Accesses}

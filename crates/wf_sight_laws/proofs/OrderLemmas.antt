@@ -17,7 +17,7 @@ use Rattle.wf_loops.specs.Loops.{loops_of}
 use Rattle.wf_refs.specs.Sites.{uses_at_inputs, writes_of}
 use Rattle.wf_uses.specs.UsesTree.{ordered}
 use Rattle.wf_varorder.specs.Pairs as pairs
-use Rattle.wf_accepted_laws.specs.Variables.{ReadsIt, VariablesAreInOneOrder, WritesIt}
+use Rattle.wf_instance.specs.Variables.{ReadsIt, VariablesAreInOneOrder, WritesIt}
 use Rattle.wf_record.specs.Record.{Row}
 use Rattle.wf_record.specs.declared.status.Status.{Status}
 use Rattle.wf_environment.specs.Environment.{Environment}

@@ -19,7 +19,7 @@ use Rattle.wf_standing.specs.Standing.{StandingTree, number_at, pointer_at, stan
 use Rattle.wf_standing.specs.Whole.{whole_of}
 use Rattle.wf_breaks.specs.Rules.{action_breaks, breaks_at, breaks_if, breaks_itself, is_any}
 use Rattle.wf_breaks.specs.declared.rule.Rule.{Rule}
-use Rattle.wf_rules.specs.Broken.{broken_of, offences, rules_in_order, told}
+use Rattle.wf_instance.specs.Broken.{broken_of, offences, rules_in_order, told}
 use Rattle.wf_first.specs.First.{first_broken}
 use Rattle.wf_done.specs.Tracked.{tracked_from, tracked_value}
 use Rattle.wf_meant.specs.Source.{tracked_of}

@@ -1,3 +1,4 @@
+pub use Rattle.wf_meant_laws.specs.Answered
 pub mod Writes
 pub mod Variables
 pub mod Asked

@@ -3,7 +3,7 @@ use Rattle.std.specs.Prelude.{◌≡◌, ◌⊎◌, ℕ, List, Some}
 use Rattle.wf_layers.specs.Address.{Address, Table}
 use Rattle.wf_layers.specs.Definition.{Graph, Kind}
 use Rattle.wf_def.specs.DefTree.{DefTree}
-use Rattle.wf_accepted_laws.specs.Variables.{ReadsIt, WritesIt}
+use Rattle.wf_instance.specs.Variables.{ReadsIt, WritesIt}
 use Rattle.wf_asks.specs.Known.{HoldsLast, HoldsLastAtTest, IsInformed, IsInformedAtTest, MayRead, writer}
 use Rattle.wf_record.specs.Record.{Row}
 use Rattle.wf_meant.specs.Answering.{RowSource}

@@ -20,7 +20,7 @@ ghost use Rattle.wf_layers.specs.Variables.{OneOrder};
 ghost use Rattle.wf_def.specs.DefTree.{DefTree};
 ghost use Rattle.wf_reading.specs.Read.{IsRead};
 ghost use Rattle.wf_record.specs.Record.{Row};
-ghost use Rattle.wf_rules.specs.Broken.{broken_of};
+ghost use Rattle.wf_instance.specs.Broken.{broken_of};
 ghost use Rattle.wf_environment.specs.Environment.{Environment};
 ghost use Rattle.wf_meant.specs.Answering.{AnswersAs, RowSource};
 ghost use Rattle.wf_meant.specs.Points.{graph_of};
@@ -55,7 +55,7 @@ pub fn numbered_writers_are_in_one_order()
         → (rows : Table Row) → StandAtInstances d rows → (v : ℕ) → OneOrder (graph_of d) m (writer (writes d) v) rows }
     ensures readers { (d : DefTree) → IsRead d → broken_of d ≡ None → (m : RowSource) → AccessesMayRead d m }
 {
-    wf_accepted_laws::variables_are_in_one_order();
+    wf_instance::variables_are_in_one_order();
     wf_known_laws::numbers_stand_once();
     wf_uses::names_are_those_named();
 }
@@ -83,8 +83,8 @@ pub fn what_is_asked_for_is_found()
     ensures ends { (d : DefTree) → IsRead d → broken_of d ≡ None → FindsAsItEnds d }
 {
     sights_tell_variables();
-    wf_rules::the_first_broken_rule();
-    wf_accepted_laws::standings_are_the_actions();
+    wf_instance::the_first_broken_rule();
+    wf_instance::standings_are_the_actions();
     wf_uses::names_are_those_named();
 }
 
@@ -97,8 +97,8 @@ pub fn what_is_done_in_a_sight_is_meant()
     ensures tracks { (d : DefTree) → IsRead d → broken_of d ≡ None → (e : Environment) (m : RowSource) → AnswersAs d e m → Tracks d e m }
 {
     sights_tell_variables();
-    wf_rules::the_first_broken_rule();
-    wf_accepted_laws::standings_are_the_actions();
+    wf_instance::the_first_broken_rule();
+    wf_instance::standings_are_the_actions();
     wf_sight::what_is_seen_is_told();
     wf_done::what_an_action_does_is_local();
     wf_opening::what_a_container_decides_is_local();

@@ -1,3 +1,4 @@
+pub use Rattle.wf_use_table.specs.Site
 pub mod Standing
 pub mod Kinds
 pub mod Inside

@@ -26,3 +26,4 @@ pub use kinds::{
 pub use known::Known;
 pub use sites::{has_item, is_in_loop, is_outside, is_test, is_tracked, loops_left};
 pub use standing::{Standing, standings_of};
+pub use wf_use_table::{Site, refs};

@@ -28,7 +28,7 @@ pub fn runs_are_told_alike()
     ensures { (d : DefTree) → IsRead d → broken_of d ≡ None → (e : Environment) (schedule : List ℕ) (traced : Bool) (t u : Told)
         → IsRunUnder d e schedule traced t → IsRunUnder d e schedule traced u → t ≡ u }
 {
-    wf_instance::a_definition_is_an_instance();
+    wf_prepare::a_definition_is_an_instance();
 }
 
 /// A run of an accepted definition in an environment has the same record under every schedule, and as many events.
@@ -36,7 +36,7 @@ pub fn runs_have_as_many_steps()
     ensures { (d : DefTree) → IsRead d → broken_of d ≡ None → (e : Environment) (one other : List ℕ) (traced again : Bool) (t u : Told)
         → IsRunUnder d e one traced t → IsRunUnder d e other again u → (t.steps ≡ u.steps) × (t.left ≡ u.left) }
 {
-    wf_instance::a_definition_is_an_instance();
+    wf_prepare::a_definition_is_an_instance();
 }
 
 /// The figures of the one run of an accepted definition that starts with inputs are one under a schedule. Under another one no figure is
@@ -95,7 +95,7 @@ pub fn one_resubmission_is_told()
         (schedule text other : List ℕ) → TellsResubmission d r names i schedule text → TellsResubmission d r names i schedule other
         → text ≡ other }
 {
-    wf_instance::a_definition_is_an_instance();
+    wf_prepare::a_definition_is_an_instance();
     wf_prepare::record_is_an_old_table();
 }
 

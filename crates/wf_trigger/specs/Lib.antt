@@ -1,3 +1,4 @@
+pub use Rattle.wf_eval.specs.TreeValue
 pub mod Choosing
 pub mod LookSeen
 pub mod Outside

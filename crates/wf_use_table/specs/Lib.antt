@@ -1,3 +1,4 @@
 pub use Rattle.wf_refs.specs.Sites
 pub use Rattle.wf_refs.specs.declared.site.Site
+pub use Rattle.wf_refs.specs.ReadSeen
 pub mod Seen

@@ -7,4 +7,4 @@
 mod table;
 
 pub use table::{UseTable, refs};
-pub use wf_refs::Site;
+pub use wf_refs::{Def, Site};

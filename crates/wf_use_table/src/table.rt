@@ -4,7 +4,7 @@ ghost use Rattle.std.specs.List.{find};
 ghost use Rattle.std.specs.Option.{option_or};
 ghost use Rattle.wf_def.specs.ActionSeen.{action_tree};
 ghost use Rattle.wf_def.specs.DefSeen.{output_tree, trigger_tree};
-ghost use Rattle.wf_reading.specs.ReadSeen.{def_tree};
+ghost use Rattle.wf_refs.specs.ReadSeen.{def_tree};
 ghost use Rattle.wf_def.specs.AllActions.{has_number};
 ghost use Rattle.wf_uses.specs.Seen.{uses_seen};
 ghost use Rattle.wf_use_table.specs.Seen.{action_at, action_uses_seen, is_free, kept_at, uses_at};
@@ -13,8 +13,7 @@ ghost use Rattle.wf_refs.specs.declared.site.Site.{Site};
 
 use std::alloc::{AllocError, Global};
 use wf_def::{Action, Output, Trigger, all_actions};
-use wf_reading::Def;
-use wf_refs::{Site, at_inputs, at_items, at_output, at_test, at_tracked, at_trigger};
+use wf_refs::{Def, Site, at_inputs, at_items, at_output, at_test, at_tracked, at_trigger};
 use wf_uses::Uses;
 
 /// The uses of an action's sites.

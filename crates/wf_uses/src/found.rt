@@ -1,7 +1,7 @@
 //! Uses as they are found.
 ghost use Rattle.std.specs.Prelude.{◌≡◌, ◌++◌, IfOk, map, option_map, option_to_list};
 ghost use Rattle.std.specs.List.{list_any};
-ghost use Rattle.wf_look.specs.Args.{args_tree, literal_name};
+ghost use Rattle.wf_eval_expr.specs.Args.{args_tree, literal_name};
 ghost use Rattle.wf_eval_expr.specs.Uses.{named_use, used_by, used_by_name};
 ghost use Rattle.wf_eval_expr.specs.Ways.{way_of};
 ghost use Rattle.wf_uses.specs.Named.{asks_for, name_by, names_by};

@@ -15,7 +15,7 @@ use Rattle.wf_def.specs.declared.sort.Sort.{Sort}
 use Rattle.wf_look.specs.Looked.{or_no_value}
 use Rattle.wf_look.specs.Outcomes.{Outcome, turned}
 use Rattle.wf_look.specs.Told.{Told}
-use Rattle.wf_eval.specs.TreeValue.{tree_value}
+use Rattle.wf_data.specs.TreeValue.{tree_value}
 use Rattle.wf_data.specs.Made.{MadeTree, fitting, goes_on, one_member}
 use Rattle.wf_variables.specs.Initials.{ItemsTree, body_of, given_item, initial_by, initial_value, initials_after, made_initialize}
 use Rattle.wf_variables.specs.Initials.{made_of_items, pushed}

@@ -10,7 +10,7 @@ use Rattle.wf_template.specs.DataTree.{DataTree}
 use Rattle.wf_look.specs.Looked.{or_no_value}
 use Rattle.wf_look.specs.Outcomes.{Outcome}
 use Rattle.wf_look.specs.Told.{Told}
-use Rattle.wf_eval.specs.TreeValue.{tree_value}
+use Rattle.wf_data.specs.TreeValue.{tree_value}
 use Rattle.wf_data.specs.Made.{MadeTree, Making, fitting, followed, one_member}
 use Rattle.wf_variables.specs.Initials.{given_item}
 use Rattle.wf_variables.specs.Sorts.{are_alike}

@@ -6,8 +6,7 @@ ghost use Rattle.wf_standing.specs.Seen.{standing_tree};
 ghost use Rattle.wf_varorder.specs.Pairs.{are_settled, clashes, concerns, reads, reads_if, tracks, writes};
 ghost use Rattle.wf_varorder.specs.Seen.{claim_tree};
 
-use wf_refs::Site;
-use wf_standing::{Known, Standing, is_response};
+use wf_standing::{Known, Site, Standing, is_response};
 use wf_uses::Uses;
 use wf_val::Text;
 

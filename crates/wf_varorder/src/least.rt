@@ -15,8 +15,7 @@ use crate::claim::Claim;
 use crate::pair::{Pair, lesser};
 use crate::rule::PairRule;
 use wf_def::Action;
-use wf_refs::Site;
-use wf_standing::{Known, Standing, is_concurrent, is_response, is_terminate};
+use wf_standing::{Known, Site, Standing, is_concurrent, is_response, is_terminate};
 use wf_val::Text;
 
 // The lesser of the best pair so far and the least of those of an action with the others that offend what it claims.

@@ -14,8 +14,8 @@ use Rattle.wf_def.specs.DefTree.{DefTree}
 use Rattle.wf_def.specs.declared.graph.Action.{out-Action}
 use Rattle.wf_record.specs.Record.{Row}
 use Rattle.wf_loops.specs.Loops.{loops_of}
-use Rattle.wf_meant.specs.Points.{graph_of}
-use Rattle.wf_meant.specs.References.{by_name, first_level, last_of, own_loop, result_in, spots_by, upto, view_there}
+use Rattle.wf_catalog.specs.Points.{graph_of}
+use Rattle.wf_catalog.specs.References.{by_name, first_level, last_of, own_loop, result_in, spots_by, upto, view_there}
 use Rattle.std.specs.Option.{option_and_then}
 use Rattle.std.specs.Prelude.{Option, None, option_map, take}
 use Rattle.wf_catalog.specs.Keys.{all_put}

@@ -6,8 +6,8 @@ use Rattle.wf_asks.specs.declared.known.RowAt.{RowAt}
 use Rattle.wf_record.specs.Record as record_of
 use Rattle.wf_record.specs.Seen.{row_tree}
 use Rattle.wf_record.specs.declared.row.Row.{Row}
-use Rattle.wf_meant.specs.References as references
-use Rattle.wf_meant.specs.References.{every, last_of, latest, one, upto}
+use Rattle.wf_catalog.specs.References as references
+use Rattle.wf_catalog.specs.References.{every, last_of, latest, one, upto}
 use Rattle.wf_views.specs.declared.spots.Spots.{Spots}
 
 -- a row without its address

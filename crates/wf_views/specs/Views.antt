@@ -8,8 +8,8 @@ use Rattle.wf_def.specs.ActionTree.{ActionTree, action_kind, action_number}
 use Rattle.wf_def.specs.DefTree.{DefTree}
 use Rattle.wf_record.specs.Record.{Row}
 use Rattle.wf_loops.specs.Loops.{loops_of}
-use Rattle.wf_meant.specs.Points.{action_named, graph_of}
-use Rattle.wf_meant.specs.References.{Spots, first_level, own_loop, places_in, result_in, spots_by, upto, view_in, view_there}
+use Rattle.wf_catalog.specs.Points.{action_named, graph_of}
+use Rattle.wf_catalog.specs.References.{Spots, first_level, own_loop, places_in, result_in, spots_by, upto, view_in, view_there}
 use Rattle.wf_views.specs.Loops.{beyond, common}
 
 -- the indexes of so many iterations inside these

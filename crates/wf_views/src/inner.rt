@@ -2,7 +2,7 @@
 ghost use Rattle.std.specs.Prelude.{◌≡◌, ◌++◌, IfOk, map, option_map};
 ghost use Rattle.wf_def.specs.ActionSeen.{cases_seen, graph_tree, kind_tree};
 ghost use Rattle.wf_def.specs.ActionTree.{actions_in, case_trees};
-ghost use Rattle.wf_meant.specs.References.{by_name, first_level, in_cases};
+ghost use Rattle.wf_catalog.specs.References.{by_name, first_level, in_cases};
 ghost use Rattle.wf_views.specs.Inner.{default_actions};
 ghost use Rattle.wf_catalog.specs.PlacesSeen.{named_tree};
 

@@ -15,3 +15,4 @@ mod views;
 
 pub use rows::{indexes, indexes_then, row_of};
 pub use views::{result_from, view_from};
+pub use wf_catalog::{Places, kind_of, name_of};

@@ -6,15 +6,14 @@ ghost use Rattle.wf_val.specs.Seen.{tree};
 ghost use Rattle.wf_val.specs.ValueTree.{text};
 ghost use Rattle.wf_layers.specs.Address.{address};
 ghost use Rattle.wf_def.specs.ActionSeen.{action_tree, kind_tree};
-ghost use Rattle.wf_meant.specs.Rows.{iterations_of, turns_said, view_of};
+ghost use Rattle.wf_catalog.specs.Rows.{iterations_of, turns_said, view_of};
 ghost use Rattle.wf_views.specs.Seen.{row_content, rows_seen};
 
 use std::alloc::{AllocError, Global};
 use wf_asks::{Instance, Rows};
-use wf_catalog::kind_of;
+use wf_catalog::{items_said, kind_of, rounds_said};
 use wf_def::{Action, Kind};
 use wf_record::Row;
-use wf_says::{items_said, rounds_said};
 use wf_val::{Fields, Indexes, Name, Text, Val};
 
 /// Indexes of their own.

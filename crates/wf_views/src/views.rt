@@ -2,7 +2,7 @@
 ghost use Rattle.std.specs.Prelude.{◌≡◌, ◌++◌, IfOk, Some, map, option_map};
 ghost use Rattle.wf_def.specs.ActionSeen.{action_tree};
 ghost use Rattle.wf_look.specs.Looked.{or_null};
-ghost use Rattle.wf_meant.specs.References.{latest, view_in, view_there};
+ghost use Rattle.wf_catalog.specs.References.{latest, view_in, view_there};
 ghost use Rattle.wf_val.specs.Seen.{tree};
 ghost use Rattle.wf_reading.specs.ReadSeen.{def_tree};
 ghost use Rattle.wf_catalog.specs.PlacesSeen.{named_tree};

@@ -5,7 +5,7 @@ use Rattle.wf_def.specs.ActionTree.{action_kind}
 use Rattle.wf_def.specs.Layered.{layered}
 use Rattle.wf_order.specs.Turns.{Never}
 use Rattle.wf_rules.specs.Broken.{offences}
-use Rattle.wf_breaks.specs.declared.rule.Rule.{Rule}
+use Rattle.wf_rules.specs.Rule.{Rule}
 use Rattle.wf_standing.specs.Kinds.{is_loop}
 use Rattle.wf_standing.specs.Standing.{number_at, standings_of}
 use Rattle.wf_varorder.proofs.TurnLemmas.{all-told, tells-loop}

@@ -3,7 +3,7 @@ use Rattle.std.specs.List.{list_any}
 use Rattle.wf_layers.specs.Definition.{has}
 use Rattle.wf_def.specs.Layered.{layered}
 use Rattle.wf_rules.specs.Broken.{offences}
-use Rattle.wf_breaks.specs.declared.rule.Rule.{Rule}
+use Rattle.wf_rules.specs.Rule.{Rule}
 use Rattle.wf_standing.specs.Standing.{number_at, standings_of}
 use Rattle.wf_accepted_laws.proofs.ActionLemmas.{all-numbers}
 use Rattle.wf_accepted_laws.proofs.PairLemmas.{all-numbered, no-variable-pairs}

@@ -11,7 +11,7 @@ use borrow.Fn.Function.{fn_of, plain_of}
 use borrow.Fn.Kinds.{sig_of}
 use contract.Fact.{fact}
 use contract.Monad.{fact_mono}
-use Rattle.wf_meant_laws.specs.Answered.{IsAnswered}
+use Rattle.wf_sight_laws.specs.Answered.{IsAnswered}
 use Rattle.wf_actions.specs.Meant.{definition_of, environment_of, source}
 use Rattle.wf_actions.specs.declared.actions.Actions.{Actions}
 use Rattle.wf_actions.proofs.opened.are_answered.Statement.{statement}

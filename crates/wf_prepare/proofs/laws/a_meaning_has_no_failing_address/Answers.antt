@@ -10,7 +10,7 @@ use Rattle.wf_shape.specs.Law.{Fitting, Idle}
 use Rattle.wf_shape.specs.Standing.{fails}
 use Rattle.wf_shape.proofs.NoneFails.{none_fails}
 use Rattle.wf_turns.specs.Reading.{reading}
-use Rattle.wf_fits.specs.Fits.{fits_in}
+use Rattle.wf_shaped.specs.Fits.{fits_in}
 use Rattle.wf_prepare.proofs.BackLemmas.{none_fails_at}
 use Rattle.wf_prepare.proofs.IdleLemmas.{graph_idle}
 use Rattle.wf_prepare.proofs.NamedLemmas.{none-unnamed}

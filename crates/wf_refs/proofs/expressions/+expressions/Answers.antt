@@ -3,7 +3,7 @@ use Rattle.wf_template.specs.ChainSeen.{start_tree, chain_tree}
 use Rattle.wf_template.specs.ExprCounts.{expr_count}
 use Rattle.wf_template.specs.ExprSeen.{expr_tree}
 use Rattle.wf_template.proofs.ChainLemmas.{key_count, base_le_built}
-use Rattle.wf_eval_expr.specs.Uses.{Use, uses}
+use Rattle.wf_uses.specs.Uses.{Use, uses}
 use Rattle.wf_refs.specs.Seen.{access_uses}
 use Rattle.wf_uses.specs.Seen.{found_uses}
 use Rattle.wf_refs.proofs.ChainLemmas.{built_uses, chained-snoc, chained_uses, keys_count, keys_count-snoc, keys_le_built}

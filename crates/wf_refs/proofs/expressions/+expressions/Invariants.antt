@@ -3,8 +3,8 @@ use Rattle.wf_template.specs.ChainSeen.{start_tree}
 use Rattle.wf_template.specs.ExprCounts.{expr_count, exprs_count}
 use Rattle.wf_template.specs.ExprSeen.{expr_tree}
 use Rattle.wf_template.proofs.ChainLemmas.{key_count}
-use Rattle.wf_look.specs.Args.{args_tree}
-use Rattle.wf_eval_expr.specs.Uses.{all_uses, uses}
+use Rattle.wf_eval.specs.Args.{args_tree}
+use Rattle.wf_uses.specs.Uses.{all_uses, uses}
 use Rattle.wf_uses.specs.Seen.{found_uses}
 use Rattle.wf_refs.proofs.ChainLemmas.{chained_uses, keys_count}
 use Rattle.wf_refs.proofs.expressions.+expressions.Given as goal

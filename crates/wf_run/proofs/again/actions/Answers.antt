@@ -5,7 +5,7 @@ use Rattle.wf_layers.specs.Resubmission.{IsOldTable}
 use Rattle.wf_meant.specs.Points.{graph_of}
 use Rattle.wf_meant.specs.Resubmitted.{pinned_source, recalled, resubmitted, rows_by}
 use Rattle.wf_meant.specs.Source.{source}
-use Rattle.wf_meant_laws.specs.Answered.{IsAnswered}
+use Rattle.wf_pinned.specs.Answered.{IsAnswered}
 use Rattle.wf_pinned.specs.Old.{MayGoOn, recloses, redoes}
 use Rattle.wf_record.specs.Record.{RecordTree}
 use Rattle.wf_record.specs.Seen.{record_tree}

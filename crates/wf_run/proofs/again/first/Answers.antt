@@ -14,7 +14,7 @@ use Rattle.wf_plan.specs.PlanSeen.{plan_tree}
 use Rattle.wf_record.specs.Record.{RecordTree}
 use Rattle.wf_record.specs.Seen.{record_tree}
 use Rattle.wf_resubmit.specs.Chosen.{MayBeRedone}
-use Rattle.wf_sight_laws.specs.Writes as laws
+use Rattle.wf_ended.specs.Writes as laws
 use Rattle.wf_steps.specs.Kept.{IsPlanned}
 use Rattle.wf_views.specs.Seen.{rows_seen}
 use Rattle.wf_actions.specs.Meant.{source}

@@ -3,7 +3,7 @@ use Rattle.std.specs.List.{find}
 use Rattle.wf_def.specs.ActionSeen.{action_tree}
 use Rattle.wf_def.specs.ActionTree.{ActionTree}
 use Rattle.wf_def.specs.DefSeen.{output_tree, trigger_tree}
-use Rattle.wf_reading.specs.ReadSeen.{def_tree}
+use Rattle.wf_refs.specs.ReadSeen.{def_tree}
 use Rattle.wf_def.specs.AllActions.{has_number}
 use Rattle.wf_refs.specs.Sites.{action_uses, uses_at_output, uses_at_trigger}
 use Rattle.wf_use_table.proofs.TableLemmas.{table_of}

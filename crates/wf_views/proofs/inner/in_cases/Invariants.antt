@@ -1,7 +1,7 @@
 use Rattle.std.proofs.Common.{◌≡◌, ◌++◌, drop, map}
 use Rattle.wf_def.specs.ActionSeen.{case_tree, cases_seen}
 use Rattle.wf_def.specs.ActionTree.{case_trees}
-use Rattle.wf_meant.specs.References.{in_cases}
+use Rattle.wf_catalog.specs.References.{in_cases}
 use Rattle.wf_catalog.specs.PlacesSeen.{named_tree}
 use Rattle.wf_views.proofs.inner.in_cases.Given as goal
 
