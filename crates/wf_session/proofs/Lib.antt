@@ -1,5 +1,3 @@
-pub mod WaitLemmas
-pub mod AcceptLemmas
 pub mod CostLemmas
 pub mod ScanLemmas
 pub mod NextLemmas

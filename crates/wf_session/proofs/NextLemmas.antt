@@ -1,5 +1,6 @@
 -- What may happen next, once all events that may happen are looked through.
 use Rattle.std.proofs.Common.{◌≡◌, ◌<◌, ℕ, suc, Bool, true, false, List, [], ◌∷◌, Option, Some, None, cond, option_map, is_eq, length, slice_get, refl, sym, ap, ◌∙◌, subst, true≢false, arith}
+use Rattle.std.specs.List.{AllByRecursion}
 use Rattle.std.proofs.lemmas.Option.{none-some}
 use Rattle.wf_lists.specs.KeyOrder.{find_key}
 use Rattle.wf_lists.proofs.KeyOrderLemmas.{find-own}
@@ -21,9 +22,11 @@ use Rattle.wf_tables.proofs.OpenLemmas.{found_at}
 use Rattle.wf_talk.specs.Keys.{is_among}
 use Rattle.wf_session.specs.Begun.{Going, answered_in, graph}
 use Rattle.wf_session.specs.Settled.{AreHeld}
-use Rattle.wf_session.specs.Waiting.{AreAllKept, AreWaiting, IsMissing, Wants, key_at, keys_of}
-use Rattle.wf_session.specs.declared.waiting.Waiting.{Waiting}
-use Rattle.wf_session.proofs.AcceptLemmas.{all_so}
+use Rattle.wf_session.specs.Waiting.{AreAllKept, AreWaiting, IsMissing, Wants, key_at}
+use Rattle.wf_waits.specs.Kept.{keys_of}
+use Rattle.wf_waits.specs.Places.{HappensAt, MayHappen}
+use Rattle.wf_waits.specs.declared.waiting.Waiting.{Waiting}
+use Rattle.wf_waits.proofs.ListLemmas.{all_so, at_among}
 
 -- ---- what is found stands at a place
 
@@ -51,6 +54,7 @@ pub record IsListed (ready : List EventAt) (x : Address) (e : Event) : Type 0 wh
   pub within : place < length ready
   pub event : EventAt
   pub event_is : slice_get ready place ≡ Some event
+  pub at : event.instance ≡ instance_of x
   pub here : address_of event.instance ≡ x
   pub tree_is : event_tree event ≡ e
 
@@ -67,6 +71,7 @@ listed ready x e is = go (find_key instance_cmp (λ (v : EventAt). v.instance) (
           within = at.1;
           event = v;
           event_is = at.2;
+          at = found_at (λ (v : EventAt). v.instance) (instance_of x) ready v found;
           here = ap address_of (found_at (λ (v : EventAt). v.instance) (instance_of x) ready v found);
           tree_is = cc (q);
         }
@@ -110,6 +115,18 @@ module _ (g : Going) (s : Moment) (ready : List EventAt) (ws : List Waiting) (de
       let same : attempt ≡ w.0 = one_attempt (answered_in g) (graph g) g.by s x attempt w.0 wants w.1 in
       ap (λ k. is_among (key_at g x k) (keys_of ws)) same ∙ w.2
 
+-- each that waits may happen
+pub may_happen : (g : Going) (s : Moment) (ready : List EventAt) (ws : List Waiting) (depth : ℕ → ℕ) → IsReached (graph g) depth g.by s
+    → AreEnabled (graph g) g.by s ready → AreWaiting g s ws → MayHappen ready ws
+may_happen g s ready ws depth reached enabled waiting =
+    all_so ws
+    (λ (w : Waiting) (m : IsMissing g s (address_of w.instance) w.want).
+    let x = address_of w.instance in
+    let there = wanted_is_ready (answered_in g) (graph g) g.by s depth reached (events_in ready) enabled.each x w.want.attempt m.waits in
+    let at = listed ready x (Try x.name x.at) there in
+    record { event = at.event; among = at_among ready at.place at.event at.event_is; here = at.at })
+    waiting
+
 -- what is listed may happen
 pub listed_enabled : (g : Going) (s : Moment) (ready : List EventAt) (depth : ℕ → ℕ) → IsReached (graph g) depth g.by s
     → AreEnabled (graph g) g.by s ready → (n : ℕ) (e : EventAt) → slice_get ready n ≡ Some e → IsEnabled (graph g) g.by s (event_tree e)
@@ -129,8 +146,3 @@ waiting_on g s s' e has step ws waiting =
       waits = stays (answered_in g) (graph g) g.by s (address_of w.instance) w.want.attempt m.waits e s' has step;
     })
     waiting
-
--- instances that are told equal are the same
-pub same_instance : (a b : Instance) → is_eq (instance_cmp a b) ≡ true → b ≡ a
-same_instance a b is =
-    found_at (λ (x : Instance). x) a (b ∷ []) b (ap (λ t. cond t (Some b) (find_key instance_cmp (λ (x : Instance). x) a [])) is)

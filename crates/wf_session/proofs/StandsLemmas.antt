@@ -46,9 +46,10 @@ use Rattle.wf_trigger.specs.declared.starts.Start.{Start}
 use Rattle.wf_views.specs.Seen.{row_content}
 use Rattle.wf_session.specs.Begun.{AreListed, IsDear, Lists, moment, price}
 use Rattle.wf_session.specs.Stood.{Stands, run_of, run_with, wanted_in}
-use Rattle.wf_session.specs.Waiting.{Wants, key_at, keys_of, waiting_key}
-use Rattle.wf_session.specs.declared.waiting.Waiting.{Waiting}
-use Rattle.wf_session.proofs.AcceptLemmas.{exact_key, tied}
+use Rattle.wf_waits.specs.Kept.{keys_of, waiting_key}
+use Rattle.wf_waits.specs.declared.waiting.Waiting.{Waiting}
+use Rattle.wf_waits.proofs.KeyLemmas.{exact_key, tied}
+use Rattle.wf_session.specs.Waiting.{Wants, key_at}
 use Rattle.wf_session.proofs.CostLemmas.{pair, sum_paired, tells}
 
 -- ---- what it costs

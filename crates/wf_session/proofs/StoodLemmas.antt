@@ -1,6 +1,5 @@
 -- A run between two answers: what becomes of it as one comes.
 use Rattle.std.proofs.Common.{◌≡◌, ◌≢◌, ◌≤◌, ℕ, List, length, sym, ap, subst, ◌∙◌}
-use Rattle.std.specs.List.{AllByRecursion}
 use Rattle.wf_answered.specs.Answered.{answered}
 use Rattle.wf_answers.specs.Added.{with_added}
 use Rattle.wf_answers.specs.AnswerTree.{AnswerTree, key_cmp, key_of}
@@ -41,9 +40,11 @@ use Rattle.wf_actions.specs.declared.actions.Ready.{Ready}
 use Rattle.wf_run.specs.Runs.{Aside, IsAside}
 use Rattle.wf_session.specs.Begun.{AreListed, Going, IsStill, Lists, going, graph, moment, price}
 use Rattle.wf_session.specs.Stood.{MayGoOn, Stands, run_of, run_with}
-use Rattle.wf_session.specs.Waiting.{AreAllKept, AreWaiting, IsMissing, waiting_key}
-use Rattle.wf_session.specs.declared.waiting.Waiting.{Waiting}
-use Rattle.wf_session.proofs.AcceptLemmas.{apart, both_so, others_hold}
+use Rattle.wf_waits.specs.Kept.{Kept, waiting_key}
+use Rattle.wf_waits.specs.declared.waiting.Waiting.{Waiting}
+use Rattle.wf_waits.proofs.ListLemmas.{both_so}
+use Rattle.wf_waits.proofs.TakenLemmas.{apart, others_hold}
+use Rattle.wf_session.specs.Waiting.{AreAllKept, AreWaiting, IsMissing}
 
 -- the actions are those of the run
 pub going_is : (a : Actions) (d : DefTree) (e : Environment) (m : RowSource) → ActFor a d e m
@@ -63,9 +64,9 @@ pub put_aside : (a : Actions) (h : Lists) (rest : Aside) (ws : List Waiting) →
     → IsAside (definition_of a) (environment_of a) (source a) rest
     → ((v : ℕ) → IsLastWritten (graph (going a)) (source a) (writer (writes (definition_of a)) v) (moment h).rows (store_in h.1.1.1 v))
     → AreListed h → IsStill (going a) h → AreWaiting (going a) (moment h) ws → AreAllKept (going a) (moment h) ws
-    → AllByRecursion (λ (w : Waiting). w.since ≤ length (environment_of a).inputs.answers) ws → price (going a) h ≤ 67108864
+    → price (going a) h ≤ 67108864
     → Stands (going a) rest ws
-put_aside a h rest ws lists aside last listed still waiting all since within = record {
+put_aside a h rest ws lists aside last listed still waiting all within = record {
   aside = aside;
   last =
       subst
@@ -76,7 +77,6 @@ put_aside a h rest ws lists aside last listed still waiting all since within = r
   still = subst (IsStill (going a)) (sym lists) still;
   waiting = subst (λ (l : Lists). AreWaiting (going a) (moment l) ws) (sym lists) waiting;
   all = subst (λ (l : Lists). AreAllKept (going a) (moment l) ws) (sym lists) all;
-  since = since;
   within = subst (λ (l : Lists). price (going a) l ≤ 67108864) (sym lists) within;
 }
 
@@ -102,8 +102,11 @@ is_aside g rest may own order =
 
 module _ (d : DefTree) (start : StartTree) (i : InputsTree) (a : AnswerTree)
     (knows : KnowsMore (answered d i) (source_of d start i) (source_of d start (with_added i a)))
-    (stay : AreAmong (answered d i) (answered d (with_added i a))) (rest : Aside) (ws : List Waiting)
-    (st : Stands (run_of d start i) rest ws) where
+    (stay : AreAmong (answered d i) (answered d (with_added i a))) (rest : Aside) (kept : Kept)
+    (st : Stands (run_of d start i) rest kept.0) where
+  abbrev ws : List Waiting
+  ws = kept.0
+
   abbrev old : Going
   old = run_of d start i
 
@@ -137,8 +140,8 @@ module _ (d : DefTree) (start : StartTree) (i : InputsTree) (a : AnswerTree)
       → IsInKeyOrder key_cmp waiting_key ws → AreWaiting new (moment rest.0.0) (without_key key_cmp waiting_key (key_of a) ws)
   wait_still others order =
       both_so (without_key key_cmp waiting_key (key_of a) ws) one
-      (others_hold (key_of a) ws order (λ (w : Waiting). IsMissing old (moment rest.0.0) (address_of w.instance) w.want) st.waiting)
-      (apart (key_of a) ws order)
+      (others_hold (key_of a) kept order (λ (w : Waiting). IsMissing old (moment rest.0.0) (address_of w.instance) w.want) st.waiting)
+      (apart (key_of a) kept order)
     where
       one : (w : Waiting) → IsMissing old (moment rest.0.0) (address_of w.instance) w.want → waiting_key w ≢ key_of a
           → IsMissing new (moment rest.0.0) (address_of w.instance) w.want

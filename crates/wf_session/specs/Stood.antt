@@ -1,6 +1,5 @@
 -- What a run is kept by between two answers.
-use Rattle.std.specs.Prelude.{◌≤◌, ℕ, List, [], Option, Some, None, length}
-use Rattle.std.specs.List.{AllByRecursion}
+use Rattle.std.specs.Prelude.{◌≤◌, ℕ, List, [], Option, Some, None}
 use Rattle.wf_answers.specs.AnswerTree.{Key}
 use Rattle.wf_answers.specs.Inputs.{InputsTree}
 use Rattle.wf_answers.specs.InputsSeen.{inputs_tree}
@@ -28,8 +27,9 @@ use Rattle.wf_trigger.specs.declared.starts.Start.{Start}
 use Rattle.wf_views.specs.Seen.{row_content}
 use Rattle.wf_run.specs.Runs.{Aside, IsAside}
 use Rattle.wf_session.specs.Begun.{AreListed, Comes, Going, IsStill, graph, moment, price}
-use Rattle.wf_session.specs.Waiting.{AreAllKept, AreWaiting, keys_of}
-use Rattle.wf_session.specs.declared.waiting.Waiting.{Waiting}
+use Rattle.wf_waits.specs.Kept.{keys_of}
+use Rattle.wf_waits.specs.declared.waiting.Waiting.{Waiting}
+use Rattle.wf_session.specs.Waiting.{AreAllKept, AreWaiting}
 
 -- a run of a definition that starts so, with the inputs that are there
 abbrev pub run_of : DefTree → StartTree → InputsTree → Going
@@ -60,8 +60,7 @@ module _ (g : Going) (rest : Aside) where
     pub last : HasLastWriters
     pub sums : HasItsSums
 
-  -- The run stands there: nothing may happen but attempts that have no answer, and these are kept, each since so many answers were there as
-  -- there are now, or fewer.
+  -- The run stands there: nothing may happen but attempts that have no answer, and these are kept.
   pub record Stands (waits : List Waiting) : Type 0 where
     pub aside : IsAside g.definition g.environment g.by rest
     pub last : HasLastWriters
@@ -69,7 +68,6 @@ module _ (g : Going) (rest : Aside) where
     pub still : IsStill g rest.0.0
     pub waiting : AreWaiting g (moment rest.0.0) waits
     pub all : AreAllKept g (moment rest.0.0) waits
-    pub since : AllByRecursion (λ (w : Waiting). w.since ≤ length g.environment.inputs.answers) waits
     pub within : price g rest.0.0 ≤ 67108864
 
 -- the keys that are wanted: none of a run that has failed

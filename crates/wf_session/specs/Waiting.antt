@@ -1,5 +1,5 @@
--- Attempts that wait for their answers, as they are kept.
-use Rattle.std.specs.Prelude.{◌≡◌, ◌⊎◌, ℕ, Bool, true, not, List, map, nat_eq}
+-- Attempts that wait for their answers, by the run that waits for them.
+use Rattle.std.specs.Prelude.{◌≡◌, ℕ, true, List}
 use Rattle.std.specs.List.{AllByRecursion}
 use Rattle.wf_layers.specs.Address.{Address}
 use Rattle.wf_asks.specs.Instances.{address_of}
@@ -10,14 +10,9 @@ use Rattle.wf_stands.specs.Moment.{Moment}
 use Rattle.wf_talk.specs.Keys.{is_among}
 use Rattle.wf_talk.specs.Seen.{want_key}
 use Rattle.wf_talk.specs.declared.want.Want.{Want}
+use Rattle.wf_waits.specs.Kept.{keys_of}
+use Rattle.wf_waits.specs.declared.waiting.Waiting.{Waiting}
 use Rattle.wf_session.specs.Begun.{Going, answered_in, graph}
-use Rattle.wf_session.specs.declared.waiting.Waiting.{Waiting}
-
-abbrev pub waiting_key : Waiting → Key
-waiting_key w = want_key w.want
-
-abbrev pub keys_of : List Waiting → List Key
-keys_of waits = map waiting_key waits
 
 module _ (g : Going) where
   -- the key of an attempt at an instance
@@ -41,9 +36,3 @@ module _ (g : Going) where
     -- Each attempt that waits is kept.
     abbrev pub AreAllKept : List Waiting → Type 0
     AreAllKept waits = (x : Address) (attempt : ℕ) → Wants x attempt → is_among (key_at x attempt) (keys_of waits) ≡ true
-
--- WHICH OF THEM ARE NEW, where so many answers are there now: those that have waited since then, and they alone weren't among the earlier
--- keys. What was among these is kept still, or has its answer.
-pub record AreMarked (answered : Key → Bool) (now : ℕ) (earlier : List Key) (waits : List Waiting) : Type 0 where
-  pub each : AllByRecursion (λ (w : Waiting). is_among (waiting_key w) earlier ≡ not (nat_eq w.since now)) waits
-  pub earlier_are : (k : Key) → is_among k earlier ≡ true → (is_among k (keys_of waits) ≡ true) ⊎ (answered k ≡ true)

@@ -12,7 +12,6 @@ mod missing;
 mod session;
 mod settle;
 mod standing;
-mod waiting;
 
 pub use conversing::converse;
 pub use session::Session;

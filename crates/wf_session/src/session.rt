@@ -1,13 +1,12 @@
 //! A run whose answers come from outside.
-ghost use Rattle.std.specs.Prelude.{◌≡◌, ◌≢◌, ◌≤◌, [], IfErr, IfOk, List, length};
-ghost use Rattle.std.specs.List.{AllByRecursion};
+ghost use Rattle.std.specs.Prelude.{◌≡◌, ◌≢◌, [], IfErr, IfOk, List};
 ghost use Rattle.wf_answers.specs.AnswerTree.{Key};
 ghost use Rattle.wf_session.specs.Begun.{IsDear, has_answer, moment};
 ghost use Rattle.wf_session.specs.Stood.{MayGoOn, Stands, run_with};
-ghost use Rattle.wf_session.specs.Waiting.{AreMarked, AreWaiting};
+ghost use Rattle.wf_session.specs.Waiting.{AreWaiting};
+ghost use Rattle.wf_waits.specs.Kept.{AreNew};
 
 use crate::settle::settle;
-use crate::waiting::Waits;
 use std::alloc::Global;
 use std::marker::Model;
 use wf_actions::Actions;
@@ -20,6 +19,7 @@ use wf_record::Row;
 use wf_run::{Runnable, is_planned};
 use wf_talk::StandFault;
 use wf_trigger::Start;
+use wf_waits::Waits;
 
 /// A run that stands still where it needs an answer that isn't there: what it has come to, and which attempts wait. Once it has failed
 /// nothing is kept of it.
@@ -38,7 +38,7 @@ impl<'a> Model for Session<'a> {
     ghost use Rattle.wf_rules.specs.declared.checked.Checked.{Checked};
     ghost use Rattle.wf_run.specs.Runs.{Aside};
     ghost use Rattle.wf_session.specs.Stood.{Stands, run_with};
-    ghost use Rattle.wf_session.specs.declared.waiting.Waiting.{Waiting};
+    ghost use Rattle.wf_waits.specs.declared.waiting.Waiting.{Waiting};
     ghost use Rattle.wf_trigger.specs.declared.starts.Start.{Start};
     ghost use Rattle.std.specs.Coded.{codes};
     ghost use Rattle.wf_reading.specs.contracts.definition.Def as read;
@@ -48,9 +48,9 @@ impl<'a> Model for Session<'a> {
 
     ghost coded = { Prim.hlevel (codes, read.the_row.coded, coded_value, coded_member) };
 
-    ghost view = { λ s. (s.runnable.now.checked.now, (s.start, (s.inputs, (s.waits, s.rest)))) };
+    ghost view = { λ s. (s.runnable.now.checked.now, (s.start, (s.inputs, (s.waits.0, s.rest)))) };
 
-    ghost invariant = { λ s. IfSome s.rest (λ rest. Stands (run_with s.runnable.now.checked.now s.start s.inputs) rest s.waits) };
+    ghost invariant = { λ s. IfSome s.rest (λ rest. Stands (run_with s.runnable.now.checked.now s.start s.inputs) rest s.waits.0) };
 }
 
 // A run begins, and goes on until it needs an answer that isn't there.
@@ -61,19 +61,19 @@ pub(crate) fn begun(
     inputs: &Inputs,
     waits: &mut Waits,
 ) -> Result<Rest<Row, Begun, Decision, Verdict>, StandFault>
-    requires { waits.old ≡ [] }
-    ensures stands { IfOk result (λ rest. Stands (run_with runnable.now.checked.now start.now inputs.now) rest waits.new) }
+    requires { waits.old.0 ≡ [] }
+    ensures stands { IfOk result (λ rest. Stands (run_with runnable.now.checked.now start.now inputs.now) rest waits.new.0) }
     ensures dear { IfErr result (λ f. f ≢ StandFault.Memory → IsDear (run_with runnable.now.checked.now start.now inputs.now)) }
 {
     is_planned(runnable);
     let actions = Actions::of(runnable.ready, start, inputs);
     let mut making = Making::fresh(alloc, &actions, runnable.plan)?;
-    settle(alloc, &mut making, waits, inputs.answers.len())?;
+    settle(alloc, &mut making, waits)?;
     making.state().is_last();
     Ok(making.rest())
 }
 
-/// A run that was put aside goes on, now that it has so many answers, until it needs one that isn't there.
+/// A run that was put aside goes on until it needs an answer that isn't there.
 pub(crate) fn gone_on(
     alloc: Global,
     runnable: &Runnable<'_>,
@@ -83,19 +83,18 @@ pub(crate) fn gone_on(
     waits: &mut Waits,
 ) -> Result<Rest<Row, Begun, Decision, Verdict>, StandFault>
     requires goes_on { MayGoOn (run_with runnable.now.checked.now start.now inputs.now) rest }
-    requires waiting { AreWaiting (run_with runnable.now.checked.now start.now inputs.now) (moment rest.0.0) waits.old }
-    requires since { AllByRecursion (λ w. w.since ≤ length inputs.now.answers) waits.old }
-    ensures stands { IfOk result (λ rest. Stands (run_with runnable.now.checked.now start.now inputs.now) rest waits.new) }
+    requires waiting { AreWaiting (run_with runnable.now.checked.now start.now inputs.now) (moment rest.0.0) waits.old.0 }
+    ensures stands { IfOk result (λ rest. Stands (run_with runnable.now.checked.now start.now inputs.now) rest waits.new.0) }
     ensures marked { IfOk result (λ rest. (earlier : List Key)
-        → AreMarked (has_answer (run_with runnable.now.checked.now start.now inputs.now)) (length inputs.now.answers) earlier waits.old
-        → AreMarked (has_answer (run_with runnable.now.checked.now start.now inputs.now)) (length inputs.now.answers) earlier waits.new) }
+        → AreNew (has_answer (run_with runnable.now.checked.now start.now inputs.now)) earlier waits.old
+        → AreNew (has_answer (run_with runnable.now.checked.now start.now inputs.now)) earlier waits.new) }
     ensures dear { IfErr result (λ f. f ≢ StandFault.Memory → IsDear (run_with runnable.now.checked.now start.now inputs.now)) }
 {
     is_planned(runnable);
     let actions = Actions::of(runnable.ready, start, inputs);
     actions.is_instance();
     let mut making = Making::again(&actions, runnable.plan, rest);
-    settle(alloc, &mut making, waits, inputs.answers.len())?;
+    settle(alloc, &mut making, waits)?;
     making.state().is_last();
     Ok(making.rest())
 }

@@ -8,9 +8,8 @@ ghost use Rattle.wf_record.specs.Cost.{cost};
 ghost use Rattle.wf_record.specs.Seen.{record_tree};
 ghost use Rattle.wf_talk.specs.Standing.{TooLarge};
 
-use crate::accept::{add, all_wants, in_order, is_wanted, new_wants};
+use crate::accept::add;
 use crate::session::{Session, begun, gone_on};
-use crate::waiting::Waits;
 use std::alloc::{AllocError, Global};
 use wf_answers::{Answer, Inputs};
 use wf_record::{Record, record_line};
@@ -18,6 +17,7 @@ use wf_run::Runnable;
 use wf_talk::{Stand, StandFault, Want};
 use wf_trigger::Start;
 use wf_val::Address;
+use wf_waits::Waits;
 
 fn copy_of(alloc: Global, start: &Start) -> Result<Start, AllocError>
     ensures { IfOk result (λ s. start_tree s ≡ start_tree start.now) }
@@ -84,7 +84,7 @@ impl<'a> Stand for Session<'a> {
     ghost wanted = { λ s. wanted_in s.1.1.1.1 s.1.1.1.0 };
 
     fn is_waiting(&self) -> bool {
-        in_order(&self.waits);
+        self.waits.is_in_order();
         self.rest.is_some() && self.waits.len() > 0
     }
 
@@ -103,21 +103,21 @@ impl<'a> Stand for Session<'a> {
 
     fn wants(&self, alloc: Global) -> Result<Vec<Want>, AllocError> {
         if self.rest.is_some() {
-            all_wants(alloc, &self.waits)
+            self.waits.wants(alloc)
         } else {
             Ok(Vec::new(alloc))
         }
     }
 
     fn is_wanted(&self, address: &Address, attempt: u32) -> bool {
-        self.rest.is_some() && is_wanted(self.waits.as_slice(), address, attempt as u64)
+        self.rest.is_some() && self.waits.is_wanted(address, attempt as u64)
     }
 
     fn accept(&mut self, alloc: Global, answer: Answer) -> Result<Vec<Want>, StandFault> {
         let Some(rest) = self.rest.take() else {
             unreachable!()
         };
-        in_order(&self.waits);
+        self.waits.is_in_order();
         wf_answered::one_more_answer_is_known();
         wf_answered::answers_stay_answered();
         add(alloc, &mut self.inputs, &mut self.waits, answer)?;
@@ -129,7 +129,7 @@ impl<'a> Stand for Session<'a> {
             rest,
             &mut self.waits,
         )?;
-        let wants = new_wants(alloc, &self.waits, self.inputs.answers.len())?;
+        let wants = self.waits.fresh(alloc)?;
         self.rest = Some(rest);
         Ok(wants)
     }

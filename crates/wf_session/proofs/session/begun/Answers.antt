@@ -1,16 +1,12 @@
-use Rattle.std.proofs.Common.{◌≡◌, ◌≤◌, [], ap, arith, length, subst, sym, ◌∙◌}
-use Rattle.std.proofs.lemmas.List.{length-map}
+use Rattle.std.proofs.Common.{◌≡◌, [], ap, subst, ◌∙◌}
 use Rattle.std.proofs.lemmas.Result.{err_from_is_err_and}
-use Rattle.std.specs.List.{AllByRecursion}
 use Rattle.wf_actions.specs.Meant.{definition_of, environment_of, source}
-use Rattle.wf_answers.specs.AnswerSeen.{answer_tree}
 use Rattle.wf_asks.specs.Known.{store_in, writer}
 use Rattle.wf_layers.specs.Variables.{IsLastWritten}
 use Rattle.wf_run.specs.Runs.{IsAside}
 use Rattle.wf_sight_laws.specs.Writes.{writes}
 use Rattle.wf_session.specs.Begun.{IsDear, Going, going, graph, moment}
 use Rattle.wf_session.specs.Stood.{Stands, run_with}
-use Rattle.wf_session.specs.declared.waiting.Waiting.{Waiting}
 use Rattle.wf_session.proofs.StoodLemmas.{put_aside, same_run}
 use Rattle.wf_session.proofs.session.begun.Goals as goal
 
@@ -39,13 +35,9 @@ returns-clause-stands c =
     let same : going a ≡ run_with s.checked.now c.args.start.now c.args.inputs.now =
     ap going c.in_ok-making.ensures.acts
     ∙ same_run c.of-actions.result s.ready.now s.checked.now c.args.start.now c.args.inputs.now s.readied c.of-actions.ensures in
-    let here : c.len.result ≡ length (environment_of a).inputs.answers =
-    c.len.ensures.count
-    ∙ (sym (length-map c.args.inputs.now.answers answer_tree) ∙ ap (λ (g : Going). length g.environment.inputs.answers) (sym same)) in
-    let none : c.args.waits.now ≡ [] = c.requires in
     let e = c.in_ok-settle.ensures in
-    subst (λ (g : Going). Stands g rest c.settle.new.waits) same
-    (put_aside a c.settle.new.making.1 rest c.settle.new.waits c.rest.ensures.lists
+    subst (λ (g : Going). Stands g rest c.settle.new.waits.0) same
+    (put_aside a c.settle.new.making.1 rest c.settle.new.waits.0 c.rest.ensures.lists
     (subst (λ b. IsAside (definition_of b) (environment_of b) (source b) rest) c.settle.ensures.same
     (record { kept = c.rest.ensures.kept; sums = c.rest.ensures.sums }))
     (λ v.
@@ -56,7 +48,4 @@ returns-clause-stands c =
     (subst
     (λ h. IsLastWritten (graph (going h.0)) (source h.0) (writer (writes (definition_of h.0)) v) (moment h.1).rows (store_in h.1.1.1.1 v))
     c.state.ensures (c.is_last.ensures v)))
-    e.listed e.still e.waiting e.all
-    (subst (λ n. AllByRecursion (λ (w : Waiting). w.since ≤ n) c.settle.new.waits) here
-    (e.since c.len.result (omega (arith)) (subst (AllByRecursion (λ (w : Waiting). w.since ≤ c.len.result)) (sym none) tt)))
-    e.within)
+    e.listed e.still e.waiting e.all e.within)

@@ -1,18 +1,15 @@
-use Rattle.std.proofs.Common.{◌≡◌, ◌≤◌, ap, arith, length, subst, sym, ◌∙◌}
-use Rattle.std.proofs.lemmas.List.{length-map}
+use Rattle.std.proofs.Common.{◌≡◌, ap, subst, sym, ◌∙◌}
 use Rattle.std.proofs.lemmas.Result.{err_from_is_err_and}
-use Rattle.std.specs.List.{AllByRecursion}
 use Rattle.wf_actions.specs.Meant.{definition_of, environment_of, source}
-use Rattle.wf_answers.specs.AnswerSeen.{answer_tree}
 use Rattle.wf_asks.specs.Known.{store_in, writer}
 use Rattle.wf_layers.specs.Variables.{IsLastWritten}
 use Rattle.wf_run.specs.Runs.{IsAside}
 use Rattle.wf_sight_laws.specs.Writes.{writes}
 use Rattle.wf_session.specs.Begun.{Comes, IsDear, Going, going, graph, has_answer, moment}
 use Rattle.wf_session.specs.Stood.{MayGoOn, Stands, run_with}
-use Rattle.wf_session.specs.Waiting.{AreMarked, AreWaiting}
+use Rattle.wf_waits.specs.Kept.{AreNew}
+use Rattle.wf_session.specs.Waiting.{AreWaiting}
 use Rattle.wf_session.proofs.StoodLemmas.{is_aside, put_aside, same_run}
-use Rattle.wf_session.specs.declared.waiting.Waiting.{Waiting}
 use Rattle.wf_session.proofs.session.gone_on.Goals as goal
 
 pub again-making-requires-clause-kept : goal.again-making-requires-clause-kept
@@ -45,11 +42,11 @@ pub settle-requires-clause-waiting : goal.settle-requires-clause-waiting
 settle-requires-clause-waiting c =
     let s = c.args.runnable.now in
     let a = c.of-actions.result in
-    let there : AreWaiting (going a) (moment c.args.rest.0.0) c.args.waits.now =
-    subst (λ (g : Going). AreWaiting g (moment c.args.rest.0.0) c.args.waits.now)
+    let there : AreWaiting (going a) (moment c.args.rest.0.0) c.args.waits.now.0 =
+    subst (λ (g : Going). AreWaiting g (moment c.args.rest.0.0) c.args.waits.now.0)
     (sym (same_run a s.ready.now s.checked.now c.args.start.now c.args.inputs.now s.readied c.of-actions.ensures)) c.requires.waiting in
-    subst (λ b. AreWaiting (going b) (moment c.again-making.result.1) c.args.waits.now) (sym c.again-making.ensures.acts)
-    (subst (λ h. AreWaiting (going a) (moment h) c.args.waits.now) (sym c.again-making.ensures.lists) there)
+    subst (λ b. AreWaiting (going b) (moment c.again-making.result.1) c.args.waits.now.0) (sym c.again-making.ensures.acts)
+    (subst (λ h. AreWaiting (going a) (moment h) c.args.waits.now.0) (sym c.again-making.ensures.lists) there)
 
 pub returns-in_err-settle-clause-dear : goal.returns-in_err-settle-clause-dear
 returns-in_err-settle-clause-dear c =
@@ -68,12 +65,9 @@ returns-clause-stands c =
     let same : going a ≡ run_with s.checked.now c.args.start.now c.args.inputs.now =
     ap going c.again-making.ensures.acts
     ∙ same_run c.of-actions.result s.ready.now s.checked.now c.args.start.now c.args.inputs.now s.readied c.of-actions.ensures in
-    let here : c.len.result ≡ length (environment_of a).inputs.answers =
-    c.len.ensures.count
-    ∙ (sym (length-map c.args.inputs.now.answers answer_tree) ∙ ap (λ (g : Going). length g.environment.inputs.answers) (sym same)) in
     let e = c.in_ok-settle.ensures in
-    subst (λ (g : Going). Stands g rest c.settle.new.waits) same
-    (put_aside a c.settle.new.making.1 rest c.settle.new.waits c.rest.ensures.lists
+    subst (λ (g : Going). Stands g rest c.settle.new.waits.0) same
+    (put_aside a c.settle.new.making.1 rest c.settle.new.waits.0 c.rest.ensures.lists
     (subst (λ b. IsAside (definition_of b) (environment_of b) (source b) rest) c.settle.ensures.same
     (record { kept = c.rest.ensures.kept; sums = c.rest.ensures.sums }))
     (λ v.
@@ -84,11 +78,7 @@ returns-clause-stands c =
     (subst
     (λ h. IsLastWritten (graph (going h.0)) (source h.0) (writer (writes (definition_of h.0)) v) (moment h.1).rows (store_in h.1.1.1.1 v))
     c.state.ensures (c.is_last.ensures v)))
-    e.listed e.still e.waiting e.all
-    (subst (λ n. AllByRecursion (λ (w : Waiting). w.since ≤ n) c.settle.new.waits) here
-    (e.since c.len.result (omega (arith))
-    (subst (λ n. AllByRecursion (λ (w : Waiting). w.since ≤ n) c.args.waits.now) (sym c.len.ensures.count) c.requires.since)))
-    e.within)
+    e.listed e.still e.waiting e.all e.within)
 
 pub returns-clause-marked : goal.returns-clause-marked
 returns-clause-marked c = λ earlier m.
@@ -96,10 +86,6 @@ returns-clause-marked c = λ earlier m.
     let same : going c.again-making.result.0 ≡ run_with s.checked.now c.args.start.now c.args.inputs.now =
     ap going c.again-making.ensures.acts
     ∙ same_run c.of-actions.result s.ready.now s.checked.now c.args.start.now c.args.inputs.now s.readied c.of-actions.ensures in
-    let before : AreMarked (has_answer (going c.again-making.result.0)) c.len.result earlier c.args.waits.now =
-    subst (λ n. AreMarked (has_answer (going c.again-making.result.0)) n earlier c.args.waits.now) (sym c.len.ensures.count)
-    (subst (λ (g : Going). AreMarked (has_answer g) (length c.args.inputs.now.answers) earlier c.args.waits.now) (sym same) m) in
-    subst (λ n. AreMarked (has_answer (run_with s.checked.now c.args.start.now c.args.inputs.now)) n earlier c.settle.new.waits)
-    c.len.ensures.count
-    (subst (λ (g : Going). AreMarked (has_answer g) c.len.result earlier c.settle.new.waits) same
-    (c.in_ok-settle.ensures.marked earlier before))
+    let before : AreNew (has_answer (going c.again-making.result.0)) earlier c.args.waits.now =
+    subst (λ (g : Going). AreNew (has_answer g) earlier c.args.waits.now) (sym same) m in
+    subst (λ (g : Going). AreNew (has_answer g) earlier c.settle.new.waits) same (c.in_ok-settle.ensures.marked earlier before)

@@ -1,20 +1,42 @@
-use Rattle.std.proofs.Common.{◌+◌, refl}
-use Rattle.wf_session.specs.Begun.{going, moment}
-use Rattle.wf_session.proofs.ScanLemmas.{all_held, looked_on}
+use Rattle.std.proofs.Common.{subst}
+use Rattle.wf_kept.specs.Reached.{IsReached}
+use Rattle.wf_actions.specs.Meant.{depth, source}
+use Rattle.wf_session.specs.Begun.{going, graph, moment}
+use Rattle.wf_session.proofs.NextLemmas.{may_happen}
+use Rattle.wf_session.proofs.ScanLemmas.{all_held, held_at_first, looked_on, looked_same}
 use Rattle.wf_session.proofs.settle.first_that_happens.Goals as goal
 
-pub returns-in-Some-clause-looked : goal.returns-in-Some-clause-looked
-returns-in-Some-clause-looked c =
-    looked_on (going c.args.making.now.0) (moment c.args.making.now.1) c.args.now c.args.waits.now c.loop-place.waits c.look.new.waits
-    c.loop-place.invariant.looked c.in_ok-event.ensures.looked
+pub past-place-requires : goal.past-place-requires
+past-place-requires c =
+    let h = c.args.making.now in
+    let reached : IsReached (graph (going h.0)) (depth h.0) (source h.0) (moment h.1) =
+    subst (λ s. IsReached (graph (going s.0)) (depth s.0) (source s.0) (moment s.1)) c.state-kept.ensures c.is_reached.ensures in
+    may_happen (going h.0) (moment h.1) c.args.ready.now.0 c.args.waits.now.0 (depth h.0) reached c.requires.ready c.requires.waiting
+
+pub loop-place-init : goal.loop-place-init
+loop-place-init c =
+    let g = going c.args.making.now.0 in
+    let s = moment c.args.making.now.1 in record {
+      looked = looked_same g s c.args.waits.now c.requires.waiting;
+      held =
+          held_at_first g s c.args.ready.now.0 c.args.waits.now.0 c.past-place.result c.requires.waiting c.past-place.ensures.passed;
+    }
+
+pub past-place-requires-in-loop-place : goal.past-place-requires-in-loop-place
+past-place-requires-in-loop-place c =
+    let h = c.args.making.now in
+    let reached : IsReached (graph (going h.0)) (depth h.0) (source h.0) (moment h.1) =
+    subst (λ s. IsReached (graph (going s.0)) (depth s.0) (source s.0) (moment s.1)) c.state-kept.ensures c.is_reached.ensures in
+    may_happen (going h.0) (moment h.1) c.args.ready.now.0 c.look.new.waits.0 (depth h.0) reached c.requires.ready
+    c.in_ok-event.ensures.looked.waiting
 
 pub loop-place-preserved : goal.loop-place-preserved
 loop-place-preserved c =
     let g = going c.args.making.now.0 in
     let s = moment c.args.making.now.1 in record {
-      looked =
-          looked_on g s c.args.now c.args.waits.now c.loop-place.waits c.look.new.waits c.loop-place.invariant.looked c.in_ok-event.ensures.looked;
+      looked = looked_on g s c.args.waits.now c.loop-place.waits c.look.new.waits c.loop-place.invariant.looked c.in_ok-event.ensures.looked;
       held =
-          all_held g s c.args.now c.args.ready.now.0 c.loop-place.waits c.look.new.waits c.loop-place.place (c.loop-place.place + 1) refl
-          c.in_ok-event.ensures.looked c.loop-place.invariant.held (c.in_ok-event.ensures.held c.in-None.is);
+          all_held g s c.args.ready.now.0 c.loop-place.waits c.look.new.waits c.loop-place.place c.past-place-in-loop-place.result
+          c.in_ok-event.ensures.looked c.loop-place.invariant.held (c.in_ok-event.ensures.held c.in_default.is)
+          c.past-place-in-loop-place.ensures.passed;
     }

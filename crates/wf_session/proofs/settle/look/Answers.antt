@@ -4,17 +4,13 @@ use Rattle.wf_asks.specs.declared.instance.Instance.{Instance}
 use Rattle.wf_kept.specs.Reached.{IsReached}
 use Rattle.wf_tables.specs.Tables.{event_tree}
 use Rattle.wf_actions.specs.Meant.{depth, source}
+use Rattle.wf_waits.specs.Kept.{Kept}
 use Rattle.wf_session.specs.Begun.{going, graph, moment}
 use Rattle.wf_session.specs.Settled.{HasLooked, IsHeld, WillHappen}
 use Rattle.wf_session.specs.Waiting.{IsMissing}
 use Rattle.wf_session.proofs.NextLemmas.{listed_enabled}
-use Rattle.wf_session.proofs.ScanLemmas.{held_alike, held_kept, looked_kept}
+use Rattle.wf_session.proofs.ScanLemmas.{held_kept, looked_kept}
 use Rattle.wf_session.proofs.settle.look.Goals as goal
-
-pub returns-then-are_alike-clause-held : goal.returns-then-are_alike-clause-held
-returns-then-are_alike-clause-held c = λ none.
-    held_alike (going c.args.making.now.0) (moment c.args.making.now.1) c.args.now c.args.ready.now.0 c.args.waits.now c.args.place
-    c.requires.waiting (c.are_alike.ensures c.if-are_alike.true)
 
 pub missing-requires : goal.missing-requires
 missing-requires c =
@@ -30,8 +26,9 @@ returns-in_ok-keep-in-Some-clause-looked c =
     let s = moment c.args.making.now.1 in
     let missing : IsMissing g s (address_of c.at-event.result.now.instance) c.in-Some.want =
     subst (λ o. IfSome o (IsMissing g s (address_of c.at-event.result.now.instance))) c.in-Some.is c.in_ok-want.ensures.missing in
-    subst (HasLooked g s c.args.now c.args.waits.now) (sym c.in_ok-keep-in-Some.ensures)
-    (looked_kept g s c.args.now c.args.waits.now c.requires.waiting c.in-Some.want c.at-event.result.now.instance missing)
+    subst (HasLooked g s c.args.waits.now) (sym c.in_ok-keep-in-Some.ensures.kept)
+    (looked_kept g s c.args.waits.now c.requires.waiting c.in-Some.want c.at-event.result.now.instance missing
+    c.is_in_order.ensures)
 
 pub returns-in_ok-keep-in-Some-clause-held : goal.returns-in_ok-keep-in-Some-clause-held
 returns-in_ok-keep-in-Some-clause-held c = λ none.
@@ -39,8 +36,8 @@ returns-in_ok-keep-in-Some-clause-held c = λ none.
     let s = moment c.args.making.now.1 in
     let missing : IsMissing g s (address_of c.at-event.result.now.instance) c.in-Some.want =
     subst (λ o. IfSome o (IsMissing g s (address_of c.at-event.result.now.instance))) c.in-Some.is c.in_ok-want.ensures.missing in
-    subst (λ ws. IsHeld g s c.args.ready.now.0 ws c.args.place) (sym c.in_ok-keep-in-Some.ensures)
-    (held_kept g s c.args.now c.args.waits.now c.requires.waiting c.in-Some.want c.at-event.result.now.instance missing c.args.ready.now.0
+    subst (λ (kept : Kept). IsHeld g s c.args.ready.now.0 kept.0 c.args.place) (sym c.in_ok-keep-in-Some.ensures.kept)
+    (held_kept g s c.args.waits.now c.requires.waiting c.in-Some.want c.at-event.result.now.instance missing c.args.ready.now.0
     c.args.place c.at-event.result.now c.at-event.ensures.item refl)
 
 pub returns-in_ok-instance-in-None-clause-happens : goal.returns-in_ok-instance-in-None-clause-happens

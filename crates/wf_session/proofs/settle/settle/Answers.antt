@@ -39,8 +39,8 @@ loop-event-preserved c =
     let s = moment l.making.1 in
     let e = event_tree c.in-Some.event in
     let new = moment c.step.new.self.1 in
-    let looked : HasLooked (going a) s c.args.now l.waits c.next.new.waits =
-    subst (λ b. HasLooked (going b) s c.args.now l.waits c.next.new.waits) l.invariant.same c.in_ok-event.ensures.looked in
+    let looked : HasLooked (going a) s l.waits c.next.new.waits =
+    subst (λ b. HasLooked (going b) s l.waits c.next.new.waits) l.invariant.same c.in_ok-event.ensures.looked in
     let found : WillHappen (going l.making.0) s e =
     subst (λ (o : Option EventAt). IfSome o (λ v. WillHappen (going l.making.0) s (event_tree v))) c.in-Some.is
     c.in_ok-event.ensures.happens in
@@ -55,9 +55,8 @@ loop-event-preserved c =
             grows (answered_in (going a)) (graph (going a)) (source a) machine.fresh l.invariant.comes.events s l.invariant.comes.run e new
             happens.answered goes;
       };
-      waiting = waiting_on (going a) s new e happens.answered goes c.next.new.waits looked.waiting;
+      waiting = waiting_on (going a) s new e happens.answered goes c.next.new.waits.0 looked.waiting;
       marked = λ earlier m. looked.marked earlier (l.invariant.marked earlier m);
-      since = λ most within all. looked.since most within (l.invariant.since most within all);
     }
 
 pub returns-then-is_too_dear-2-clause-dear : goal.returns-then-is_too_dear-2-clause-dear
@@ -85,17 +84,11 @@ returns-else-is_too_dear-2-clause-still c =
 pub returns-else-is_too_dear-2-clause-all : goal.returns-else-is_too_dear-2-clause-all
 returns-else-is_too_dear-2-clause-all c =
     let l = c.loop-event in
-    subst (λ b. AreAllKept (going b) (moment l.making.1) c.next.new.waits) l.invariant.same
+    subst (λ b. AreAllKept (going b) (moment l.making.1) c.next.new.waits.0) l.invariant.same
     (c.in_ok-event.ensures.all (none_of c.in_ok-event.field-0 c.in_default.not-Some))
 
 pub returns-else-is_too_dear-2-clause-marked : goal.returns-else-is_too_dear-2-clause-marked
 returns-else-is_too_dear-2-clause-marked c = λ earlier m.
     let l = c.loop-event in
-    (subst (λ b. HasLooked (going b) (moment l.making.1) c.args.now l.waits c.next.new.waits) l.invariant.same
+    (subst (λ b. HasLooked (going b) (moment l.making.1) l.waits c.next.new.waits) l.invariant.same
     c.in_ok-event.ensures.looked).marked earlier (l.invariant.marked earlier m)
-
-pub returns-else-is_too_dear-2-clause-since : goal.returns-else-is_too_dear-2-clause-since
-returns-else-is_too_dear-2-clause-since c = λ most within all.
-    let l = c.loop-event in
-    (subst (λ b. HasLooked (going b) (moment l.making.1) c.args.now l.waits c.next.new.waits) l.invariant.same
-    c.in_ok-event.ensures.looked).since most within (l.invariant.since most within all)

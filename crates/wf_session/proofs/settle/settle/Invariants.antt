@@ -1,12 +1,11 @@
-use Rattle.std.proofs.Common.{◌≡◌, ◌≤◌, ℕ, List, []}
-use Rattle.std.specs.List.{AllByRecursion}
+use Rattle.std.proofs.Common.{◌≡◌, List, []}
 use Rattle.wf_answers.specs.AnswerTree.{Key}
 use Rattle.wf_layers.specs.Bound.{left}
 use Rattle.wf_layers.specs.Meaning.{meaning}
 use Rattle.wf_actions.specs.Meant.{depth, graph, source}
 use Rattle.wf_session.specs.Begun.{Comes, going, has_answer, moment}
-use Rattle.wf_session.specs.Waiting.{AreMarked, AreWaiting}
-use Rattle.wf_session.specs.declared.waiting.Waiting.{Waiting}
+use Rattle.wf_waits.specs.Kept.{AreNew}
+use Rattle.wf_session.specs.Waiting.{AreWaiting}
 use Rattle.wf_session.proofs.settle.settle.Given as goal
 
 -- a run with the answers that are there has led here, and what is kept waits still
@@ -14,11 +13,9 @@ abbrev pub invariant-loop-event : goal.invariant-loop-event
 invariant-loop-event l = record {
   same : l.making.0 ≡ l.fn.making.0;
   comes : Comes (going l.fn.making.0) l.making.1;
-  waiting : AreWaiting (going l.fn.making.0) (moment l.making.1) l.waits;
-  marked : (earlier : List Key) → AreMarked (has_answer (going l.fn.making.0)) l.now earlier l.fn.waits
-      → AreMarked (has_answer (going l.fn.making.0)) l.now earlier l.waits;
-  since : (most : ℕ) → l.now ≤ most → AllByRecursion (λ (w : Waiting). w.since ≤ most) l.fn.waits
-      → AllByRecursion (λ (w : Waiting). w.since ≤ most) l.waits;
+  waiting : AreWaiting (going l.fn.making.0) (moment l.making.1) l.waits.0;
+  marked : (earlier : List Key) → AreNew (has_answer (going l.fn.making.0)) earlier l.fn.waits
+      → AreNew (has_answer (going l.fn.making.0)) earlier l.waits;
 }
 
 -- what is left of the events

@@ -1,7 +1,5 @@
-use Rattle.std.proofs.Common.{◌≡◌, ◌≤◌, ◌⊎◌, true, filter, length, map, nat_eq, List, Option, Some, sym, ap, subst, ◌∙◌}
-use Rattle.std.proofs.lemmas.List.{length-map}
+use Rattle.std.proofs.Common.{◌≡◌, ◌⊎◌, true, List, Option, Some, sym, ap, subst, ◌∙◌}
 use Rattle.std.proofs.lemmas.Result.{err_from_is_err_and}
-use Rattle.std.specs.List.{AllByRecursion}
 use Rattle.std.specs.Prelude.{IfSome}
 use Rattle.wf_answers.specs.Added.{with_added}
 use Rattle.wf_answers.specs.AnswerSeen.{answer_tree}
@@ -15,14 +13,13 @@ use Rattle.wf_stands.specs.Stands as stands
 use Rattle.wf_talk.specs.Keys.{fresh, is_among}
 use Rattle.wf_talk.specs.Standing.{TooLarge}
 use Rattle.wf_trigger.specs.StartsSeen.{start_tree}
+use Rattle.wf_waits.specs.Kept.{AreNew, Kept, kept_without, keys_of, waiting_key}
 use Rattle.wf_session.specs.Begun.{has_answer, moment}
 use Rattle.wf_session.specs.Stood.{MayGoOn, Stands, run_of, run_with, wanted_in}
-use Rattle.wf_session.specs.Waiting.{AreMarked, AreWaiting, keys_of, waiting_key}
-use Rattle.wf_session.specs.declared.waiting.Waiting.{Waiting}
-use Rattle.wf_session.proofs.AcceptLemmas.{fresh_are}
+use Rattle.wf_session.specs.Waiting.{AreWaiting}
 use Rattle.wf_session.proofs.StandsLemmas.{too_dear}
 use Rattle.wf_session.proofs.StoodLemmas.{may_go_on, wait_still}
-use Rattle.wf_session.proofs.TakenLemmas.{by_keys, marked, not_there, since_still}
+use Rattle.wf_session.proofs.TakenLemmas.{by_keys, marked, not_there}
 use Rattle.wf_session.proofs.standing.SessionStand.accept.Goals as goal
 
 pub add-requires : goal.add-requires
@@ -32,12 +29,12 @@ add-requires c =
     let rest = c.in-Some.rest in
     let a = answer_tree c.args.answer in
     let here : s.rest ≡ Some rest = sym c.take.ensures.value ∙ c.in-Some.is in
-    let st : Stands (run_with checked s.start s.inputs) rest s.waits =
-    subst (λ (o : Option Aside). IfSome o (λ r. Stands (run_with checked s.start s.inputs) r s.waits)) here c.self.invariant in
-    let keys : keys_of s.waits ≡ wanted_in c.args.self.now.1.1.1.1 c.args.self.now.1.1.1.0 =
-    ap (λ o. wanted_in o s.waits) (sym here) ∙ ap (λ v. wanted_in v.1.1.1.1 v.1.1.1.0) c.self.view_is in
-    let wanted : is_among (key_of a) (keys_of s.waits) ≡ true = subst (λ (ks : List Key). is_among (key_of a) ks ≡ true) (sym keys) c.requires in
-    not_there (def_tree checked.def) (start_tree s.start) (inputs_tree s.inputs) a rest s.waits st c.in_order.ensures wanted
+    let st : Stands (run_with checked s.start s.inputs) rest s.waits.0 =
+    subst (λ (o : Option Aside). IfSome o (λ r. Stands (run_with checked s.start s.inputs) r s.waits.0)) here c.self.invariant in
+    let keys : keys_of s.waits.0 ≡ wanted_in c.args.self.now.1.1.1.1 c.args.self.now.1.1.1.0 =
+    ap (λ o. wanted_in o s.waits.0) (sym here) ∙ ap (λ v. wanted_in v.1.1.1.1 v.1.1.1.0) c.self.view_is in
+    let wanted : is_among (key_of a) (keys_of s.waits.0) ≡ true = subst (λ (ks : List Key). is_among (key_of a) ks ≡ true) (sym keys) c.requires in
+    not_there (def_tree checked.def) (start_tree s.start) (inputs_tree s.inputs) a rest s.waits st c.is_in_order.ensures wanted
 
 pub returns-in_err-add-clause-fault : goal.returns-in_err-add-clause-fault
 returns-in_err-add-clause-fault c =
@@ -53,12 +50,12 @@ gone_on-requires-clause-goes_on c =
     let rest = c.in-Some.rest in
     let a = answer_tree c.args.answer in
     let here : s.rest ≡ Some rest = sym c.take.ensures.value ∙ c.in-Some.is in
-    let st : Stands (run_with checked s.start s.inputs) rest s.waits =
-    subst (λ (o : Option Aside). IfSome o (λ r. Stands (run_with checked s.start s.inputs) r s.waits)) here c.self.invariant in
-    let keys : keys_of s.waits ≡ wanted_in c.args.self.now.1.1.1.1 c.args.self.now.1.1.1.0 =
-    ap (λ o. wanted_in o s.waits) (sym here) ∙ ap (λ v. wanted_in v.1.1.1.1 v.1.1.1.0) c.self.view_is in
-    let wanted : is_among (key_of a) (keys_of s.waits) ≡ true = subst (λ (ks : List Key). is_among (key_of a) ks ≡ true) (sym keys) c.requires in
-    let none = not_there d (start_tree s.start) i a rest s.waits st c.in_order.ensures wanted in
+    let st : Stands (run_with checked s.start s.inputs) rest s.waits.0 =
+    subst (λ (o : Option Aside). IfSome o (λ r. Stands (run_with checked s.start s.inputs) r s.waits.0)) here c.self.invariant in
+    let keys : keys_of s.waits.0 ≡ wanted_in c.args.self.now.1.1.1.1 c.args.self.now.1.1.1.0 =
+    ap (λ o. wanted_in o s.waits.0) (sym here) ∙ ap (λ v. wanted_in v.1.1.1.1 v.1.1.1.0) c.self.view_is in
+    let wanted : is_among (key_of a) (keys_of s.waits.0) ≡ true = subst (λ (ks : List Key). is_among (key_of a) ks ≡ true) (sym keys) c.requires in
+    let none = not_there d (start_tree s.start) i a rest s.waits st c.is_in_order.ensures wanted in
     subst (λ (j : InputsTree). MayGoOn (run_of d (start_tree s.start) j) rest) (sym c.in_ok-add.ensures.inputs)
     (may_go_on d (start_tree s.start) i a (c.one_more_answer_is_known.ensures d (start_tree s.start) i a none)
     (c.answers_stay_answered.ensures.stay d i a) rest s.waits st)
@@ -72,42 +69,21 @@ gone_on-requires-clause-waiting c =
     let rest = c.in-Some.rest in
     let a = answer_tree c.args.answer in
     let here : s.rest ≡ Some rest = sym c.take.ensures.value ∙ c.in-Some.is in
-    let st : Stands (run_with checked s.start s.inputs) rest s.waits =
-    subst (λ (o : Option Aside). IfSome o (λ r. Stands (run_with checked s.start s.inputs) r s.waits)) here c.self.invariant in
-    let keys : keys_of s.waits ≡ wanted_in c.args.self.now.1.1.1.1 c.args.self.now.1.1.1.0 =
-    ap (λ o. wanted_in o s.waits) (sym here) ∙ ap (λ v. wanted_in v.1.1.1.1 v.1.1.1.0) c.self.view_is in
-    let wanted : is_among (key_of a) (keys_of s.waits) ≡ true = subst (λ (ks : List Key). is_among (key_of a) ks ≡ true) (sym keys) c.requires in
-    let none = not_there d (start_tree s.start) i a rest s.waits st c.in_order.ensures wanted in
-    subst (λ (ws : List Waiting). AreWaiting (run_of d (start_tree s.start) (inputs_tree c.add.new.inputs)) (moment rest.0.0) ws)
+    let st : Stands (run_with checked s.start s.inputs) rest s.waits.0 =
+    subst (λ (o : Option Aside). IfSome o (λ r. Stands (run_with checked s.start s.inputs) r s.waits.0)) here c.self.invariant in
+    let keys : keys_of s.waits.0 ≡ wanted_in c.args.self.now.1.1.1.1 c.args.self.now.1.1.1.0 =
+    ap (λ o. wanted_in o s.waits.0) (sym here) ∙ ap (λ v. wanted_in v.1.1.1.1 v.1.1.1.0) c.self.view_is in
+    let wanted : is_among (key_of a) (keys_of s.waits.0) ≡ true = subst (λ (ks : List Key). is_among (key_of a) ks ≡ true) (sym keys) c.requires in
+    let none = not_there d (start_tree s.start) i a rest s.waits st c.is_in_order.ensures wanted in
+    subst (λ (kept : Kept). AreWaiting (run_of d (start_tree s.start) (inputs_tree c.add.new.inputs)) (moment rest.0.0) kept.0)
     (sym c.in_ok-add.ensures.waits)
     (subst
     (λ (j : InputsTree). AreWaiting (run_of d (start_tree s.start) j) (moment rest.0.0)
-    (without_key key_cmp waiting_key (key_of a) s.waits))
+    (without_key key_cmp waiting_key (key_of a) s.waits.0))
     (sym c.in_ok-add.ensures.inputs)
     (wait_still d (start_tree s.start) i a (c.one_more_answer_is_known.ensures d (start_tree s.start) i a none)
     (c.answers_stay_answered.ensures.stay d i a) rest s.waits st (λ x n. c.answers_stay_answered.ensures.others d i a x n)
-    (by_keys d (start_tree s.start) i a rest s.waits st c.in_order.ensures wanted)))
-
-pub gone_on-requires-clause-since : goal.gone_on-requires-clause-since
-gone_on-requires-clause-since c =
-    let s = c.self.inside in
-    let checked = s.runnable.now.checked.now in
-    let d = def_tree checked.def in
-    let i = inputs_tree s.inputs in
-    let rest = c.in-Some.rest in
-    let a = answer_tree c.args.answer in
-    let here : s.rest ≡ Some rest = sym c.take.ensures.value ∙ c.in-Some.is in
-    let st : Stands (run_with checked s.start s.inputs) rest s.waits =
-    subst (λ (o : Option Aside). IfSome o (λ r. Stands (run_with checked s.start s.inputs) r s.waits)) here c.self.invariant in
-    let keys : keys_of s.waits ≡ wanted_in c.args.self.now.1.1.1.1 c.args.self.now.1.1.1.0 =
-    ap (λ o. wanted_in o s.waits) (sym here) ∙ ap (λ v. wanted_in v.1.1.1.1 v.1.1.1.0) c.self.view_is in
-    let wanted : is_among (key_of a) (keys_of s.waits) ≡ true = subst (λ (ks : List Key). is_among (key_of a) ks ≡ true) (sym keys) c.requires in
-    let count : length c.add.new.inputs.answers ≡ length (with_added i a).answers =
-    sym (length-map c.add.new.inputs.answers answer_tree) ∙ ap (λ (j : InputsTree). length j.answers) c.in_ok-add.ensures.inputs in
-    subst (λ (ws : List Waiting). AllByRecursion (λ (w : Waiting). w.since ≤ length c.add.new.inputs.answers) ws)
-    (sym c.in_ok-add.ensures.waits)
-    (subst (λ n. AllByRecursion (λ (w : Waiting). w.since ≤ n) (without_key key_cmp waiting_key (key_of a) s.waits)) (sym count)
-    (since_still d (start_tree s.start) i a rest s.waits st c.in_order.ensures wanted))
+    (by_keys d (start_tree s.start) i a rest s.waits st c.is_in_order.ensures wanted)))
 
 pub returns-in_err-rest-clause-fault : goal.returns-in_err-rest-clause-fault
 returns-in_err-rest-clause-fault c =
@@ -138,29 +114,19 @@ returns-clause-fresh c =
     let rest = c.in-Some.rest in
     let a = answer_tree c.args.answer in
     let here : s.rest ≡ Some rest = sym c.take.ensures.value ∙ c.in-Some.is in
-    let st : Stands (run_with checked s.start s.inputs) rest s.waits =
-    subst (λ (o : Option Aside). IfSome o (λ r. Stands (run_with checked s.start s.inputs) r s.waits)) here c.self.invariant in
-    let keys : keys_of s.waits ≡ wanted_in c.args.self.now.1.1.1.1 c.args.self.now.1.1.1.0 =
-    ap (λ o. wanted_in o s.waits) (sym here) ∙ ap (λ v. wanted_in v.1.1.1.1 v.1.1.1.0) c.self.view_is in
-    let wanted : is_among (key_of a) (keys_of s.waits) ≡ true = subst (λ (ks : List Key). is_among (key_of a) ks ≡ true) (sym keys) c.requires in
-    let count : length c.add.new.inputs.answers ≡ length (with_added i a).answers =
-    sym (length-map c.add.new.inputs.answers answer_tree) ∙ ap (λ (j : InputsTree). length j.answers) c.in_ok-add.ensures.inputs in
-    let now = length c.add.new.inputs.answers in
-    let at_first : AreMarked (has_answer (run_of d (start_tree s.start) (inputs_tree c.add.new.inputs))) now (keys_of s.waits) c.add.new.waits =
-    subst (λ (ws : List Waiting). AreMarked (has_answer (run_of d (start_tree s.start) (inputs_tree c.add.new.inputs))) now (keys_of s.waits) ws)
+    let st : Stands (run_with checked s.start s.inputs) rest s.waits.0 =
+    subst (λ (o : Option Aside). IfSome o (λ r. Stands (run_with checked s.start s.inputs) r s.waits.0)) here c.self.invariant in
+    let keys : keys_of s.waits.0 ≡ wanted_in c.args.self.now.1.1.1.1 c.args.self.now.1.1.1.0 =
+    ap (λ o. wanted_in o s.waits.0) (sym here) ∙ ap (λ v. wanted_in v.1.1.1.1 v.1.1.1.0) c.self.view_is in
+    let wanted : is_among (key_of a) (keys_of s.waits.0) ≡ true = subst (λ (ks : List Key). is_among (key_of a) ks ≡ true) (sym keys) c.requires in
+    let at_first : AreNew (has_answer (run_of d (start_tree s.start) (inputs_tree c.add.new.inputs))) (keys_of s.waits.0) c.add.new.waits =
+    subst (AreNew (has_answer (run_of d (start_tree s.start) (inputs_tree c.add.new.inputs))) (keys_of s.waits.0))
     (sym c.in_ok-add.ensures.waits)
     (subst
-    (λ n. AreMarked (has_answer (run_of d (start_tree s.start) (inputs_tree c.add.new.inputs))) n (keys_of s.waits)
-    (without_key key_cmp waiting_key (key_of a) s.waits))
-    (sym count)
-    (subst
-    (λ (j : InputsTree). AreMarked (has_answer (run_of d (start_tree s.start) j)) (length (with_added i a).answers) (keys_of s.waits)
-    (without_key key_cmp waiting_key (key_of a) s.waits))
+    (λ (j : InputsTree). AreNew (has_answer (run_of d (start_tree s.start) j)) (keys_of s.waits.0) (kept_without (key_of a) s.waits))
     (sym c.in_ok-add.ensures.inputs)
-    (marked d (start_tree s.start) i a rest s.waits st c.in_order.ensures wanted
-    (λ x n. c.answers_stay_answered.ensures.added d i a x n)))) in
-    let marks : AreMarked (has_answer (run_of d (start_tree s.start) (inputs_tree c.add.new.inputs))) now (keys_of s.waits) c.gone_on.new.waits =
-    c.in_ok-rest.ensures.marked (keys_of s.waits) at_first in
+    (marked d (start_tree s.start) i a rest s.waits st c.is_in_order.ensures wanted
+    (λ x n. c.answers_stay_answered.ensures.added d i a x n))) in
     c.in_ok-wants.ensures
-    ∙ (ap (λ n. map waiting_key (filter (λ (w : Waiting). nat_eq w.since n) c.gone_on.new.waits)) c.len.ensures.count
-    ∙ (fresh_are (keys_of s.waits) now c.gone_on.new.waits marks.each ∙ ap (λ (ks : List Key). fresh ks (keys_of c.gone_on.new.waits)) keys))
+    ∙ ((c.in_ok-rest.ensures.marked (keys_of s.waits.0) at_first).new_are
+    ∙ ap (λ (ks : List Key). fresh ks (keys_of c.gone_on.new.waits.0)) keys)

@@ -14,7 +14,7 @@ use Rattle.wf_trigger.specs.Starts.{StartTree}
 use Rattle.wf_trigger.specs.StartsSeen.{start_tree}
 use Rattle.wf_session.specs.Begun.{moment}
 use Rattle.wf_session.specs.Stood.{Stands, run_with, wanted_in}
-use Rattle.wf_session.specs.Waiting.{keys_of}
+use Rattle.wf_waits.specs.Kept.{keys_of}
 use Rattle.wf_session.proofs.StandsLemmas.{at_last, none_waits}
 use Rattle.wf_session.proofs.standing.SessionStand.record_line.Goals as goal
 
@@ -24,12 +24,12 @@ finished-requires c =
     let checked = s.runnable.now.checked.now in
     let rest = c.in-Some.rest in
     let here : s.rest ≡ Some rest = sym c.take.ensures.value ∙ c.in-Some.is in
-    let st : Stands (run_with checked s.start s.inputs) rest s.waits =
-    subst (λ (o : Option Aside). IfSome o (λ r. Stands (run_with checked s.start s.inputs) r s.waits)) here c.self.invariant in
-    let none : keys_of s.waits ≡ [] =
-    subst (λ (o : Option Aside). wanted_in o s.waits ≡ []) here
+    let st : Stands (run_with checked s.start s.inputs) rest s.waits.0 =
+    subst (λ (o : Option Aside). IfSome o (λ r. Stands (run_with checked s.start s.inputs) r s.waits.0)) here c.self.invariant in
+    let none : keys_of s.waits.0 ≡ [] =
+    subst (λ (o : Option Aside). wanted_in o s.waits.0 ≡ []) here
     (subst (λ v. wanted_in v.1.1.1.1 v.1.1.1.0 ≡ []) (sym c.self.view_is) c.requires) in
-    at_last checked s.start s.inputs rest s.waits st none c.in_ok-start.start c.in_ok-start.ensures
+    at_last checked s.start s.inputs rest s.waits.0 st none c.in_ok-start.start c.in_ok-start.ensures
 
 pub returns-then-costs_too_much-clause-fault : goal.returns-then-costs_too_much-clause-fault
 returns-then-costs_too_much-clause-fault c = λ other.
@@ -39,10 +39,10 @@ returns-then-costs_too_much-clause-fault c = λ other.
     let i = inputs_tree s.inputs in
     let rest = c.in-Some.rest in
     let here : s.rest ≡ Some rest = sym c.take.ensures.value ∙ c.in-Some.is in
-    let st : Stands (run_with checked s.start s.inputs) rest s.waits =
-    subst (λ (o : Option Aside). IfSome o (λ r. Stands (run_with checked s.start s.inputs) r s.waits)) here c.self.invariant in
-    let none : keys_of s.waits ≡ [] =
-    subst (λ (o : Option Aside). wanted_in o s.waits ≡ []) here
+    let st : Stands (run_with checked s.start s.inputs) rest s.waits.0 =
+    subst (λ (o : Option Aside). IfSome o (λ r. Stands (run_with checked s.start s.inputs) r s.waits.0)) here c.self.invariant in
+    let none : keys_of s.waits.0 ≡ [] =
+    subst (λ (o : Option Aside). wanted_in o s.waits.0 ≡ []) here
     (subst (λ v. wanted_in v.1.1.1.1 v.1.1.1.0 ≡ []) (sym c.self.view_is) c.requires) in
     let told : record_tree c.in_ok-record.record ≡ meaning d (fresh (start_tree s.start) i) =
     c.in_ok-record.ensures ∙ ap (λ (t : StartTree). meaning d (fresh t i)) c.in_ok-start.ensures in
@@ -54,7 +54,7 @@ returns-then-costs_too_much-clause-fault c = λ other.
     (record {
       still = moment rest.0.0;
       is_still = st.still;
-      wanted = none_waits d (start_tree s.start) i rest s.waits st none;
+      wanted = none_waits d (start_tree s.start) i rest s.waits.0 st none;
       beyond = subst (λ r. 67108864 < cost r) told (c.costs_too_much.ensures.dear c.if-costs_too_much.true);
     }))
 
@@ -71,10 +71,10 @@ returns-clause-line c =
     let i = inputs_tree s.inputs in
     let rest = c.in-Some.rest in
     let here : s.rest ≡ Some rest = sym c.take.ensures.value ∙ c.in-Some.is in
-    let st : Stands (run_with checked s.start s.inputs) rest s.waits =
-    subst (λ (o : Option Aside). IfSome o (λ r. Stands (run_with checked s.start s.inputs) r s.waits)) here c.self.invariant in
-    let none : keys_of s.waits ≡ [] =
-    subst (λ (o : Option Aside). wanted_in o s.waits ≡ []) here
+    let st : Stands (run_with checked s.start s.inputs) rest s.waits.0 =
+    subst (λ (o : Option Aside). IfSome o (λ r. Stands (run_with checked s.start s.inputs) r s.waits.0)) here c.self.invariant in
+    let none : keys_of s.waits.0 ≡ [] =
+    subst (λ (o : Option Aside). wanted_in o s.waits.0 ≡ []) here
     (subst (λ v. wanted_in v.1.1.1.1 v.1.1.1.0 ≡ []) (sym c.self.view_is) c.requires) in
     let told : record_tree c.in_ok-record.record ≡ meaning d (fresh (start_tree s.start) i) =
     c.in_ok-record.ensures ∙ ap (λ (t : StartTree). meaning d (fresh t i)) c.in_ok-start.ensures in
@@ -82,7 +82,7 @@ returns-clause-line c =
     (record {
       still = moment rest.0.0;
       is_still = st.still;
-      wanted = none_waits d (start_tree s.start) i rest s.waits st none;
+      wanted = none_waits d (start_tree s.start) i rest s.waits.0 st none;
       within = subst (λ r. cost r ≤ 67108864) told (c.costs_too_much.ensures.within c.if-costs_too_much.false);
       line_is = c.in_ok-line.ensures ∙ ap record_line told;
     })

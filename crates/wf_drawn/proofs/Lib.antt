@@ -1,0 +1,4 @@
+pub mod DrawnLemmas
+pub mod KindLemmas
+pub mod LevelLemmas
+mod Worked

@@ -1,0 +1,6 @@
+pub mod After
+pub mod Drawn
+pub mod Kinds
+pub mod Levels
+pub mod Page
+pub mod Views

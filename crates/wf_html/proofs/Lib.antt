@@ -1,0 +1,4 @@
+pub mod PieceLemmas
+pub mod SafeLemmas
+pub mod NestedLemmas
+mod Rows

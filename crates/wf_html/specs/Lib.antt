@@ -1,0 +1,4 @@
+pub mod Html
+pub mod Nested
+pub mod Safe
+pub mod Tags

@@ -1,0 +1,119 @@
+-- What tests came to at worked ends: each way to fail, with its words, and beside it the way to pass.
+use Rattle.std.proofs.Common.{◌≡◌, ℕ, List, [], ◌∷◌, ◌++◌, true, false, Some, None, Ok, Err, pos, refl}
+use Rattle.std.specs.Fmt.{digits}
+use Rattle.std.specs.Prelude.{codes, ⊤}
+use Rattle.wf_json.specs.declared.fault.JsonFault.{JsonFault}
+use Rattle.wf_lines.specs.Lines.{lines_of}
+use Rattle.wf_match.specs.Told.{Told}
+use Rattle.wf_suite.specs.declared.suite.Wanted.{Wanted}
+use Rattle.wf_val.specs.ValueTree.{ValueTree, text, object, members}
+use Rattle.wf_judged.specs.Failures.{end_words, in_value, number_words, of_peaks, of_wanted, other_end, peak_words}
+use Rattle.wf_judged.specs.Failures.{accepted, further_words, quoted, which_words, zero_words}
+use Rattle.wf_judged.specs.Lines.{ending_number, is_summary, record_lines, records_text}
+use Rattle.wf_judged.specs.Why.{Why, Differs, Says}
+
+-- what a row unfolds to be computed
+unfoldable computed : ⊤
+unfolding digits end_words number_words other_end peak_words which_words zero_words accepted further_words
+computed = tt
+
+abbrev feed : List ℕ
+feed = 10 ∷ []
+
+-- ---- lines
+
+-- a record, and the line on its run
+abbrev two_lines : List ℕ
+two_lines = codes "{\"a\":1}" ++ (feed ++ (codes "# run r9 steps 24 peak 13" ++ feed))
+
+lines-of_records : record_lines (lines_of two_lines) ≡ codes "{\"a\":1}" ∷ []
+lines-of_records = refl
+
+lines-text : records_text two_lines ≡ codes "{\"a\":1}" ++ feed
+lines-text = refl
+
+lines-no_run : record_lines (lines_of (codes "# no run" ++ feed)) ≡ []
+lines-no_run = refl
+
+summary-is : is_summary (codes "# run r9 steps 24 peak 13") ≡ true
+summary-is = refl
+
+summary-no_run : is_summary (codes "# no run") ≡ false
+summary-no_run = refl
+
+number-at_the_end : ending_number 0 (codes "# run r9 steps 24 peak 13") ≡ 13
+number-at_the_end = refl
+
+number-none : ending_number 0 (codes "peak 13 ") ≡ 0
+number-none = refl
+
+-- ---- a check
+
+accepts-so_many : of_wanted (Wanted.Accepts 7) 0 (codes "accepted 7" ++ feed) ≡ []
+unfolding computed
+accepts-so_many = refl
+
+accepts-another : of_wanted (Wanted.Accepts 7) 0 (codes "accepted 8" ++ feed)
+    ≡ Says (codes "expected " ++ quoted (codes "accepted 7") ++ codes ", and it ended with 0") ∷ []
+unfolding computed
+accepts-another = refl
+
+accepts-without_its_end : of_wanted (Wanted.Accepts 7) 0 (codes "accepted 7")
+    ≡ Says (codes "expected " ++ quoted (codes "accepted 7") ++ codes ", and it ended with 0") ∷ []
+unfolding computed
+accepts-without_its_end = refl
+
+-- ---- a refusal
+
+abbrev refused : ℕ → List ℕ → List Why
+refused status line = of_wanted (Wanted.Refused (codes "inputs Moment")) status (line ++ feed)
+
+refused-so : refused 6 (codes "inputs Moment") ≡ []
+unfolding computed
+refused-so = refl
+
+refused-done : refused 0 (codes "inputs Moment")
+    ≡ Says (codes "expected " ++ quoted (codes "inputs Moment") ++ codes ", and it ended with 0") ∷ []
+unfolding computed
+refused-done = refl
+
+-- ---- records
+
+records-none : of_wanted (Wanted.Records []) 0 (codes "# no run" ++ feed) ≡ []
+unfolding computed
+records-none = refl
+
+records-one_lacks : of_wanted (Wanted.Records (object (members []) ∷ [])) 0 (codes "# no run" ++ feed)
+    ≡ Says (codes "0 records where 1 are expected") ∷ []
+unfolding computed
+records-one_lacks = refl
+
+-- that it Succeeded, and a record that did, and one that didn't
+abbrev with_status : List ℕ → ValueTree
+with_status s = object (members ((codes "status", text s) ∷ []))
+
+value-same : in_value (with_status (codes "Succeeded")) (Ok (with_status (codes "Succeeded"))) ≡ []
+value-same = refl
+
+value-other : in_value (with_status (codes "Succeeded")) (Ok (with_status (codes "Failed"))) ≡ Differs (record {
+  pointer = codes "/status";
+  expected = text (codes "Succeeded");
+  found = Some (text (codes "Failed"));
+}) ∷ []
+value-other = refl
+
+value-none : in_value (with_status (codes "Succeeded")) (Err JsonFault.NotJson) ≡ Says (codes "a record is no value") ∷ []
+value-none = refl
+
+-- ---- peaks
+
+peak-within : of_peaks (Some 13) two_lines ≡ []
+unfolding computed
+peak-within = refl
+
+peak-over : of_peaks (Some 12) two_lines ≡ Says (codes "the peak is 13 where 12 is allowed") ∷ []
+unfolding computed
+peak-over = refl
+
+peak-unbounded : of_peaks None two_lines ≡ []
+peak-unbounded = refl

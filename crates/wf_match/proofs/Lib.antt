@@ -1,0 +1,6 @@
+mod Elements
+mod DifferenceLemmas
+mod RowLemmas
+mod RecordLemmas
+mod AddressLemmas
+mod WorkedRows

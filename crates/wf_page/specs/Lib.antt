@@ -1,0 +1,11 @@
+pub mod Answered
+pub mod GivenSeen
+pub mod Judged
+pub mod LogSeen
+pub mod Logs
+pub mod SaidSeen
+pub mod Seen
+pub mod Served
+pub mod Stopped
+pub mod Whole
+pub mod Words

@@ -1,8 +1,0 @@
-use Rattle.std.proofs.Common.{◌≡◌, ◌++◌, drop, map}
-use Rattle.wf_talk.specs.Seen.{want_key}
-use Rattle.wf_session.specs.Waiting.{keys_of}
-use Rattle.wf_session.proofs.accept.all_wants.Given as goal
-
--- those so far and those that are left are all
-abbrev pub invariant-loop-waiting : goal.invariant-loop-waiting
-invariant-loop-waiting l = map want_key l.wants.items ++ keys_of (drop l.waiting-index l.waits) ≡ keys_of l.waits

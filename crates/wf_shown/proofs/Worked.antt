@@ -1,0 +1,61 @@
+-- Rows at worked values.
+use Rattle.std.proofs.Common.{◌≡◌, ℕ, List, [], ◌∷◌, None, Some, true, false, codes, count_by, refl}
+use Rattle.wf_html.specs.Html.{opened, closed, said}
+use Rattle.wf_html.specs.declared.tag.Look.{Look}
+use Rattle.wf_html.specs.declared.tag.Tag.{Tag}
+use Rattle.wf_record.specs.Record.{RowTree}
+use Rattle.wf_record.specs.declared.attempt.Try.{Try}
+use Rattle.wf_record.specs.declared.status.Status.{Status}
+use Rattle.wf_val.specs.ValueTree.{ValueTree, null, boolean, text}
+use Rattle.wf_shown.specs.Changes.{changed, change_of}
+use Rattle.wf_shown.specs.Counts.{count_of, has_status}
+use Rattle.wf_shown.specs.Looks.{look_of_rows}
+use Rattle.wf_shown.specs.Rows.{rows_of, rows_pieces}
+use Rattle.wf_shown.specs.declared.change.Change.{Change}
+
+abbrev row : List ℕ → List ℕ → Status → ValueTree → ValueTree → RowTree
+row name at' status inputs outputs = record {
+  address = record { name = name; at = at' };
+  row = record { status = status; code = codes "OK"; inputs = inputs; outputs = outputs; error = null; tracked = null; attempts = [] };
+}
+
+abbrev done : RowTree
+done = row (codes "A") [] Status.Succeeded null (boolean true)
+
+abbrev failed : RowTree
+failed = row (codes "A") [] Status.Failed null null
+
+-- a row that is as it was, a container's that ends otherwise, and others
+kept : changed true (Some done) done ≡ Change.Kept
+kept = refl
+
+closed' : changed true (Some failed) done ≡ Change.Closed
+closed' = refl
+
+not_closed : changed false (Some failed) done ≡ Change.Redone
+not_closed = refl
+
+decided_anew : changed true (Some (row (codes "A") [] Status.Failed (text (codes "x")) null)) done ≡ Change.Redone
+decided_anew = refl
+
+new_row : change_of true (Some []) done ≡ Some Change.Redone
+new_row = refl
+
+alone : change_of true None done ≡ None
+alone = refl
+
+-- whose rows they are
+own : rows_of (codes "A") (done ∷ row (codes "B") [] Status.Failed null null ∷ []) ≡ done ∷ []
+own = refl
+
+no_row : rows_pieces false None [] ≡ opened (Tag.Mark Look.Absent) ∷ said (codes "no row") ∷ closed (Tag.Mark Look.Absent) ∷ []
+no_row = refl
+
+several_look : look_of_rows (done ∷ failed ∷ []) ≡ Look.Several
+several_look = refl
+
+how_many : count_by (has_status Status.Succeeded) (done ∷ failed ∷ done ∷ []) ≡ 2
+how_many = refl
+
+not_counted : count_of Status.TimedOut (done ∷ failed ∷ done ∷ []) ≡ []
+not_counted = refl

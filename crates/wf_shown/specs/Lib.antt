@@ -1,0 +1,5 @@
+pub mod Changes
+pub mod Counts
+pub mod Facts
+pub mod Looks
+pub mod Rows

@@ -1,0 +1,6 @@
+mod EscapeLemmas
+pub mod LineLemmas
+mod XmlLemmas
+mod PointLemmas
+mod WholeLemmas
+mod WorkedRows

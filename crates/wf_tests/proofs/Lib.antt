@@ -1,0 +1,7 @@
+mod SourceLemmas
+mod HandedLemmas
+mod ScheduleLemmas
+mod RunLemmas
+mod LoadLemmas
+mod TestedLemmas
+mod EndLemmas

@@ -1,0 +1,10 @@
+pub mod Words
+pub mod Names
+pub mod Sources
+pub mod Reading
+pub mod Command
+pub mod Schedules
+pub mod Runs
+pub mod Loaded
+pub mod Served
+pub mod Kept
