@@ -3,9 +3,11 @@ mod FlawLemmas
 mod FollowLemmas
 mod ShallowLemmas
 mod ConvertLemmas
+mod GrammarLemmas
 mod ReadLemmas
-mod Sent
 mod SentLemmas
+mod StraightLemmas
 mod PrintLemmas
 mod ReadBackLemmas
+mod WholeLemmas
 mod WorkedRows

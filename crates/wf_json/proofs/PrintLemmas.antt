@@ -9,7 +9,7 @@ use Rattle.serde_json.proofs.Texts.{print-outline}
 use Rattle.wf_val.specs.ValueTree as value
 use Rattle.wf_json.specs.Json.{json, string}
 use Rattle.wf_json.specs.Tokens.{tokens_of, item_tokens, member_tokens}
-use Rattle.wf_json.proofs.Sent.{data_of, items_of, members_of}
+use Rattle.wf_json.specs.Sent.{data_of, items_of, members_of}
 use Rattle.wf_json.proofs.SentLemmas.{compact-json, quoted-string}
 
 mutual

@@ -31,7 +31,7 @@ use Rattle.wf_json.specs.Json as text
 use Rattle.wf_json.specs.Pointer.{least}
 use Rattle.wf_json.specs.Read.{after_mark, json_of, greatest_nesting, flawed_places, flawed_items, flawed_members, value_unless, value_of}
 use Rattle.wf_json.specs.Read.{values_of, members_of, read_json, read_value}
-use Rattle.wf_json.proofs.Sent as sent
+use Rattle.wf_json.specs.Sent as sent
 use Rattle.wf_json.specs.declared.fault.Flaw.{Flaw}
 use Rattle.wf_json.proofs.SentLemmas.{compact-json, quoted-string}
 
@@ -284,7 +284,7 @@ mutual
 
 -- ---- the law
 
-read_json-data_of : (t : value.ValueTree) → IsWellFormed t → value.depth t ≤ greatest_nesting → read_json (Some (sent.data_of t)) ≡ Ok t
+pub read_json-data_of : (t : value.ValueTree) → IsWellFormed t → value.depth t ≤ greatest_nesting → read_json (Some (sent.data_of t)) ≡ Ok t
 read_json-data_of t well shallow =
     ap₂ (λ p q. value_unless p q (value_of (sent.data_of t)))
     (ap least (no_fraction greatest_nesting t well))

@@ -7,7 +7,7 @@ use Rattle.serde_json.specs.Written.{has_float, items_have_float, members_have_f
 use Rattle.serde_json.specs.Events.{items_len, members_len}
 use Rattle.wf_val.specs.ValueTree as value
 use Rattle.wf_json.specs.Json.{escaped, string, json, values, more_values, members, more_members}
-use Rattle.wf_json.proofs.Sent.{data_of, items_of, members_of}
+use Rattle.wf_json.specs.Sent.{data_of, items_of, members_of}
 
 mutual
   pub no_float : (t : value.ValueTree) → has_float (data_of t) ≡ false

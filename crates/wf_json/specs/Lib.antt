@@ -2,5 +2,6 @@ pub mod Json
 pub mod Pointer
 pub mod Follow
 pub mod Read
+pub mod Sent
 pub mod Tokens
 pub mod FaultText

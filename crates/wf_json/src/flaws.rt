@@ -10,7 +10,7 @@ use crate::pointer::{with_item, with_member};
 use serde_json::{Map, Value};
 use std::alloc::{AllocError, Global};
 
-const GREATEST_NESTING: u32 = 120;
+pub(crate) const GREATEST_NESTING: u32 = 120;
 
 // The least pointer of a place with the flaw. A place without it costs no memory.
 pub(crate) fn least_flawed(

@@ -22,6 +22,9 @@ mod flaws;
 mod laws;
 pub mod pointer;
 mod reading;
+mod stop;
+mod straight;
+mod whole;
 mod writing;
 
 pub use eval_fault::fault_text;

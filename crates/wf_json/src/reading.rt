@@ -2,10 +2,13 @@ ghost use Rattle.std.specs.Prelude.{◌≡◌, ◌≢◌, Some, Ok, Err, IfOk, I
 ghost use Rattle.serde_json.specs.View.{view};
 ghost use Rattle.wf_val.specs.Seen.{tree};
 ghost use Rattle.wf_json.specs.Read.{after_mark, json_of, read_value, read_json, value_of, least_flaw};
+ghost use Rattle.wf_json.specs.declared.stop.Stop.{Stop};
 
 use crate::convert::convert;
 use crate::fault::{Flaw, JsonFault};
 use crate::flaws::least_flawed;
+use crate::stop::Stop;
+use crate::straight::read_straight;
 use serde_json::Value;
 use std::alloc::Global;
 use wf_val::{Text, Val};
@@ -14,6 +17,31 @@ use wf_val::{Text, Val};
 /// members with one name the last stands. A member that a later one of its name replaces has to be
 /// JSON, and isn't looked at further.
 pub fn read(alloc: Global, bytes: &[u8]) -> Result<Val, JsonFault>
+    ensures value { IfOk result (λ v. read_value bytes.now ≡ Ok (tree v)) }
+    ensures fault { IfErr result (λ e. e ≢ JsonFault.Memory → read_value bytes.now ≡ Err e) }
+{
+    match read_whole(alloc, bytes) {
+        Ok(value) => Ok(value),
+        Err(Stop::Memory) => Err(JsonFault::Memory),
+        Err(Stop::NotJson) => Err(JsonFault::NotJson),
+        Err(Stop::Flawed) => read_tree(alloc, bytes),
+    }
+}
+
+// The value, where nothing is refused.
+fn read_whole(alloc: Global, bytes: &[u8]) -> Result<Val, Stop>
+    ensures value { IfOk result (λ v. read_value bytes.now ≡ Ok (tree v)) }
+    ensures not_json { result ≡ Err Stop.NotJson → read_value bytes.now ≡ Err JsonFault.NotJson }
+{
+    match simdutf8::compat::from_utf8(without_mark(bytes)) {
+        Ok(text) => read_straight(alloc, text),
+        Err(_) => Err(Stop::NotJson),
+    }
+}
+
+// The same as `read` by way of a tree, which tells the least place that is refused and takes
+// several times the memory.
+fn read_tree(alloc: Global, bytes: &[u8]) -> Result<Val, JsonFault>
     ensures value { IfOk result (λ v. read_value bytes.now ≡ Ok (tree v)) }
     ensures fault { IfErr result (λ e. e ≢ JsonFault.Memory → read_value bytes.now ≡ Err e) }
 {

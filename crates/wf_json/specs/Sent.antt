@@ -1,7 +1,11 @@
--- The tree of `serde_json` that a value is sent as.
+-- The tree of `serde_json` that a value is sent as, and that a text without flaws is read as.
+use Rattle.std.specs.Prelude.{String, string_bytes}
+use Rattle.std.specs.declared.alloc.Global.{Global}
 use Rattle.serde_json.specs.Data as json
 use Rattle.serde_json.specs.Find.{of_integer}
+use Rattle.wf_val.specs.Seen.{tree}
 use Rattle.wf_val.specs.ValueTree as value
+use Rattle.wf_val.specs.declared.val.Val.{Val}
 
 abbrev mutual
   pub data_of : value.ValueTree → json.Data
@@ -19,3 +23,7 @@ abbrev mutual
   pub members_of : value.MemberTrees → json.Members
   members_of value.no_members = json.no_members
   members_of (value.member_then k t ms) = json.member k (data_of t) (members_of ms)
+
+-- a member from its name and its value
+abbrev pub named : String Global × Val → value.Member
+named e = (string_bytes e.0, tree e.1)
