@@ -1,5 +1,4 @@
 ghost use Rattle.std.specs.Prelude.{◌≡◌, ◌++◌, [], IfOk, IsUtf8, OnOk, OnErr, length};
-ghost use Rattle.json.specs.Print.{print};
 ghost use Rattle.wf_val.specs.Seen.{tree};
 ghost use Rattle.wf_val.specs.ValueTree.{list, object, trees, members as member_trees};
 ghost use Rattle.wf_json.specs.Json.{json, string, text as text_of};
@@ -7,7 +6,6 @@ ghost use Rattle.wf_json.specs.Tokens.{tokens_of};
 
 use json::Writer;
 use std::alloc::{AllocError, Global};
-use std::mem;
 use wf_val::{Fields, Text, Val, Vals};
 
 /// The JSON text of a value, without white space and with the members in the byte order of their
@@ -22,16 +20,14 @@ pub fn write(alloc: Global, value: &Val) -> Result<Vec<u8>, AllocError>
     Ok(writer.into_inner())
 }
 
-/// Writes the JSON text of a value behind what there is.
-#[tactic(auto, using(crate::proofs::PrintLemmas::printed_value))]
+/// Writes the JSON text of a value behind what there is. It is written by itself first, since a writer fills the bytes behind it in advance, as
+/// many as there are before it: once for each of the many small values of a record, that would be most of the work.
 pub fn write_to(out: &mut Vec<u8>, value: &Val) -> Result<(), AllocError>
     ensures ok { OnOk result (out.new.items ≡ out.old.items ++ json (tree value.now)) }
     ensures err { OnErr result (out.new.items ≡ out.old.items) }
 {
-    let before = out.len();
-    let mut writer = writer_behind(out);
-    let written = put(value, &mut writer);
-    give_back(out, before, writer, written)
+    let bytes = write(*out.allocator(), value)?;
+    out.extend_from_slice(&bytes)
 }
 
 /// Writes the JSON text of an object that has these members behind what there is.
@@ -41,22 +37,18 @@ pub fn write_fields_to(out: &mut Vec<u8>, fields: &Fields) -> Result<(), AllocEr
         (out.new.items ≡ out.old.items ++ json (object (member_trees fields.now))) }
     ensures err { OnErr result (out.new.items ≡ out.old.items) }
 {
-    let before = out.len();
-    let mut writer = writer_behind(out);
-    let written = put_members(fields, &mut writer);
-    give_back(out, before, writer, written)
+    let mut writer = Writer::new(Vec::new(*out.allocator()));
+    put_members(fields, &mut writer)?;
+    out.extend_from_slice(&writer.into_inner())
 }
 
 /// Writes a text as a JSON text behind what there is.
-#[tactic(auto, using(crate::proofs::PrintLemmas::printed_text))]
 pub fn quote_to(out: &mut Vec<u8>, text: &str) -> Result<(), AllocError>
     ensures ok { OnOk result (out.new.items ≡ out.old.items ++ string text.now) }
     ensures err { OnErr result (out.new.items ≡ out.old.items) }
 {
-    let before = out.len();
-    let mut writer = writer_behind(out);
-    let written = writer.string(text);
-    give_back(out, before, writer, written)
+    let quoted = quoted(*out.allocator(), text)?;
+    out.extend_from_slice(quoted.as_str().as_bytes())
 }
 
 /// A text as a JSON text: between quotation marks, with escapes.
@@ -81,34 +73,6 @@ pub fn text(alloc: Global, value: &Val) -> Result<Text, AllocError>
             Ok(Text::from_string(String::from_utf8(bytes).unwrap()))
         }
     }
-}
-
-// A writer behind the bytes, which it takes.
-fn writer_behind(out: &mut Vec<u8>) -> Writer
-    ensures before { result.before ≡ out.old.items }
-    ensures tokens { result.tokens ≡ [] }
-{
-    let empty = Vec::new(*out.allocator());
-    Writer::new(mem::replace(out, empty))
-}
-
-// Gives back so many bytes that there were before, and what was written behind them where all of it was.
-fn give_back(
-    out: &mut Vec<u8>,
-    before: usize,
-    writer: Writer,
-    written: Result<(), AllocError>,
-) -> Result<(), AllocError>
-    requires { before ≡ length writer.before }
-    ensures same { result ≡ written }
-    ensures ok { OnOk result (out.new.items ≡ writer.before ++ print writer.tokens) }
-    ensures err { OnErr result (out.new.items ≡ writer.before) }
-{
-    *out = writer.into_inner();
-    if written.is_err() {
-        out.truncate(before);
-    }
-    written
 }
 
 #[cycle(put)]
