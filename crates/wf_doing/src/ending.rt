@@ -5,8 +5,9 @@ ghost use Rattle.wf_asks.specs.Instances.{address_of, rows_in};
 ghost use Rattle.wf_closing.specs.Inside.{AreJudged, inside_of};
 ghost use Rattle.wf_closing.specs.InsideSeen.{inside_tree};
 ghost use Rattle.wf_def.specs.ActionSeen.{action_tree};
-ghost use Rattle.wf_def.specs.ActionTree.{ActionTree, action_kind};
+ghost use Rattle.wf_def.specs.ActionTree.{ActionTree, action_kind, action_name};
 ghost use Rattle.wf_def.specs.AllActions.{numbered};
+ghost use Rattle.wf_done.specs.Done.{view as view_tree};
 ghost use Rattle.wf_done.specs.DoneSeen.{begun_tree, done_tree};
 ghost use Rattle.wf_done.specs.Tracked.{tracked_value, with_own};
 ghost use Rattle.wf_meant.specs.Source.{tracked_of};
@@ -28,11 +29,11 @@ use wf_def::Action;
 use wf_done::{Begun, Done, tracked, view};
 use wf_opening::{Decision, Verdict};
 use wf_record::{Row, Tries};
-use wf_val::Val;
+use wf_val::{Fields, Val};
 use wf_views::{kind_of, name_of};
 
 // Tracked properties, which see what their action came to.
-fn properties<'a>(
+fn evaluated<'a>(
     alloc: Global,
     setting: &Setting<'a>,
     action: &Action,
@@ -49,6 +50,26 @@ fn properties<'a>(
     tracked(alloc, tracked_of(action), &mut look)
 }
 
+// Most actions have none: then what the action came to isn't copied for them to see.
+fn properties<'a>(
+    alloc: Global,
+    setting: &Setting<'a>,
+    action: &Action,
+    place: &Instance,
+    done: &Done,
+    known: Known<'a, Row, Decision, Verdict>,
+) -> Result<Val, AllocError>
+    ensures { IfOk result (λ v. tree v ≡ tracked_value (with_own (view_tree (action_name (action_tree action.now)) (done_tree done.now))
+        (seen setting.now (address_of place.now) (known_tree known.entry.rows.now.0 known.entry.opens.now.0 known.entry.store.now.0)))
+        (tracked_of (action_tree action.now))) }
+{
+    if tracked_of(action).is_empty() {
+        return Ok(Val::Obj(Fields::new(alloc)));
+    }
+    let view = view(alloc, name_of(action), done)?;
+    evaluated(alloc, setting, action, place, view, known)
+}
+
 fn with_tracked<'a>(
     alloc: Global,
     setting: &Setting<'a>,
@@ -62,8 +83,7 @@ fn with_tracked<'a>(
         (seen setting.now (address_of place.now) (known_tree known.entry.rows.now.0 known.entry.opens.now.0 known.entry.store.now.0))
         (action_tree action.now) (done_tree done) attempts) }
 {
-    let view = view(alloc, name_of(action), &done)?;
-    let value = properties(alloc, setting, action, place, view, known)?;
+    let value = properties(alloc, setting, action, place, &done, known)?;
     row(alloc, name_of(action), &place.at, done, value, attempts)
 }
 
