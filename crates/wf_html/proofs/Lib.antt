@@ -1,4 +1,6 @@
+pub mod BehindLemmas
 pub mod PieceLemmas
 pub mod SafeLemmas
 pub mod NestedLemmas
+pub mod StillLemmas
 mod Rows

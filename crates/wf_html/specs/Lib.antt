@@ -1,4 +1,6 @@
+pub mod Behind
 pub mod Html
 pub mod Nested
 pub mod Safe
+pub mod Still
 pub mod Tags

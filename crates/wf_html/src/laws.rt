@@ -2,6 +2,9 @@
 ghost use Rattle.std.specs.Prelude.{◌≡◌, ◌++◌, ℕ, List, flat_map};
 ghost use Rattle.wf_html.specs.Html.{Piece, escape, piece_text, written};
 ghost use Rattle.wf_html.specs.Safe.{ReadsAs};
+ghost use Rattle.wf_html.specs.Still.{IsHead, IsStill};
+ghost use Rattle.wf_html.specs.Tags.{close_text, open_text};
+ghost use Rattle.wf_html.specs.declared.tag.Tag.{Tag};
 
 /// What is written of pieces is the text of each in turn: a literal of a tag, or an escaped text.
 pub fn a_page_is_its_pieces()
@@ -12,4 +15,17 @@ pub fn a_page_is_its_pieces()
 /// text.
 pub fn what_is_said_is_read_back()
     ensures { (text : List ℕ) → ReadsAs (escape text) text }
+{}
+
+/// A page begins by saying that it is HTML, and that a browser may run nothing in it and fetch nothing for it. What follows is a style, in
+/// which no tag stands.
+pub fn a_page_opens_with_its_policy()
+    ensures { IsHead (open_text Tag.Page) }
+{}
+
+/// In what is written of a tag nothing runs, and nothing is fetched for it: it has no script, no address of one, no handler of events, no
+/// source and no link, and its style imports nothing and has no pictures.
+pub fn tags_stand_still()
+    ensures opened { (t : Tag) → IsStill (open_text t) }
+    ensures closed { (t : Tag) → IsStill (close_text t) }
 {}
