@@ -1,2 +1,4 @@
+pub mod OnceLemmas
 pub mod RowLemmas
+pub mod SaidLemmas
 mod Worked

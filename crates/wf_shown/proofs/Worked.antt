@@ -10,6 +10,7 @@ use Rattle.wf_val.specs.ValueTree.{ValueTree, null, boolean, text}
 use Rattle.wf_shown.specs.Changes.{changed, change_of}
 use Rattle.wf_shown.specs.Counts.{count_of, has_status}
 use Rattle.wf_shown.specs.Looks.{look_of_rows}
+use Rattle.wf_shown.specs.Once.{counted_in_all, owners}
 use Rattle.wf_shown.specs.Rows.{rows_of, rows_pieces}
 use Rattle.wf_shown.specs.declared.change.Change.{Change}
 
@@ -59,3 +60,10 @@ how_many = refl
 
 not_counted : count_of Status.TimedOut (done ∷ failed ∷ done ∷ []) ≡ []
 not_counted = refl
+
+-- each row is counted by its status, and is of its name alone
+counted' : counted_in_all (done ∷ failed ∷ done ∷ []) ≡ 3
+counted' = refl
+
+owner : owners (codes "B" ∷ codes "A" ∷ codes "a" ∷ []) done ≡ 1
+owner = refl

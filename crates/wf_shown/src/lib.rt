@@ -16,11 +16,13 @@ mod change;
 mod counts;
 mod facts;
 mod finding;
+mod laws;
 mod look;
 mod row;
 mod rows;
 
 pub use facts::{fact, fact_text};
 pub use finding::rows_of;
+pub use laws::{each_row_is_shown_or_counted, rows_are_nested, rows_are_split_by_names};
 pub use look::{look_of, look_of_rows, mark};
 pub use rows::show_rows;
