@@ -1,4 +1,9 @@
 pub mod DrawnLemmas
 pub mod KindLemmas
+pub mod LevelBounds
 pub mod LevelLemmas
+pub mod NamesLemmas
+pub mod OnceLemmas
+pub mod SaidLemmas
+pub mod TotalLemmas
 mod Worked

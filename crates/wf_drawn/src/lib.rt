@@ -9,8 +9,10 @@
 mod after;
 mod graph;
 mod kind;
+mod laws;
 mod levels;
 mod page;
 mod view;
 
+pub use laws::{a_page_is_nested, each_action_is_drawn_once};
 pub use page::draw;

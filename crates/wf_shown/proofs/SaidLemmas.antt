@@ -158,7 +158,7 @@ only_places Tag.Name other = absurd (cc)
 only_places Tag.Place other = absurd (cc)
 only_places t other = refl
 
-only_names : (t : Tag) → is_head t ≡ false → is_name t ≡ false
+pub only_names : (t : Tag) → is_head t ≡ false → is_name t ≡ false
 only_names Tag.Name other = absurd (cc)
 only_names Tag.Place other = absurd (cc)
 only_names t other = refl

@@ -1,0 +1,91 @@
+-- What is drawn of an action and of a run is nested, and names the action alone.
+use Rattle.std.proofs.Common.{◌≡◌, ℕ, Bool, true, false, List, [], ◌∷◌, ◌++◌, Option, None, Some, cond, flat_map, codes, refl}
+use Rattle.wf_def.specs.ActionTree.{KindTree}
+use Rattle.wf_def.specs.declared.after.After.{After}
+use Rattle.wf_def.specs.declared.after.Statuses.{Statuses}
+use Rattle.wf_drawn.specs.After.{after_pieces, afters, all_wanted, none_listed, only_succeeded, statuses, wanted}
+use Rattle.wf_drawn.specs.Drawn.{heading, inside}
+use Rattle.wf_drawn.specs.Kinds.{closes, kind_word}
+use Rattle.wf_drawn.specs.Page.{beside, header, run_look}
+use Rattle.wf_html.proofs.BehindLemmas.{Says, says_append, says_in, says_nothing, says_quietly, says_said, says_text}
+use Rattle.wf_html.specs.Behind.{is_name}
+use Rattle.wf_html.specs.Html.{Piece, said, with_text}
+use Rattle.wf_html.specs.declared.tag.Tag.{Tag}
+use Rattle.wf_record.specs.Record.{RecordTree, RowTree, run_status_name}
+use Rattle.wf_shown.proofs.SaidLemmas.{fact_says, only_names, rows_unnamed}
+use Rattle.wf_shown.specs.Facts.{fact}
+
+abbrev pub Quiet : List Piece → Type 0
+Quiet ps = Says is_name ps []
+
+quiet_append : (ps qs : List Piece) → Quiet ps → Quiet qs → Quiet (ps ++ qs)
+quiet_append ps qs one other = says_append is_name ps qs [] [] one other
+
+quiet_in : (t : Tag) (ps : List Piece) → is_name t ≡ false → Quiet ps → Quiet (inside t ps)
+quiet_in t ps other within = says_in is_name t ps [] other within
+
+quiet_each : {A : Type 0} (f : A → List Piece) → ((x : A) → Quiet (f x)) → (xs : List A) → Quiet (flat_map f xs)
+quiet_each f one [] = says_nothing is_name
+quiet_each f one (x ∷ xs) = quiet_append (f x) (flat_map f xs) (one x) (quiet_each f one xs)
+
+-- ---- what an action waits for
+
+wanted_quiet : (b : Bool) (word : List ℕ) → Quiet (wanted b word)
+wanted_quiet true word = says_said is_name (codes " ") (with_text Tag.Wanted word) [] (says_quietly is_name Tag.Wanted word refl)
+wanted_quiet false word = says_nothing is_name
+
+all_wanted_quiet : (s : Statuses) → Quiet (all_wanted s)
+all_wanted_quiet s =
+    quiet_append _ _ (wanted_quiet s.succeeded (codes "Succeeded")) (
+    quiet_append _ _ (wanted_quiet s.failed (codes "Failed")) (
+    quiet_append _ _ (wanted_quiet s.skipped (codes "Skipped")) (
+    quiet_append _ _ (wanted_quiet s.timed_out (codes "TimedOut")) (wanted_quiet (none_listed s) (codes "never"))))
+    )
+
+statuses_quiet : (s : Statuses) → Quiet (statuses s)
+statuses_quiet s =
+    elim (only_succeeded s) as (λ b. Quiet (cond b [] (all_wanted s))) [ true ↦ says_nothing is_name | false ↦ all_wanted_quiet s ]
+
+after_quiet : (a : After) → Quiet (after_pieces a)
+after_quiet a =
+    quiet_in Tag.After (said (codes "after ") ∷ said a.name ∷ statuses a.statuses) refl (
+    says_said is_name (codes "after ") (said a.name ∷ statuses a.statuses) []
+    (says_said is_name a.name (statuses a.statuses) [] (statuses_quiet a.statuses))
+    )
+
+-- ---- an action
+
+pub heading_names : (earlier : Option (List RowTree)) (name : List ℕ) (after : List After) (kind : KindTree) (rows : List RowTree)
+    → Says is_name (heading earlier name after kind rows) (name ∷ [])
+unfolding heading
+heading_names earlier name after kind rows =
+    says_append is_name (with_text Tag.Name name) _ (name ∷ []) [] (says_text is_name Tag.Name name) (
+    quiet_append (with_text Tag.Kind (kind_word kind)) _ (says_quietly is_name Tag.Kind (kind_word kind) refl)
+    (quiet_append (afters after) _ (quiet_each after_pieces after_quiet after) (rows_unnamed (closes kind) earlier rows))
+    )
+
+-- ---- a run
+
+beside_quiet : (earlier : Option RecordTree) → Quiet (beside earlier)
+beside_quiet None = says_nothing is_name
+beside_quiet (Some old) =
+    quiet_in Tag.Line (said (codes "beside ") ∷ said old.run ∷ []) refl
+    (says_said is_name (codes "beside ") (said old.run ∷ []) [] (says_said is_name old.run [] [] (says_nothing is_name)))
+
+pub header_quiet : (r : RecordTree) (earlier : Option RecordTree) → Quiet (header r earlier)
+header_quiet r earlier =
+    quiet_in Tag.Header _ refl (
+    quiet_append (with_text Tag.Heading r.run) _ (says_quietly is_name Tag.Heading r.run refl) (
+    quiet_append _ _ (
+    quiet_in Tag.Line (with_text (Tag.Mark (run_look r.status)) (run_status_name r.status)) refl
+    (says_quietly is_name (Tag.Mark (run_look r.status)) (run_status_name r.status) refl)
+    ) (
+    quiet_append (beside earlier) _ (beside_quiet earlier) (
+    quiet_in Tag.Facts _ refl (
+    quiet_append (fact (codes "error") r.error) _ (fact_says is_name only_names (codes "error") r.error) (
+    quiet_append (fact (codes "response") r.response) _ (fact_says is_name only_names (codes "response") r.response)
+    (fact_says is_name only_names (codes "outputs") r.outputs))
+    )
+    )
+    ))
+    )
