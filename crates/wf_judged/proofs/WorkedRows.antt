@@ -1,20 +1,20 @@
 -- What tests came to at worked ends: each way to fail, with its words, and beside it the way to pass.
-use Rattle.std.proofs.Common.{◌≡◌, ℕ, List, [], ◌∷◌, ◌++◌, true, false, Some, None, Ok, Err, pos, refl}
+use Rattle.std.proofs.Common.{◌≡◌, ℕ, List, [], ◌∷◌, ◌++◌, true, false, Some, None, Ok, Err, refl, ap, ap₂}
 use Rattle.std.specs.Fmt.{digits}
-use Rattle.std.specs.Prelude.{codes, ⊤}
+use Rattle.std.specs.Prelude.{codes, ⊤, ◌&&◌, bytes_eq, nat_eq}
 use Rattle.wf_json.specs.declared.fault.JsonFault.{JsonFault}
 use Rattle.wf_lines.specs.Lines.{lines_of}
-use Rattle.wf_match.specs.Told.{Told}
 use Rattle.wf_suite.specs.declared.suite.Wanted.{Wanted}
 use Rattle.wf_val.specs.ValueTree.{ValueTree, text, object, members}
-use Rattle.wf_judged.specs.Failures.{end_words, in_value, number_words, of_peaks, of_wanted, other_end, peak_words}
-use Rattle.wf_judged.specs.Failures.{accepted, further_words, quoted, which_words, zero_words}
+use Rattle.wf_judged.specs.Failures.{end_words, in_value, is_same, number_words, of_peaks, of_wanted, other_end, peak_words}
+use Rattle.wf_judged.specs.Failures.{accepted, further_words, quoted, where_words, which_words, zero_words}
 use Rattle.wf_judged.specs.Lines.{ending_number, is_summary, record_lines, records_text}
 use Rattle.wf_judged.specs.Why.{Why, Differs, Says}
+use Rattle.wf_judged.specs.declared.lines.Ended.{Ended}
 
 -- what a row unfolds to be computed
 unfoldable computed : ⊤
-unfolding digits end_words number_words other_end peak_words which_words zero_words accepted further_words
+unfolding digits end_words number_words other_end peak_words where_words which_words zero_words accepted further_words
 computed = tt
 
 abbrev feed : List ℕ
@@ -107,13 +107,44 @@ value-none = refl
 
 -- ---- peaks
 
-peak-within : of_peaks (Some 13) two_lines ≡ []
+peak-within : of_peaks (Some 13) [] two_lines ≡ []
 unfolding computed
 peak-within = refl
 
-peak-over : of_peaks (Some 12) two_lines ≡ Says (codes "the peak is 13 where 12 is allowed") ∷ []
+peak-over : of_peaks (Some 12) [] two_lines ≡ Says (codes "the peak is 13 where 12 is allowed") ∷ []
 unfolding computed
 peak-over = refl
 
-peak-unbounded : of_peaks None two_lines ≡ []
+peak-unbounded : of_peaks None [] two_lines ≡ []
 peak-unbounded = refl
+
+-- ---- further schedules
+
+further-peak : of_peaks (Some 12) (where_words 1) two_lines
+    ≡ Says (codes "the peak is 13 where 12 is allowed, under the further schedule 2") ∷ []
+unfolding computed
+further-peak = refl
+
+further-records : further_words 0 ≡ codes "other records come under the further schedule 1"
+unfolding computed
+further-records = refl
+
+-- ends with these statuses and texts
+ends : (a b : Ended) (s t : ℕ) (x y : List ℕ) → a.status ≡ s → b.status ≡ t → a.text.items ≡ x → b.text.items ≡ y
+    → is_same a b ≡ (nat_eq s t && bytes_eq (records_text x) (records_text y))
+ends a b s t x y of_a of_b is_a is_b =
+    ap₂ (λ m n. m && n) (ap₂ nat_eq of_a of_b) (ap₂ bytes_eq (ap records_text is_a) (ap records_text is_b))
+
+abbrev of_run : List ℕ → List ℕ → List ℕ
+of_run line summary = line ++ (feed ++ (summary ++ feed))
+
+same-another_summary : (a b : Ended) → a.status ≡ 0 → b.status ≡ 0 → a.text.items ≡ two_lines
+    → b.text.items ≡ of_run (codes "{\"a\":1}") (codes "# run r9 steps 30 peak 2") → is_same a b ≡ true
+same-another_summary a b of_a of_b is_a is_b = ends a b 0 0 _ _ of_a of_b is_a is_b
+
+same-another_record : (a b : Ended) → a.status ≡ 0 → b.status ≡ 0 → a.text.items ≡ two_lines
+    → b.text.items ≡ of_run (codes "{\"a\":2}") (codes "# run r9 steps 24 peak 13") → is_same a b ≡ false
+same-another_record a b of_a of_b is_a is_b = ends a b 0 0 _ _ of_a of_b is_a is_b
+
+same-another_status : (a b : Ended) → a.status ≡ 0 → b.status ≡ 8 → a.text.items ≡ [] → b.text.items ≡ [] → is_same a b ≡ false
+same-another_status a b of_a of_b is_a is_b = ends a b 0 8 _ _ of_a of_b is_a is_b

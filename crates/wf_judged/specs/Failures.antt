@@ -1,5 +1,5 @@
 -- Why a test failed, by how its command ended: a status and a text, and under further schedules others.
-use Rattle.std.specs.Prelude.{ℕ, suc, ◌+◌, List, [], ◌∷◌, ◌++◌, length, map, Bool, not, ◌&&◌, ◌||◌, nat_eq, nat_lt, if◌then◌else◌, bytes_eq}
+use Rattle.std.specs.Prelude.{ℕ, suc, ◌+◌, List, [], ◌∷◌, ◌++◌, length, map, Bool, not, ◌&&◌, nat_eq, nat_lt, if◌then◌else◌, bytes_eq}
 use Rattle.std.specs.Prelude.{Option, None, Some, Result, Ok, Err, codes, decimal, slice_get}
 use Rattle.std.specs.Str.Lossy.{utf8_lossy}
 use Rattle.wf_json.specs.Json.{string}
@@ -100,20 +100,22 @@ of_wanted (Wanted.Records expected) status text = if_done expected status text
 
 -- ---- peaks
 
-unfoldable pub peak_words : ℕ → ℕ → List ℕ
-peak_words peak most = codes "the peak is " ++ (decimal peak ++ (codes " where " ++ (decimal most ++ codes " is allowed")))
+-- behind the words stands which schedule it came under; nothing for the test's own
+unfoldable pub peak_words : ℕ → ℕ → List ℕ → List ℕ
+peak_words peak most schedule =
+    codes "the peak is " ++ (decimal peak ++ (codes " where " ++ (decimal most ++ (codes " is allowed" ++ schedule))))
 
-abbrev pub over : ℕ → List ℕ → List Why
-over most line =
-    if is_summary line && nat_lt most (ending_number 0 line) then (Says (peak_words (ending_number 0 line) most) ∷ []) else []
+abbrev pub over : ℕ → List ℕ → List ℕ → List Why
+over most schedule line =
+    if is_summary line && nat_lt most (ending_number 0 line) then (Says (peak_words (ending_number 0 line) most schedule) ∷ []) else []
 
-abbrev pub all_over : ℕ → List (List ℕ) → List Why
-all_over most [] = []
-all_over most (line ∷ lines) = over most line ++ all_over most lines
+abbrev pub all_over : ℕ → List ℕ → List (List ℕ) → List Why
+all_over most schedule [] = []
+all_over most schedule (line ∷ lines) = over most schedule line ++ all_over most schedule lines
 
-abbrev pub of_peaks : Option ℕ → List ℕ → List Why
-of_peaks None text = []
-of_peaks (Some most) text = all_over most (lines_of text)
+abbrev pub of_peaks : Option ℕ → List ℕ → List ℕ → List Why
+of_peaks None schedule text = []
+of_peaks (Some most) schedule text = all_over most schedule (lines_of text)
 
 -- ---- further schedules
 
@@ -124,10 +126,13 @@ is_same first ended = nat_eq first.status ended.status && bytes_eq (records_text
 unfoldable pub further_words : ℕ → List ℕ
 further_words place = codes "other records come under the further schedule " ++ decimal (place + 1)
 
+unfoldable pub where_words : ℕ → List ℕ
+where_words place = codes ", under the further schedule " ++ decimal (place + 1)
+
 abbrev pub under : Option ℕ → Ended → ℕ → Ended → List Why
 under most first place ended =
     unless (is_same first ended) (further_words place)
-    ++ of_peaks most ended.text.items
+    ++ of_peaks most (where_words place) ended.text.items
 
 abbrev pub of_further : Option ℕ → Ended → ℕ → List Ended → List Why
 of_further most first place [] = []
@@ -138,4 +143,4 @@ of_further most first place (ended ∷ others) = under most first place ended ++
 abbrev pub failures_of : Test → Ended → List Ended → List Why
 failures_of test first others =
     of_wanted test.wanted first.status first.text.items
-    ++ (of_peaks test.most first.text.items ++ of_further test.most first 0 others)
+    ++ (of_peaks test.most [] first.text.items ++ of_further test.most first 0 others)

@@ -1,6 +1,7 @@
 //! What a test came to.
-ghost use Rattle.std.specs.Prelude.{◌≡◌, ◌<◌, ◌^◌, ◌++◌, IfOk, OnOk, Some, map};
+ghost use Rattle.std.specs.Prelude.{◌≡◌, ◌<◌, ◌^◌, ◌++◌, IfOk, OnOk, Some, map, string_bytes};
 ghost use Rattle.wf_judged.specs.Failures.{failures_of, further_words, is_same, of_further, of_peaks, of_wanted, over, peak_words, under};
+ghost use Rattle.wf_judged.specs.Failures.{where_words};
 ghost use Rattle.wf_judged.specs.Why.{why};
 
 use crate::failures::{Failures, of_accepts, of_refused, unless};
@@ -23,7 +24,7 @@ pub fn outcome(
 {
     let mut failures = Failures::new(alloc);
     of_wanted(alloc, &test.wanted, first, &mut failures)?;
-    of_peaks(alloc, test.most, &first.text, &mut failures)?;
+    of_peaks(alloc, test.most, "", &first.text, &mut failures)?;
     of_further(alloc, test.most, first, others, &mut failures)?;
     Ok(Outcome {
         name: test.name.copy(alloc)?,
@@ -49,42 +50,55 @@ fn of_wanted(
 fn of_peaks(
     alloc: Global,
     most: Option<u64>,
+    schedule: &str,
     text: &[u8],
     all: &mut Failures,
 ) -> Result<(), AllocError>
-    ensures { OnOk result (map why all.new ≡ map why all.old ++ of_peaks most text.now) }
+    ensures { OnOk result (map why all.new ≡ map why all.old ++ of_peaks most schedule.now text.now) }
 {
     match most {
         None => Ok(()),
-        Some(most) => all_over(alloc, most, text, all),
+        Some(most) => all_over(alloc, most, schedule, text, all),
     }
 }
 
-fn all_over(alloc: Global, most: u64, text: &[u8], all: &mut Failures) -> Result<(), AllocError>
-    ensures { OnOk result (map why all.new ≡ map why all.old ++ of_peaks (Some most) text.now) }
+fn all_over(
+    alloc: Global,
+    most: u64,
+    schedule: &str,
+    text: &[u8],
+    all: &mut Failures,
+) -> Result<(), AllocError>
+    ensures { OnOk result (map why all.new ≡ map why all.old ++ of_peaks (Some most) schedule.now text.now) }
 {
     let lines = lines_of(alloc, text)?;
     for line in &lines {
-        over(alloc, most, line, all)?;
+        over(alloc, most, schedule, line, all)?;
     }
     Ok(())
 }
 
 #[tactic(auto, unfolding(crate::specs::Failures::peak_words))]
-fn peak_words(alloc: Global, peak: u64, most: u64) -> Result<Text, AllocError>
-    ensures { IfOk result (λ words. words ≡ peak_words peak most) }
+fn peak_words(alloc: Global, peak: u64, most: u64, schedule: &str) -> Result<Text, AllocError>
+    ensures { IfOk result (λ words. words ≡ peak_words peak most schedule.now) }
 {
-    let words = format!(in alloc; "the peak is {peak} where {most} is allowed")?;
+    let words = format!(in alloc; "the peak is {peak} where {most} is allowed{schedule}")?;
     Ok(Text::from_string(words))
 }
 
 // Tells the peak that a line names, where it is over the greatest that is allowed.
-fn over(alloc: Global, most: u64, line: &[u8], all: &mut Failures) -> Result<(), AllocError>
-    ensures { OnOk result (map why all.new ≡ map why all.old ++ over most line.now) }
+fn over(
+    alloc: Global,
+    most: u64,
+    schedule: &str,
+    line: &[u8],
+    all: &mut Failures,
+) -> Result<(), AllocError>
+    ensures { OnOk result (map why all.new ≡ map why all.old ++ over most schedule.now line.now) }
 {
     let peak = ending_number(line);
     if is_summary(line) && most < peak {
-        all.push(Failure::Says(peak_words(alloc, peak, most)?))?;
+        all.push(Failure::Says(peak_words(alloc, peak, most, schedule)?))?;
     }
     Ok(())
 }
@@ -122,6 +136,16 @@ fn further_words(alloc: Global, place: u64) -> Result<Text, AllocError>
     Ok(Text::from_string(words))
 }
 
+// Which further schedule a peak came under, as it is told behind it.
+#[tactic(auto, unfolding(crate::specs::Failures::where_words))]
+fn where_words(alloc: Global, place: u64) -> Result<String, AllocError>
+    requires { place < 2 ^ 63 }
+    ensures { IfOk result (λ words. string_bytes words ≡ where_words place) }
+{
+    let number = place + 1;
+    format!(in alloc; ", under the further schedule {number}")
+}
+
 fn under(
     alloc: Global,
     most: Option<u64>,
@@ -135,5 +159,6 @@ fn under(
 {
     let is_same = is_same(alloc, first, ended)?;
     unless(is_same, further_words(alloc, place)?, all)?;
-    of_peaks(alloc, most, &ended.text, all)
+    let schedule = where_words(alloc, place)?;
+    of_peaks(alloc, most, schedule.as_str(), &ended.text, all)
 }
