@@ -1,5 +1,5 @@
 -- Four files that are added in turn.
-use Rattle.std.proofs.Common.{◌≡◌, ℕ, List, cond, Option, Some, None, sym, ap, ap₂, ◌∙◌, bytes_eq, if◌then◌else◌, codes}
+use Rattle.std.proofs.Common.{◌≡◌, ℕ, List, Option, Some, None, ap₂, ◌∙◌, bytes_eq, if◌then◌else◌, codes}
 use Rattle.wf_tests.specs.Command.{handed}
 
 abbrev Names : Type 0

@@ -4,4 +4,5 @@ mod ScheduleLemmas
 mod RunLemmas
 mod LoadLemmas
 mod TestedLemmas
+mod ReadLemmas
 mod EndLemmas

@@ -1,5 +1,5 @@
 -- The command of a test: its words, and the files that it is handed, which have names of their own.
-use Rattle.std.specs.Prelude.{ℕ, List, [], ◌∷◌, ◌++◌, Option, Some, None, if◌then◌else◌, bytes_eq, codes, slice_get}
+use Rattle.std.specs.Prelude.{ℕ, List, [], ◌∷◌, Option, Some, None, if◌then◌else◌, bytes_eq, codes, slice_get}
 use Rattle.wf_json.specs.Json.{json}
 use Rattle.wf_judged.specs.Lines.{run_named}
 use Rattle.wf_judged.specs.declared.lines.Ended.{Ended}

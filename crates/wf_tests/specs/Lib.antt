@@ -6,5 +6,6 @@ pub mod Command
 pub mod Schedules
 pub mod Runs
 pub mod Loaded
+pub mod Named
 pub mod Served
 pub mod Kept

@@ -1,5 +1,5 @@
 -- That the files of tests were read, with the files that they name; or why no test runs.
-use Rattle.std.specs.Prelude.{◌≡◌, ◌⊎◌, ℕ, ◌<◌, List, [], ◌∷◌, ◌++◌, length, Option, None, Some, Ok, Err, IfSome, IsSomeAnd}
+use Rattle.std.specs.Prelude.{◌≡◌, ◌⊎◌, ℕ, ◌<◌, List, [], ◌∷◌, ◌++◌, length, None, Some, Ok, Err, IfSome, IsSomeAnd}
 use Rattle.wf_outside.specs.Outside.{Held}
 use Rattle.wf_tests.specs.Names.{beside}
 use Rattle.wf_tests.specs.Reading.{suite_in}

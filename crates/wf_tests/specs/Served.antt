@@ -1,5 +1,5 @@
 -- How a call ends, and what it wrote.
-use Rattle.std.specs.Prelude.{◌≡◌, ◌⊎◌, ℕ, List, [], ◌∷◌, ◌++◌, Bool, true, false, ◌&&◌, Option, None, Some, codes, if◌then◌else◌}
+use Rattle.std.specs.Prelude.{◌≡◌, ℕ, List, [], ◌∷◌, ◌++◌, Bool, true, false, ◌&&◌, Option, None, Some, codes, if◌then◌else◌}
 use Rattle.wf_json.specs.Json.{string}
 use Rattle.wf_judged.specs.declared.lines.Ended.{Ended}
 use Rattle.wf_outside.specs.Outside.{Held}

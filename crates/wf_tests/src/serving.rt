@@ -1,9 +1,11 @@
 //! The call of the program of tests.
-ghost use Rattle.std.specs.Prelude.{◌≡◌, ◌≢◌, ◌≤◌, ◌<◌, ◌⊎◌, ◌∷◌, ◌++◌, List, [], IfOk, IfErr};
+ghost use Rattle.std.specs.Prelude.{◌≡◌, ◌≢◌, ◌≤◌, ◌<◌, ◌⊎◌, ◌∷◌, ◌++◌, List, ℕ, [], IfOk, IfErr};
+ghost use Rattle.std.specs.Io.KnownBytes.{Appends};
 ghost use Rattle.wf_json.specs.Json.{string};
 ghost use Rattle.wf_judged.specs.declared.lines.Ended.{Ended};
 ghost use Rattle.wf_outside.specs.Outside.{Rose};
 ghost use Rattle.wf_tests.specs.Loaded.{Stopped};
+ghost use Rattle.wf_tests.specs.Named.{HasReadAll};
 ghost use Rattle.wf_tests.specs.Served.{AreTested, HasPassed, HasReport, IsTested, all_pass, passed, report_of, report_status, stop_line};
 ghost use Rattle.wf_tests.specs.Served.{stop_status};
 ghost use Rattle.wf_tests.specs.Runs.{AreRun};
@@ -236,6 +238,16 @@ pub fn serve_tests<F: Files, P: Program, O: Sink>(
 
     // 0 comes only where all of them passed.
     ensures passed { result ≡ 0 → HasPassed P.says (F.held files.old) words.now }
+
+    // 0 and 1 come only where each file of tests was read that the words name, and beside it each file that one of its tests names.
+    ensures read { result ≤ 1 → HasReadAll (F.held files.old) words.now }
+
+    // 3 comes where a read failed, whose name was written, and always there, 4 and 5 apart.
+    ensures three { result ≡ 3 → (name : List ℕ) × (F.failed files.new ≡ F.failed files.old ++ name ∷ [])
+        × Appends (O.taken out.old) (O.taken out.new) (stop_line (Stop.CannotRead name)) }
+    ensures unread { (F.failed files.new ≡ F.failed files.old)
+        ⊎ ((name : List ℕ) × (F.failed files.new ≡ F.failed files.old ++ name ∷ [])
+        × ((result ≡ 3) ⊎ (result ≡ 4) ⊎ (result ≡ 5))) }
 
     // 4 comes where the sink's count rose, and always there.
     ensures four { result ≡ 4 → Rose (O.faults out.old) (O.faults out.new) }

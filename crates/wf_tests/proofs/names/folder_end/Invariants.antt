@@ -1,4 +1,4 @@
-use Rattle.std.proofs.Common.{◌≡◌, ◌≤◌, drop, length}
+use Rattle.std.proofs.Common.{◌≡◌, ◌≤◌, drop}
 use Rattle.wf_tests.specs.Names.{folder_end}
 use Rattle.wf_tests.proofs.names.folder_end.Given as goal
 

@@ -1,4 +1,4 @@
-use Rattle.std.proofs.Common.{rules, ◌≡◌, ◌+◌, ℕ, List, sym, ap, ◌∙◌, subst}
+use Rattle.std.proofs.Common.{rules, ℕ, List, sym, ap, ◌∙◌, subst}
 use Rattle.wf_tests.specs.Command.{handed, seed_of}
 use Rattle.wf_tests.specs.Runs.{Came}
 use Rattle.wf_tests.specs.Schedules.{further_schedule}

@@ -1,5 +1,5 @@
-use Rattle.std.proofs.Common.{◌≡◌, ◌≤◌, length}
-use Rattle.wf_tests.specs.Command.{further_of, handed, seed_of}
+use Rattle.std.proofs.Common.{◌≡◌, length}
+use Rattle.wf_tests.specs.Command.{handed, seed_of}
 use Rattle.wf_tests.specs.Runs.{CameUnder}
 use Rattle.wf_tests.proofs.running.came_under.Given as goal
 

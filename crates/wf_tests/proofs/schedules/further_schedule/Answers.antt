@@ -1,4 +1,4 @@
-use Rattle.std.proofs.Common.{rules, ◌≡◌}
+use Rattle.std.proofs.Common.{rules}
 use Rattle.wf_tests.specs.Schedules.{further_schedule}
 use Rattle.wf_tests.proofs.ScheduleLemmas.{no_more, one_line}
 use Rattle.wf_tests.proofs.schedules.further_schedule.Goals as goal

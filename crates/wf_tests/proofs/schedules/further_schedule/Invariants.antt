@@ -1,4 +1,4 @@
-use Rattle.std.proofs.Common.{◌≡◌, ◌≤◌, ◌<◌, ◌++◌}
+use Rattle.std.proofs.Common.{◌≡◌, ◌<◌, ◌++◌}
 use Rattle.wf_tests.specs.Schedules.{further_schedule, lines_behind}
 use Rattle.wf_tests.proofs.schedules.further_schedule.Given as goal
 

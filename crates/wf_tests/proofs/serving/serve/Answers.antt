@@ -1,4 +1,4 @@
-use Rattle.std.proofs.Common.{◌≡◌, sym}
+use Rattle.std.proofs.Common.{sym}
 use Rattle.wf_tests.specs.Words.{wish_tree}
 use Rattle.wf_tests.proofs.EndLemmas.{reported, stopped}
 use Rattle.wf_tests.proofs.serving.serve.Goals as goal

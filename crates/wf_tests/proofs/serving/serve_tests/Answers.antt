@@ -1,9 +1,29 @@
-use Rattle.wf_tests.proofs.EndLemmas.{zero_passes}
+use Rattle.wf_tests.proofs.EndLemmas.{answered_is_read, failed_is_told, three_failed, zero_passes}
 use Rattle.wf_tests.proofs.serving.serve_tests.Goals as goal
 
 -- 0 is the status of a report alone, and of one without a failure
 pub returns-clause-passed : goal.returns-clause-passed
 returns-clause-passed g c =
     zero_passes (g.F.Files.held c.args.files.now) (g.F.Files.failed c.args.files.now) (g.F.Files.failed c.serve.new.files)
+    g.P.Program.says c.args.words.now (g.O.Sink.taken c.args.out.now) (g.O.Sink.taken c.serve.new.out) c.serve.result
+    c.serve.ensures.tested
+
+-- 0 and 1 are those of a report
+pub returns-clause-read : goal.returns-clause-read
+returns-clause-read g c =
+    answered_is_read (g.F.Files.held c.args.files.now) (g.F.Files.failed c.args.files.now) (g.F.Files.failed c.serve.new.files)
+    g.P.Program.says c.args.words.now (g.O.Sink.taken c.args.out.now) (g.O.Sink.taken c.serve.new.out) c.serve.result
+    c.serve.ensures.tested
+
+-- 3 is that of a read that failed
+pub returns-clause-three : goal.returns-clause-three
+returns-clause-three g c =
+    three_failed (g.F.Files.held c.args.files.now) (g.F.Files.failed c.args.files.now) (g.F.Files.failed c.serve.new.files)
+    g.P.Program.says c.args.words.now (g.O.Sink.taken c.args.out.now) (g.O.Sink.taken c.serve.new.out) c.serve.result
+    c.serve.ensures.tested
+
+pub returns-clause-unread : goal.returns-clause-unread
+returns-clause-unread g c =
+    failed_is_told (g.F.Files.held c.args.files.now) (g.F.Files.failed c.args.files.now) (g.F.Files.failed c.serve.new.files)
     g.P.Program.says c.args.words.now (g.O.Sink.taken c.args.out.now) (g.O.Sink.taken c.serve.new.out) c.serve.result
     c.serve.ensures.tested
