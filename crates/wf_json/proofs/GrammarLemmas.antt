@@ -1,5 +1,5 @@
 -- The loops of the grammar, a turn at a time, where what is read is converted to a JSON tree.
-use Rattle.std.proofs.Common.{◌≡◌, ℕ, zero, suc, ◌-◌, ◌<◌, ◌≤◌, List, [], ◌∷◌, length, Option, Some, None, option_map, option_and_then, refl, ap, ◌∙◌}
+use Rattle.std.proofs.Common.{◌≡◌, ℕ, zero, suc, ◌-◌, ◌<◌, ◌≤◌, List, [], length, Option, Some, None, option_map, option_and_then, refl, ap, ◌∙◌}
 use Rattle.json.specs.Token.{Token}
 use Rattle.json.specs.Json as grammar
 use Rattle.json.specs.Json.{Parse, parse_map, after_end_array, read_key, items_step, items, members, if_last}
@@ -116,10 +116,6 @@ module _ (p : Parse grammar.Json) where
         → converted (λ ms. of_members ms old) (members p n ts) ≡ Some (old, r)
     members_over n ts r enough e = ap (converted (λ ms. of_members ms old)) (members_end p n ts r enough e)
 
-pub nothing_before : (r : Option (json.Items × List Token)) → r ≡ parse_map (λ a. a) r
-nothing_before None = refl
-nothing_before (Some p) = refl
-
 -- ---- the whole text
 
 abbrev pub whole : Option (grammar.Json × List Token) → Option json.Data
@@ -127,12 +123,3 @@ whole o = option_and_then of_json (option_and_then (λ p. if_last p.0 p.1) o)
 
 pub whole_read : (o : Option (grammar.Json × List Token)) (d : json.Data) → converted of_json o ≡ Some (d, []) → whole o ≡ Some d
 whole_read o d e = let j = converted_some of_json o d [] e in ap whole j.1 ∙ j.2
-
-pub whole_and_more : (o : Option (grammar.Json × List Token)) (d : json.Data) (t : Token) (r : List Token)
-    → converted of_json o ≡ Some (d, t ∷ r) → whole o ≡ None
-whole_and_more o d t r e = ap whole (converted_some of_json o d (t ∷ r) e).1
-
-pub whole_refused : (o : Option (grammar.Json × List Token)) → converted of_json o ≡ None → whole o ≡ None
-whole_refused None e = refl
-whole_refused (Some (j, [])) e = none_inside [] (of_json j) e
-whole_refused (Some (j, t ∷ r)) e = refl

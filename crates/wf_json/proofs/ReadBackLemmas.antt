@@ -1,6 +1,6 @@
 -- The JSON text of a well formed value reads as that value.
-use Rattle.std.proofs.Common.{◌≡◌, ◌≤◌, ◌<◌, ◌-◌, ◌^◌, ℕ, suc, pos, negsuc, List, [], ◌∷◌, ◌++◌, Option, Some, None, option_map}
-use Rattle.std.proofs.Common.{option_and_then, Ok, true, false, cond, decimal, IsUtf8, Less, Greater, refl, ap, ap₂, sym, ◌∙◌, subst, arith}
+use Rattle.std.proofs.Common.{◌≡◌, ◌≤◌, ◌<◌, ◌-◌, ◌^◌, ℕ, suc, pos, negsuc, List, [], ◌∷◌, ◌++◌, Some, None, option_map}
+use Rattle.std.proofs.Common.{Ok, true, false, cond, decimal, IsUtf8, Less, Greater, refl, ap, ap₂, sym, ◌∙◌, subst, arith}
 use Rattle.std.proofs.Common.{append_assoc, append-nil, ne_eqb}
 use Rattle.std.specs.Str.{IsAscii, is_utf8}
 use Rattle.std.specs.Ordering.{ordering_reverse}
@@ -33,6 +33,7 @@ use Rattle.wf_json.specs.Read.{after_mark, json_of, greatest_nesting, flawed_pla
 use Rattle.wf_json.specs.Read.{values_of, members_of, read_json, read_value}
 use Rattle.wf_json.specs.Sent as sent
 use Rattle.wf_json.specs.declared.fault.Flaw.{Flaw}
+use Rattle.wf_json.proofs.GrammarLemmas.{whole}
 use Rattle.wf_json.proofs.SentLemmas.{compact-json, quoted-string}
 
 -- ---- numbers
@@ -143,15 +144,12 @@ mutual
 
 -- ---- the text reads as what was sent
 
-abbrev whole_text : Option (grammar.Json × List Token) → Option json.Data
-whole_text o = option_and_then reader.of_json (option_and_then (λ p. grammar.if_last p.0 p.1) o)
-
 read-json : (t : value.ValueTree) → IsWellFormed t → value.depth t ≤ 127 → reader.read (text.json t) ≡ Some (sent.data_of t)
 read-json t well shallow =
     let ts = spelled.json_tokens (outline (sent.data_of t)) in
     let same : tokens (text.json t) ≡ ts = ap tokens (sym (compact-json t) ∙ sym (print-outline (sent.data_of t)))
     ∙ tokens-print ts (printable t well) in
-    ap whole_text (ap (grammar.value 127) (same ∙ sym (append-nil ts)) ∙ value-json_tokens (outline (sent.data_of t)) 127 []
+    ap whole (ap (grammar.value 127) (same ∙ sym (append-nil ts)) ∙ value-json_tokens (outline (sent.data_of t)) 127 []
     (omega (arith, depth-outline t)))
     ∙ of_json-outline t well
 

@@ -2,9 +2,6 @@
 use Rattle.std.proofs.Common.{◌≡◌, ℕ, ◌+◌, ◌-◌, ◌<◌, ◌≤◌, length, List, [], ◌∷◌, ◌++◌, map, Option, Some, None, Ordering, Less, Equal, Greater, refl, ap, ◌∙◌}
 use Rattle.std.proofs.Common.{String, Global, string_bytes, string_cmp, arith}
 use Rattle.std.specs.BTreeMap.{insert_entry}
-use Rattle.std.specs.List.{AllByRecursion}
-use Rattle.std.specs.List.Sorted.{IsStrictlySortedBy}
-use Rattle.std.specs.Map.{keys_of}
 use Rattle.std.specs.Ordering.{match_ordering}
 use Rattle.json.specs.Json.{parse_map}
 use Rattle.json.specs.Json as grammar
@@ -13,8 +10,6 @@ use Rattle.json.proofs.Grammar.{value-begin_array, value-begin_object}
 use Rattle.serde_json.specs.Data as json
 use Rattle.serde_json.specs.Read.{of_json, of_items, of_members, converted}
 use Rattle.wf_json.proofs.GrammarLemmas.{converted-array, converted-object}
-use Rattle.wf_val.specs.Get.{name_of}
-use Rattle.wf_val.specs.NameOrder.{IsAboveAll}
 use Rattle.wf_val.specs.Seen.{tree}
 use Rattle.wf_val.specs.ValueTree as value
 use Rattle.wf_val.specs.declared.val.Val.{Val}
@@ -54,7 +49,8 @@ abbrev pub entries : List MapEntry → value.MemberTrees
 entries es = value.members (map named es)
 
 entries_of-match_ordering : (o : Ordering) (a b c : List MapEntry)
-    → members_of (entries (match_ordering o a b c)) ≡ match_ordering o (members_of (entries a)) (members_of (entries b)) (members_of (entries c))
+    → members_of (entries (match_ordering o a b c))
+    ≡ match_ordering o (members_of (entries a)) (members_of (entries b)) (members_of (entries c))
 entries_of-match_ordering Less a b c = refl
 entries_of-match_ordering Equal a b c = refl
 entries_of-match_ordering Greater a b c = refl
@@ -77,18 +73,6 @@ insert_entry-nests [] k v room within this = omega arith
 insert_entry-nests (e ∷ es) k v room within this =
     let rest = insert_entry-nests es k v room (omega arith) this in
     nests-match_ordering (string_cmp k e.0) _ _ _ room (omega arith) (omega arith) (omega (arith, rest))
-
-below_middle : (first : MapEntry) (es : List MapEntry) (e : MapEntry) (more : List MapEntry)
-    → AllByRecursion (λ y. string_cmp first.0 y ≡ Less) (keys_of (es ++ e ∷ more)) → string_cmp first.0 e.0 ≡ Less
-below_middle first [] e more all = all.0
-below_middle first (x ∷ es) e more all = below_middle first es e more all.1
-
--- in order, each name is above those before it
-pub above_done : (done : List MapEntry) (e : MapEntry) (more : List MapEntry)
-    → IsStrictlySortedBy string_cmp (keys_of (done ++ e ∷ more)) → IsAboveAll name_of (string_bytes e.0) (map named done)
-unfolding IsStrictlySortedBy
-above_done [] e more order = tt
-above_done (x ∷ done) e more order = (below_middle x done e more order.0, above_done done e more order.1)
 
 -- ---- what an opening bracket begins
 

@@ -1,10 +1,10 @@
 -- The whole numbers among the numbers that JSON writes.
-use Rattle.std.proofs.Common.{◌≡◌, ℕ, zero, suc, ◌^◌, ◌<◌, ◌≤◌, ◌==◌, ℤ, pos, negsuc, List, length, drop, get_or, true, false, Option, Some, None, IfSome}
-use Rattle.std.proofs.Common.{refl, sym, ap, ◌∙◌, arith, lt-ltb, le-leb}
-use Rattle.std.specs.Prelude.{FitsSigned, SomeIff, int_lt}
+use Rattle.std.proofs.Common.{◌≡◌, ℕ, ◌^◌, ◌<◌, ◌==◌, ℤ, List, drop, get_or, true, false, Option, Some, None, IfSome}
+use Rattle.std.proofs.Common.{refl, sym, ap, ◌∙◌, arith, lt-ltb}
+use Rattle.std.specs.Prelude.{FitsSigned, SomeIff}
 use Rattle.std.specs.Int.{w64}
 use Rattle.fast_float.specs.Text.{Parts, IsInteger, digits_of, with_sign, scan}
-use Rattle.serde_json.specs.Data.{unsigned, negative}
+use Rattle.serde_json.specs.Data.{unsigned}
 use Rattle.serde_json.specs.Find.{of_integer}
 use Rattle.serde_json.specs.Read.{number_of, number_from, is_integer}
 
@@ -24,7 +24,8 @@ unsigned_number p whole fits =
     let wider : digits_of p < 2 ^ 64 = omega arith in
     rw (is_integer-true p whole, lt-ltb _ _ wider) refl
 
-pub whole-unsigned : (p : Parts) (o : Option ℤ) → SomeIff o (IsInteger p × FitsSigned w64 (with_sign false (digits_of p))) (with_sign false (digits_of p))
+pub whole-unsigned : (p : Parts) (o : Option ℤ)
+    → SomeIff o (IsInteger p × FitsSigned w64 (with_sign false (digits_of p))) (with_sign false (digits_of p))
     → IfSome o (λ z. number_from false p ≡ Some (of_integer z))
 whole-unsigned p None h = tt
 whole-unsigned p (Some z) h = unsigned_number p h.0.0 (omega (arith, h.0.1)) ∙ ap (λ x. Some (of_integer x)) (sym h.1)

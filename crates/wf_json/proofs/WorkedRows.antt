@@ -13,6 +13,7 @@ use Rattle.wf_json.specs.Json as text
 use Rattle.wf_json.specs.Json.{string}
 use Rattle.wf_json.specs.Pointer.{item_step, member_step, here, flagged, lesser, least}
 use Rattle.wf_json.specs.Read.{whole, value_unless, flawed_places, least_flaw, read_value}
+use Rattle.wf_json.specs.Sent.{data_of, items_of}
 use Rattle.wf_json.specs.declared.fault.Flaw.{Flaw}
 use Rattle.wf_json.specs.declared.fault.JsonFault.{JsonFault}
 
@@ -262,6 +263,23 @@ read-fraction = refl
 read-exponent : read_value (codes "1e2") ≡ Err (JsonFault.NotWhole [])
 unfolding on_literals
 read-exponent = refl
+
+-- ---- the tree of a value
+
+data_of-scalars : items_of (value.trees (value.null ∷ value.boolean true ∷ value.number (pos 0) ∷ value.text (codes "a") ∷ []))
+    ≡ json.item json.null
+    (json.item (json.boolean true) (json.item (json.number (json.unsigned 0)) (json.item (json.string (codes "a")) json.no_items)))
+data_of-scalars = refl
+
+data_of-greatest : data_of (value.number (pos (2 ^ 63 - 1))) ≡ json.number (json.unsigned 9223372036854775807)
+data_of-greatest = refl
+
+data_of-below_zero : data_of (value.number (negsuc 0)) ≡ json.number (json.negative (negsuc 0))
+data_of-below_zero = refl
+
+data_of-list_in_object : data_of (value.object (value.members ((codes "k", value.list value.no_values) ∷ [])))
+    ≡ json.object (json.member (codes "k") (json.array json.no_items) json.no_members)
+data_of-list_in_object = refl
 
 -- ---- faults as they are printed
 

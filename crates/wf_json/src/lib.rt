@@ -6,6 +6,9 @@
 //! places are at fault the least pointer by bytes is named, so that the answer doesn't depend on
 //! the order of a walk.
 //!
+//! A value is made straight from the tokens of its text. Only a text in which something is refused is
+//! read a second time, into a tree, which tells the place.
+//!
 //! A value is written without white space, with the members of objects in the byte order of their
 //! names: equal values have equal texts.
 //!

@@ -1,5 +1,5 @@
-//! Values straight from the tokens of a JSON text, with no tree between. A text with a flaw stops the reading: only a
-//! tree tells the least pointer of one.
+//! Values straight from the tokens of a JSON text, with no tree between. A flaw stops the reading:
+//! only a tree tells the least pointer of one.
 
 ghost use Rattle.std.specs.Prelude.{◌≡◌, ◌+◌, ◌<◌, ◌≤◌, length, map, Some, None, Ok, Err, IfOk, OnOk};
 ghost use Rattle.std.specs.BTreeMap.{insert_entry};
@@ -36,13 +36,16 @@ pub(crate) fn read_straight(alloc: Global, text: &str) -> Result<Val, Stop>
     Ok(value)
 }
 
-// The next value, with `room` for so many lists and objects in one another. The grammar has room for seven more.
+// The next value, with `room` for so many lists and objects in one another. The grammar has room
+// for seven more.
 #[cycle(straight)]
 fn value_in(alloc: Global, reader: &mut Reader<'_>, room: u32) -> Result<Val, Stop>
-    ensures ok { IfOk result (λ v. converted of_json (value (room + 7) reader.old) ≡ Some (data_of (tree v), reader.new)) }
+    ensures ok { IfOk result (λ v. converted of_json (value (room + 7) reader.old)
+        ≡ Some (data_of (tree v), reader.new)) }
     ensures nests { IfOk result (λ v. depth (tree v) ≤ room) }
     ensures shorter { OnOk result (length reader.new < length reader.old) }
-    ensures not_json { result ≡ Err Stop.NotJson → converted of_json (value (room + 7) reader.old) ≡ None }
+    ensures not_json { result ≡ Err Stop.NotJson
+        → converted of_json (value (room + 7) reader.old) ≡ None }
 {
     let token = reader.next().ok_or(Stop::NotJson)?;
     match token {
@@ -72,7 +75,8 @@ fn value_in(alloc: Global, reader: &mut Reader<'_>, room: u32) -> Result<Val, St
 // The items up to the end of their list.
 #[cycle(straight)]
 fn items_in(alloc: Global, reader: &mut Reader<'_>, room: u32) -> Result<Vals, Stop>
-    ensures ok { IfOk result (λ vs. converted of_items (items (value (room + 7)) (length reader.old) reader.old)
+    ensures ok { IfOk result
+        (λ vs. converted of_items (items (value (room + 7)) (length reader.old) reader.old)
         ≡ Some (items_of (trees vs), reader.new)) }
     ensures nests { IfOk result (λ vs. trees_depth (trees vs) ≤ room) }
     ensures shorter { OnOk result (length reader.new < length reader.old) }
@@ -87,14 +91,17 @@ fn items_in(alloc: Global, reader: &mut Reader<'_>, room: u32) -> Result<Vals, S
     Ok(found)
 }
 
-// The members up to the end of their object. A text has them in any order, and the last of a name stands.
+// The members up to the end of their object. A text has them in any order, and the last of a name
+// stands.
 #[cycle(straight)]
 fn members_in(alloc: Global, reader: &mut Reader<'_>, room: u32) -> Result<Fields, Stop>
     ensures ok { IfOk result (λ fs. converted (λ ms. of_members ms no_members)
-        (members (value (room + 7)) (length reader.old) reader.old) ≡ Some (members_of (member_trees fs), reader.new)) }
+        (members (value (room + 7)) (length reader.old) reader.old)
+        ≡ Some (members_of (member_trees fs), reader.new)) }
     ensures nests { IfOk result (λ fs. members_depth (member_trees fs) ≤ room) }
     ensures shorter { OnOk result (length reader.new < length reader.old) }
-    ensures not_json { result ≡ Err Stop.NotJson → converted (λ ms. of_members ms no_members)
+    ensures not_json { result ≡ Err Stop.NotJson
+        → converted (λ ms. of_members ms no_members)
         (members (value (room + 7)) (length reader.old) reader.old) ≡ None }
 {
     let mut found = BTreeMap::new(alloc);

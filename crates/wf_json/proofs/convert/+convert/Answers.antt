@@ -32,7 +32,7 @@ convert_members-append-requires t c =
     let left = c.next.new.self in
     let all : c.args.members.entries ≡ done ++ e ∷ left = l.invariant.1 ∙ ap (λ es. done ++ es) c.in-Some.ensures.steps in
     rw (c.from_string.ensures, l.invariant.2)
-    (above_done done e left (subst (λ es. IsStrictlySortedBy string_cmp (keys_of es)) all c.len-count.ensures.ordered))
+    (above_done tree_of_item done e left (subst (λ es. IsStrictlySortedBy string_cmp (keys_of es)) all c.len-count.ensures.ordered))
 
 pub convert_members-loop-name-preserved : goal.convert_members-loop-name-preserved
 convert_members-loop-name-preserved t c =

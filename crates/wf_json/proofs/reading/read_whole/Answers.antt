@@ -1,4 +1,4 @@
-use Rattle.std.proofs.Common.{◌≡◌, Ok, IsUtf8, ap, sym, ◌∙◌, subst}
+use Rattle.std.proofs.Common.{◌≡◌, Ok, IsUtf8, ap, ◌∙◌, subst}
 use Rattle.std.specs.Prelude.{IfOk}
 use Rattle.std.proofs.lemmas.Str.{is_utf8-from_IsUtf8}
 use Rattle.serde_json.specs.Read.{read}

@@ -1,10 +1,11 @@
-use Rattle.std.proofs.Common.{◌≡◌, [], ◌∷◌, ◌++◌, sym, ap, ◌∙◌, subst, append_assoc, append-nil}
+use Rattle.std.proofs.Common.{◌≡◌, [], ◌∷◌, ◌++◌, sym, ap, ◌∙◌, subst, append_assoc}
 use Rattle.std.specs.List.Sorted.{IsStrictlySortedBy}
 use Rattle.std.specs.Map.{keys_of}
 use Rattle.std.specs.String.{string_cmp}
+use Rattle.wf_val.specs.Seen.{tree}
 use Rattle.wf_json.specs.Sent.{named}
-use Rattle.wf_json.proofs.ConvertLemmas.{map-one_more}
-use Rattle.wf_json.proofs.StraightLemmas.{MapEntry, above_done}
+use Rattle.wf_json.proofs.ConvertLemmas.{above_done, map-one_more}
+use Rattle.wf_json.proofs.StraightLemmas.{MapEntry}
 use Rattle.wf_json.proofs.straight.in_order.Goals as goal
 
 pub append-requires : goal.append-requires
@@ -15,7 +16,7 @@ append-requires c =
     let left = c.next.new.self in
     let all : c.args.found.entries ≡ done ++ e ∷ left = l.invariant.1 ∙ ap (λ es. done ++ es) c.in-Some.ensures.steps in
     rw (c.from_string.ensures, l.invariant.2)
-    (above_done done e left (subst (λ es. IsStrictlySortedBy string_cmp (keys_of es)) all c.len-count.ensures.ordered))
+    (above_done tree done e left (subst (λ es. IsStrictlySortedBy string_cmp (keys_of es)) all c.len-count.ensures.ordered))
 
 pub loop-name-preserved : goal.loop-name-preserved
 loop-name-preserved c =
