@@ -91,7 +91,8 @@ class Page:
             self.say(earlier['run'])
             self.close('Line')
         self.open('Facts')
-        self.facts(record, ['error', 'response', 'outputs'])
+        self.facts(record, ['error', 'response', 'outputs'] if record['outputs'] != {} else ['error', 'response'])
+        self.facts({'trigger': record['trigger']['outputs']}, ['trigger'])
         self.close('Facts')
         self.close('Header')
 
@@ -174,7 +175,7 @@ class Page:
             self.one(*self.change(closes, row))
         self.close('Summary')
         self.open('Facts')
-        self.facts(row, ['inputs', 'outputs', 'error', 'tracked'])
+        self.facts(row, ['inputs', 'outputs', 'error', 'tracked'] if row['tracked'] != {} else ['inputs', 'outputs', 'error'])
         if row['attempts']:
             self.fact('attempts', ''.join('%s\n' % ATTEMPTS.get(attempt, attempt) for attempt in row['attempts']))
         self.close('Facts')
@@ -185,8 +186,8 @@ class Page:
         if old == row:
             return 'Kept', 'kept'
         if old is not None and closes and old['inputs'] == row['inputs']:
-            return 'Closed', 'closed again'
-        return 'Redone', 'redone'
+            return 'Closed', 'closed again, was ' + old['status']
+        return 'Redone', 'redone' if old is None else 'redone, was ' + old['status']
 
     def held(self, kind, action):
         words = {'Scope': 'inside', 'Foreach': 'for each item', 'Until': 'until the test holds'}

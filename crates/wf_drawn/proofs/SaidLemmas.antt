@@ -6,14 +6,14 @@ use Rattle.wf_def.specs.declared.after.Statuses.{Statuses}
 use Rattle.wf_drawn.specs.After.{after_pieces, afters, all_wanted, none_listed, only_succeeded, statuses, wanted}
 use Rattle.wf_drawn.specs.Drawn.{heading, inside}
 use Rattle.wf_drawn.specs.Kinds.{closes, kind_word}
-use Rattle.wf_drawn.specs.Page.{beside, header, run_look}
+use Rattle.wf_drawn.specs.Page.{beside, given, header, run_look}
 use Rattle.wf_html.proofs.BehindLemmas.{Says, says_append, says_in, says_nothing, says_quietly, says_said, says_text}
 use Rattle.wf_html.specs.Behind.{is_name}
 use Rattle.wf_html.specs.Html.{Piece, said, with_text}
 use Rattle.wf_html.specs.declared.tag.Tag.{Tag}
 use Rattle.wf_record.specs.Record.{RecordTree, RowTree, run_status_name}
-use Rattle.wf_shown.proofs.SaidLemmas.{fact_says, only_names, rows_unnamed}
-use Rattle.wf_shown.specs.Facts.{fact}
+use Rattle.wf_shown.proofs.SaidLemmas.{fact_of_members_says, fact_says, only_names, rows_unnamed}
+use Rattle.wf_shown.specs.Facts.{fact, fact_of_members}
 
 abbrev pub Quiet : List Piece → Type 0
 Quiet ps = Says is_name ps []
@@ -83,8 +83,9 @@ header_quiet r earlier =
     quiet_append (beside earlier) _ (beside_quiet earlier) (
     quiet_in Tag.Facts _ refl (
     quiet_append (fact (codes "error") r.error) _ (fact_says is_name only_names (codes "error") r.error) (
-    quiet_append (fact (codes "response") r.response) _ (fact_says is_name only_names (codes "response") r.response)
-    (fact_says is_name only_names (codes "outputs") r.outputs))
+    quiet_append (fact (codes "response") r.response) _ (fact_says is_name only_names (codes "response") r.response) (
+    quiet_append (fact_of_members (codes "outputs") r.outputs) _ (fact_of_members_says is_name only_names (codes "outputs") r.outputs)
+    (fact_says is_name only_names (codes "trigger") (given r.trigger))))
     )
     )
     ))

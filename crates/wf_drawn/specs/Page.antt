@@ -1,5 +1,5 @@
 -- A whole page.
-use Rattle.std.specs.Prelude.{ℕ, List, [], ◌∷◌, ◌++◌, Option, None, Some, codes, option_map}
+use Rattle.std.specs.Prelude.{ℕ, List, [], ◌∷◌, ◌++◌, Option, None, Some, codes, option_map, unwrap_or}
 use Rattle.wf_def.specs.ActionTree.{ActionTrees}
 use Rattle.wf_drawn.specs.Drawn.{graph_pieces, inside}
 use Rattle.wf_drawn.specs.Levels.{levels}
@@ -9,7 +9,9 @@ use Rattle.wf_html.specs.declared.tag.Look.{Look}
 use Rattle.wf_html.specs.declared.tag.Tag.{Tag}
 use Rattle.wf_record.specs.Record.{RecordTree, run_status_name}
 use Rattle.wf_record.specs.declared.status.RunStatus.{RunStatus}
-use Rattle.wf_shown.specs.Facts.{fact}
+use Rattle.wf_shown.specs.Facts.{fact, fact_of_members}
+use Rattle.wf_val.specs.Get.{get}
+use Rattle.wf_val.specs.ValueTree.{ValueTree, null}
 
 abbrev pub run_look : RunStatus → Look
 run_look RunStatus.Succeeded = Look.Succeeded
@@ -21,6 +23,10 @@ abbrev pub beside : Option RecordTree → List Piece
 beside None = []
 beside (Some old) = inside Tag.Line (said (codes "beside ") ∷ said old.run ∷ [])
 
+-- what the trigger gave
+abbrev pub given : ValueTree → ValueTree
+given trigger = unwrap_or (get (codes "outputs") trigger) null
+
 -- what is said of the run as a whole
 abbrev pub header : RecordTree → Option RecordTree → List Piece
 header r earlier =
@@ -28,7 +34,8 @@ header r earlier =
     with_text Tag.Heading r.run
     ++ (inside Tag.Line (with_text (Tag.Mark (run_look r.status)) (run_status_name r.status))
     ++ (beside earlier
-    ++ inside Tag.Facts (fact (codes "error") r.error ++ (fact (codes "response") r.response ++ fact (codes "outputs") r.outputs))))
+    ++ inside Tag.Facts (fact (codes "error") r.error ++ (fact (codes "response") r.response ++ (fact_of_members (codes "outputs") r.outputs
+    ++ fact (codes "trigger") (given r.trigger))))))
     )
 
 abbrev pub view_of : ActionTrees → RecordTree → Option RecordTree → ViewTree

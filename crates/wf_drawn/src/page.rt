@@ -1,9 +1,11 @@
 //! A whole page.
-ghost use Rattle.std.specs.Prelude.{◌≡◌, IfOk, option_map};
+ghost use Rattle.std.specs.Prelude.{◌≡◌, IfOk, codes, option_map};
 ghost use Rattle.wf_def.specs.ActionSeen.{graph_tree};
-ghost use Rattle.wf_drawn.specs.Page.{beside, header, page, run_look};
+ghost use Rattle.wf_drawn.specs.Page.{beside, given, header, page, run_look};
 ghost use Rattle.wf_html.specs.Html.{written};
 ghost use Rattle.wf_record.specs.Seen.{record_tree};
+ghost use Rattle.wf_shown.specs.Facts.{fact};
+ghost use Rattle.wf_val.specs.Seen.{tree};
 
 use crate::graph::in_graph;
 use crate::levels::levels_of;
@@ -12,7 +14,8 @@ use std::alloc::{AllocError, Global};
 use wf_def::Graph;
 use wf_html::{Look, Tag, close, open, say, say_in};
 use wf_record::{Record, RunStatus};
-use wf_shown::fact;
+use wf_shown::{fact, fact_of_members};
+use wf_val::Val;
 
 fn run_look(status: RunStatus) -> Look
     ensures { result ≡ run_look status }
@@ -39,6 +42,16 @@ fn beside(bytes: Vec<u8>, earlier: Option<&Record>) -> Result<Vec<u8>, AllocErro
     }
 }
 
+// What the trigger gave, where it gave something.
+fn given(alloc: Global, bytes: Vec<u8>, trigger: &Val) -> Result<Vec<u8>, AllocError>
+    ensures { IfOk result (λ b. b.items ≡ written bytes.items (fact (codes "trigger") (given (tree trigger.now)))) }
+{
+    match trigger.member("outputs") {
+        Some(outputs) => fact(alloc, bytes, "trigger", outputs),
+        None => Ok(bytes),
+    }
+}
+
 // What is said of the run as a whole.
 #[tactic(auto, using(wf_html::proofs::PieceLemmas::written_append))]
 fn header(
@@ -59,7 +72,8 @@ fn header(
     let bytes = open(bytes, Tag::Facts)?;
     let bytes = fact(alloc, bytes, "error", &log.error)?;
     let bytes = fact(alloc, bytes, "response", &log.response)?;
-    let bytes = fact(alloc, bytes, "outputs", &log.outputs)?;
+    let bytes = fact_of_members(alloc, bytes, "outputs", &log.outputs)?;
+    let bytes = given(alloc, bytes, &log.trigger)?;
     let bytes = close(bytes, Tag::Facts)?;
     close(bytes, Tag::Header)
 }

@@ -1,3 +1,4 @@
+pub mod FactLemmas
 pub mod OnceLemmas
 pub mod RowLemmas
 pub mod SaidLemmas

@@ -15,7 +15,7 @@ use Rattle.wf_record.specs.declared.status.Status.{Status}
 use Rattle.wf_val.specs.ValueTree.{ValueTree, null}
 use Rattle.wf_shown.specs.Changes.{attempts_text, change_mark, change_of}
 use Rattle.wf_shown.specs.Counts.{count_of, counts, has_status}
-use Rattle.wf_shown.specs.Facts.{fact, fact_text}
+use Rattle.wf_shown.specs.Facts.{fact, fact_of_members, fact_text, is_bare}
 use Rattle.wf_shown.specs.Looks.{look_of, mark}
 use Rattle.wf_shown.specs.Once.{places}
 use Rattle.wf_shown.specs.Rows.{all_counted, all_shown, attempts_fact, most_shown, place_text, row_facts, row_head, row_pieces}
@@ -42,6 +42,13 @@ pub fact_says : (is : Tag → Bool) → OnlyHeads is → (name : List ℕ) (v : 
 fact_says is only name null = says_nothing is
 fact_says is only name v = fact_text_says is only name (json v)
 
+pub fact_of_members_says : (is : Tag → Bool) → OnlyHeads is → (name : List ℕ) (v : ValueTree) → Says is (fact_of_members name v) []
+fact_of_members_says is only name v =
+    elim (is_bare v) as (λ b. Says is (cond b [] (fact name v)) []) [
+      | true ↦ says_nothing is
+      | false ↦ fact_says is only name v
+    ]
+
 attempts_say : (is : Tag → Bool) → OnlyHeads is → (ts : List Try) → Says is (attempts_fact ts) []
 attempts_say is only [] = says_nothing is
 attempts_say is only (t ∷ ts) = fact_text_says is only (codes "attempts") (attempts_text (t ∷ ts))
@@ -49,8 +56,9 @@ attempts_say is only (t ∷ ts) = fact_text_says is only (codes "attempts") (att
 change_says : (is : Tag → Bool) → OnlyHeads is → (c : Option Change) → Says is (change_mark c) []
 change_says is only None = says_nothing is
 change_says is only (Some Change.Kept) = says_said is _ _ [] (says_quietly is Tag.Kept _ (only Tag.Kept refl))
-change_says is only (Some Change.Closed) = says_said is _ _ [] (says_quietly is Tag.Closed _ (only Tag.Closed refl))
-change_says is only (Some Change.Redone) = says_said is _ _ [] (says_quietly is Tag.Redone _ (only Tag.Redone refl))
+change_says is only (Some (Change.Closed s)) = says_said is _ _ [] (says_quietly is Tag.Closed _ (only Tag.Closed refl))
+change_says is only (Some (Change.Redone None)) = says_said is _ _ [] (says_quietly is Tag.Redone _ (only Tag.Redone refl))
+change_says is only (Some (Change.Redone (Some s))) = says_said is _ _ [] (says_quietly is Tag.Redone _ (only Tag.Redone refl))
 
 mark_says : (is : Tag → Bool) → OnlyHeads is → (s : Status) (word : List ℕ) → Says is (mark s word) []
 mark_says is only s word = says_quietly is (Tag.Mark (look_of s)) word (only (Tag.Mark (look_of s)) refl)
@@ -98,7 +106,7 @@ facts_say is only r =
     ends_after is Tag.Facts _ _ [] [] [] (fact_says is only (codes "inputs") r.row.inputs) (
     ends_after is Tag.Facts _ _ [] [] [] (fact_says is only (codes "outputs") r.row.outputs) (
     ends_after is Tag.Facts _ _ [] [] [] (fact_says is only (codes "error") r.row.error) (
-    ends_after is Tag.Facts _ _ [] [] [] (fact_says is only (codes "tracked") r.row.tracked) (
+    ends_after is Tag.Facts _ _ [] [] [] (fact_of_members_says is only (codes "tracked") r.row.tracked) (
     ends_after is Tag.Facts _ _ [] [] [] (attempts_say is only r.row.attempts) (ends is Tag.Facts [])))))
     )
 

@@ -6,9 +6,10 @@ use Rattle.wf_html.specs.declared.tag.Tag.{Tag}
 use Rattle.wf_record.specs.Record.{RowTree}
 use Rattle.wf_record.specs.declared.attempt.Try.{Try}
 use Rattle.wf_record.specs.declared.status.Status.{Status}
-use Rattle.wf_val.specs.ValueTree.{ValueTree, null, boolean, text}
-use Rattle.wf_shown.specs.Changes.{changed, change_of}
+use Rattle.wf_val.specs.ValueTree.{ValueTree, null, boolean, text, object, no_members, member_then}
+use Rattle.wf_shown.specs.Changes.{changed, change_mark, change_of}
 use Rattle.wf_shown.specs.Counts.{count_of, has_status}
+use Rattle.wf_shown.specs.Facts.{fact_of_members, fact_text}
 use Rattle.wf_shown.specs.Looks.{look_of_rows}
 use Rattle.wf_shown.specs.Once.{counted_in_all, owners}
 use Rattle.wf_shown.specs.Rows.{rows_of, rows_pieces}
@@ -30,20 +31,43 @@ failed = row (codes "A") [] Status.Failed null null
 kept : changed true (Some done) done ≡ Change.Kept
 kept = refl
 
-closed' : changed true (Some failed) done ≡ Change.Closed
+closed' : changed true (Some failed) done ≡ Change.Closed Status.Failed
 closed' = refl
 
-not_closed : changed false (Some failed) done ≡ Change.Redone
+not_closed : changed false (Some failed) done ≡ Change.Redone (Some Status.Failed)
 not_closed = refl
 
-decided_anew : changed true (Some (row (codes "A") [] Status.Failed (text (codes "x")) null)) done ≡ Change.Redone
+decided_anew : changed true (Some (row (codes "A") [] Status.Failed (text (codes "x")) null)) done ≡ Change.Redone (Some Status.Failed)
 decided_anew = refl
 
-new_row : change_of true (Some []) done ≡ Some Change.Redone
+new_row : change_of true (Some []) done ≡ Some (Change.Redone None)
 new_row = refl
 
 alone : change_of true None done ≡ None
 alone = refl
+
+-- how a row ended before stands in its mark
+marked : change_mark (Some (Change.Redone (Some Status.TimedOut)))
+    ≡ said (codes " ") ∷ opened Tag.Redone ∷ said (codes "redone, was TimedOut") ∷ closed Tag.Redone ∷ []
+marked = refl
+
+marked_closed : change_mark (Some (Change.Closed Status.Failed))
+    ≡ said (codes " ") ∷ opened Tag.Closed ∷ said (codes "closed again, was Failed") ∷ closed Tag.Closed ∷ []
+marked_closed = refl
+
+marked_new : change_mark (Some (Change.Redone None)) ≡ said (codes " ") ∷ opened Tag.Redone ∷ said (codes "redone") ∷ closed Tag.Redone ∷ []
+marked_new = refl
+
+-- an object without members is no fact where members are told, and null is none
+no_members_told : fact_of_members (codes "tracked") (object no_members) ≡ []
+no_members_told = refl
+
+null_told : fact_of_members (codes "tracked") null ≡ []
+null_told = refl
+
+members_told : fact_of_members (codes "tracked") (object (member_then (codes "n") null no_members))
+    ≡ fact_text (codes "tracked") (codes "{\"n\":null}")
+members_told = refl
 
 -- whose rows they are
 own : rows_of (codes "A") (done ∷ row (codes "B") [] Status.Failed null null ∷ []) ≡ done ∷ []

@@ -5,6 +5,7 @@ use Rattle.wf_html.specs.Html.{Piece, said, with_text}
 use Rattle.wf_html.specs.declared.tag.Tag.{Tag}
 use Rattle.wf_record.specs.Record.{RowTree, find_row, status_name}
 use Rattle.wf_record.specs.declared.attempt.Try.{Try}
+use Rattle.wf_record.specs.declared.status.Status.{Status}
 use Rattle.wf_val.specs.ValueOrder.{order}
 use Rattle.wf_val.specs.ValueTree.{ValueTree}
 use Rattle.wf_shown.specs.declared.change.Change.{Change}
@@ -40,20 +41,25 @@ same_row r s =
 
 -- what became of the row, where the earlier record has one of its address; `closes` says whether it is a Scope's, an If's or a Switch's
 abbrev pub changed : Bool → Option RowTree → RowTree → Change
-changed closes None r = Change.Redone
+changed closes None r = Change.Redone None
 changed closes (Some old) r =
     if same_row old r then Change.Kept
-    else if closes && same_value old.row.inputs r.row.inputs then Change.Closed
-    else Change.Redone
+    else if closes && same_value old.row.inputs r.row.inputs then Change.Closed old.row.status
+    else Change.Redone (Some old.row.status)
 
 -- and where there is an earlier record, of these rows
 abbrev pub change_of : Bool → Option (List RowTree) → RowTree → Option Change
 change_of closes None r = None
 change_of closes (Some rows) r = Some (changed closes (find_row r.address rows) r)
 
+-- and how it ended before
+abbrev pub was : List ℕ → Status → List ℕ
+was word s = word ++ (codes ", was " ++ status_name s)
+
 -- the mark of that
 abbrev pub change_mark : Option Change → List Piece
 change_mark None = []
 change_mark (Some Change.Kept) = said (codes " ") ∷ with_text Tag.Kept (codes "kept")
-change_mark (Some Change.Closed) = said (codes " ") ∷ with_text Tag.Closed (codes "closed again")
-change_mark (Some Change.Redone) = said (codes " ") ∷ with_text Tag.Redone (codes "redone")
+change_mark (Some (Change.Closed s)) = said (codes " ") ∷ with_text Tag.Closed (was (codes "closed again") s)
+change_mark (Some (Change.Redone None)) = said (codes " ") ∷ with_text Tag.Redone (codes "redone")
+change_mark (Some (Change.Redone (Some s))) = said (codes " ") ∷ with_text Tag.Redone (was (codes "redone") s)

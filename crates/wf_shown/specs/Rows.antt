@@ -11,7 +11,7 @@ use Rattle.wf_val.specs.Address.{index_text}
 use Rattle.wf_val.specs.NameOrder.{bytes_cmp}
 use Rattle.wf_shown.specs.Changes.{attempts_text, change_mark, change_of}
 use Rattle.wf_shown.specs.Counts.{counts}
-use Rattle.wf_shown.specs.Facts.{fact, fact_text}
+use Rattle.wf_shown.specs.Facts.{fact, fact_of_members, fact_text}
 use Rattle.wf_shown.specs.Looks.{mark}
 use Rattle.wf_shown.specs.declared.change.Change.{Change}
 
@@ -44,7 +44,7 @@ row_head c r =
 abbrev pub row_facts : RowTree → List Piece
 row_facts r =
     opened Tag.Facts ∷ fact (codes "inputs") r.row.inputs ++ (fact (codes "outputs") r.row.outputs ++ (fact (codes "error") r.row.error
-    ++ (fact (codes "tracked") r.row.tracked ++ (attempts_fact r.row.attempts ++ closed Tag.Facts ∷ []))))
+    ++ (fact_of_members (codes "tracked") r.row.tracked ++ (attempts_fact r.row.attempts ++ closed Tag.Facts ∷ []))))
 
 abbrev pub row_pieces : Option Change → RowTree → List Piece
 row_pieces c r = opened Tag.Fold ∷ row_head c r ++ (row_facts r ++ closed Tag.Fold ∷ [])

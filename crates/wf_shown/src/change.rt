@@ -1,14 +1,14 @@
 //! What became of a row of an earlier record.
-ghost use Rattle.std.specs.Prelude.{◌≡◌, IfOk, option_map};
-ghost use Rattle.wf_html.specs.Html.{written};
+ghost use Rattle.std.specs.Prelude.{◌≡◌, ◌∷◌, IfOk, codes, option_map};
+ghost use Rattle.wf_html.specs.Html.{said, with_text, written};
 ghost use Rattle.wf_record.specs.Seen.{record_tree, row_tree};
-ghost use Rattle.wf_shown.specs.Changes.{change_mark, change_of, changed, same_row, same_value};
+ghost use Rattle.wf_shown.specs.Changes.{change_mark, change_of, changed, same_row, same_value, was};
 ghost use Rattle.wf_val.specs.Seen.{tree};
 
 use crate::attempts::attempts_text;
 use std::alloc::{AllocError, Global};
-use wf_html::{Tag, say, say_in};
-use wf_record::{Record, Row};
+use wf_html::{Tag, close, open, say, say_in};
+use wf_record::{Record, Row, Status};
 use wf_val::Val;
 
 /// What became of a row of an earlier record.
@@ -16,10 +16,10 @@ use wf_val::Val;
 pub enum Change {
     /// It is as it was.
     Kept,
-    /// It is that of a container which kept what it had decided.
-    Closed,
-    /// It was done again.
-    Redone,
+    /// It is that of a container which kept what it had decided, and had this status before.
+    Closed(Status),
+    /// It was done again. It had this status before, where there was one.
+    Redone(Option<Status>),
 }
 
 fn same_value(one: &Val, other: &Val) -> bool
@@ -50,14 +50,14 @@ fn changed(alloc: Global, closes: bool, old: Option<&Row>, row: &Row) -> Result<
     ensures { IfOk result (λ c. c ≡ changed closes (option_map (λ r. row_tree r.now) old.entry) (row_tree row.now)) }
 {
     match old {
-        None => Ok(Change::Redone),
+        None => Ok(Change::Redone(None)),
         Some(old) => {
             if same_row(alloc, old, row)? {
                 Ok(Change::Kept)
             } else if closes && same_value(&old.inputs, &row.inputs) {
-                Ok(Change::Closed)
+                Ok(Change::Closed(old.status))
             } else {
-                Ok(Change::Redone)
+                Ok(Change::Redone(Some(old.status)))
             }
         }
     }
@@ -81,6 +81,19 @@ pub fn change_of(
     }
 }
 
+// A mark that tells how the row ended before.
+#[tactic(auto, using(wf_html::proofs::PieceLemmas::written_append, std::proofs::Common::append_assoc))]
+fn marked_was(bytes: Vec<u8>, tag: Tag, word: &str, status: Status) -> Result<Vec<u8>, AllocError>
+    ensures { IfOk result (λ b. b.items ≡ written bytes.items (said (codes " ") ∷ with_text tag (was word.now status))) }
+{
+    let bytes = say(bytes, " ")?;
+    let bytes = open(bytes, tag)?;
+    let bytes = say(bytes, word)?;
+    let bytes = say(bytes, ", was ")?;
+    let bytes = say(bytes, status.name())?;
+    close(bytes, tag)
+}
+
 /// The mark of what became of a row.
 pub fn change_mark(bytes: Vec<u8>, change: Option<Change>) -> Result<Vec<u8>, AllocError>
     ensures { IfOk result (λ b. b.items ≡ written bytes.items (change_mark change)) }
@@ -88,7 +101,8 @@ pub fn change_mark(bytes: Vec<u8>, change: Option<Change>) -> Result<Vec<u8>, Al
     match change {
         None => Ok(bytes),
         Some(Change::Kept) => say_in(say(bytes, " ")?, Tag::Kept, "kept"),
-        Some(Change::Closed) => say_in(say(bytes, " ")?, Tag::Closed, "closed again"),
-        Some(Change::Redone) => say_in(say(bytes, " ")?, Tag::Redone, "redone"),
+        Some(Change::Closed(status)) => marked_was(bytes, Tag::Closed, "closed again", status),
+        Some(Change::Redone(None)) => say_in(say(bytes, " ")?, Tag::Redone, "redone"),
+        Some(Change::Redone(Some(status))) => marked_was(bytes, Tag::Redone, "redone", status),
     }
 }

@@ -1,7 +1,7 @@
 //! Members with their values.
 ghost use Rattle.std.specs.Prelude.{◌≡◌, IfOk};
 ghost use Rattle.wf_html.specs.Html.{written};
-ghost use Rattle.wf_shown.specs.Facts.{fact, fact_text};
+ghost use Rattle.wf_shown.specs.Facts.{fact, fact_of_members, fact_text, is_bare};
 ghost use Rattle.wf_val.specs.Seen.{tree};
 
 use std::alloc::{AllocError, Global};
@@ -32,4 +32,29 @@ pub fn fact(alloc: Global, bytes: Vec<u8>, name: &str, value: &Val) -> Result<Ve
             fact_text(bytes, name, &text)
         }
     }
+}
+
+#[tactic(auto, using(crate::proofs::FactLemmas::bare_by_length))]
+fn is_bare(value: &Val) -> bool
+    ensures { result ≡ is_bare (tree value.now) }
+{
+    match value {
+        Val::Obj(fields) => fields.len() == 0,
+        _ => false,
+    }
+}
+
+/// The same of an object of values by their names; nothing where it has no member.
+pub fn fact_of_members(
+    alloc: Global,
+    bytes: Vec<u8>,
+    name: &str,
+    value: &Val,
+) -> Result<Vec<u8>, AllocError>
+    ensures { IfOk result (λ b. b.items ≡ written bytes.items (fact_of_members name.now (tree value.now))) }
+{
+    if is_bare(value) {
+        return Ok(bytes);
+    }
+    fact(alloc, bytes, name, value)
 }

@@ -21,7 +21,7 @@ mod look;
 mod row;
 mod rows;
 
-pub use facts::{fact, fact_text};
+pub use facts::{fact, fact_of_members, fact_text};
 pub use finding::rows_of;
 pub use laws::{each_row_is_shown_or_counted, rows_are_nested, rows_are_split_by_names};
 pub use look::{look_of, look_of_rows, mark};

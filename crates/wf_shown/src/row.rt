@@ -6,7 +6,7 @@ ghost use Rattle.wf_shown.specs.Rows.{attempts_fact, place_text, row_facts, row_
 
 use crate::attempts::attempts_text;
 use crate::change::{Change, change_mark};
-use crate::facts::{fact, fact_text};
+use crate::facts::{fact, fact_of_members, fact_text};
 use crate::look::mark;
 use std::alloc::{AllocError, Global};
 use wf_html::{Tag, close, open, say, say_in};
@@ -66,7 +66,7 @@ fn row_facts(alloc: Global, bytes: Vec<u8>, row: &Row) -> Result<Vec<u8>, AllocE
     let bytes = fact(alloc, bytes, "inputs", &row.inputs)?;
     let bytes = fact(alloc, bytes, "outputs", &row.outputs)?;
     let bytes = fact(alloc, bytes, "error", &row.error)?;
-    let bytes = fact(alloc, bytes, "tracked", &row.tracked)?;
+    let bytes = fact_of_members(alloc, bytes, "tracked", &row.tracked)?;
     let bytes = attempts_fact(alloc, bytes, &row.attempts)?;
     close(bytes, Tag::Facts)
 }
