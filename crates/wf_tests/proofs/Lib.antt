@@ -6,3 +6,4 @@ mod LoadLemmas
 mod TestedLemmas
 mod ReadLemmas
 mod EndLemmas
+mod WorkedRows
