@@ -6,6 +6,7 @@ use Rattle.wf_outside.specs.Outside.{Held}
 use Rattle.wf_talk.specs.Written.{Writes}
 use Rattle.wf_tap.specs.declared.report.Results.{Results}
 use Rattle.wf_tests.proofs.ReadLemmas.{all_read}
+use Rattle.wf_tests.specs.Asked.{AnyAsks, IsAsked, TellsOf}
 use Rattle.wf_tests.specs.Loaded.{Stopped}
 use Rattle.wf_tests.specs.Named.{HasReadAll}
 use Rattle.wf_tests.specs.Runs.{Says}
@@ -31,9 +32,10 @@ module _ (held : Held) (old new : List (List ℕ)) where
   as_memory Stop.Memory is = is
 
   module _ (says : Says) (words : List (List ℕ)) (before after : Option (List ℕ)) (result : ℕ) where
-    -- a read failed, whose name was written
+    -- a read failed of a file that is asked for, and its name was written
     abbrev HasFailed : Type 0
-    HasFailed = (name : List ℕ) × (new ≡ old ++ name ∷ []) × Appends before after (stop_line (Stop.CannotRead name))
+    HasFailed =
+        (name : List ℕ) × IsAsked held words name × (new ≡ old ++ name ∷ []) × Appends before after (stop_line (Stop.CannotRead name))
 
     -- where one failed the status tells it
     abbrev IsUnread : Type 0
@@ -44,11 +46,20 @@ module _ (held : Held) (old new : List (List ℕ)) where
     beyond status text ge (inl w) le = omega (arith, ge, w.0, le)
     beyond status text ge (inr w) le = omega (arith, w.0, le)
 
-    pub stopped : (stop : Stop) → Stopped held old new stop
+    asked-of : (wish : Wish) → wish_of words ≡ Some wish → (stop : Stop) → TellsOf (AnyAsks held wish.files) stop
+        → TellsOf (IsAsked held words) stop
+    asked-of wish asked (Stop.CannotRead name) told = (wish, asked, told)
+    asked-of wish asked (Stop.TooLong name) told = (wish, asked, told)
+    asked-of wish asked (Stop.NoTests file words') told = (wish, asked, told)
+    asked-of wish asked Stop.Memory told = tt
+
+    pub stopped : (wish : Wish) (stop : Stop) → wish_of words ≡ Some wish → Stopped held old new stop
+        → TellsOf (AnyAsks held wish.files) stop
         → (Writes before after (stop_status stop) (stop_line stop) result ⊎ Writes before after 5 (stop_line Stop.Memory) result)
         → IsTested says held words old new before after result
-    stopped stop is (inl w) = record { end' = End.Stops stop; comes = is; writes = w }
-    stopped stop is (inr w) = record { end' = End.Stops Stop.Memory; comes = as_memory stop is; writes = w }
+    stopped wish stop asked is told (inl w) =
+        record { end' = End.Stops stop; comes = (is, asked-of wish asked stop told); writes = w }
+    stopped wish stop asked is told (inr w) = record { end' = End.Stops Stop.Memory; comes = (as_memory stop is, tt); writes = w }
 
     pub reported : (wish : Wish) (results : List Results) (text : List ℕ) (pass : Bool) → wish_of words ≡ Some wish → new ≡ old
         → HasReport says held wish results text pass → Writes before after (report_status pass) text result
@@ -100,28 +111,31 @@ module _ (held : Held) (old new : List (List ℕ)) where
 
     three-of : (end' : End) → Comes says held words old new end' → status_of end' ≡ 3 → Appends before after (text_of end')
         → HasFailed
-    three-of (End.Stops (Stop.CannotRead name)) comes is wrote = (name, comes, wrote)
+    three-of (End.Stops (Stop.CannotRead name)) comes is wrote = (name, comes.1, comes.0, wrote)
     three-of End.Misused comes is wrote = absurd (omega (arith, is))
     three-of (End.Stops (Stop.TooLong name)) comes is wrote = absurd (omega (arith, is))
     three-of (End.Stops (Stop.NoTests file words')) comes is wrote = absurd (omega (arith, is))
     three-of (End.Stops Stop.Memory) comes is wrote = absurd (omega (arith, is))
     three-of (End.Reports junit results) comes is wrote = absurd (reports (passed results) is)
 
-    -- 3 is answered where a read failed, whose name was written
+    -- 3 is answered where a read failed of a file that is asked for, whose name was written
     pub three_failed : IsTested says held words old new before after result → result ≡ 3 → HasFailed
     three_failed t is =
         let w = written 3 (status_of t.end') (text_of t.end') (λ four. omega (arith, four)) t.writes is in
         three-of t.end' t.comes w.0 w.1
 
+    spent : Stopped held old new Stop.Memory → Writes before after 5 (stop_line Stop.Memory) result → IsUnread
+    spent (inl same) w = inl same
+    spent (inr failed) (inl w) = inr (failed.0, failed.1, inr (inr w.0))
+    spent (inr failed) (inr w) = inr (failed.0, failed.1, inr (inl w.0))
+
     unread-of : (end' : End) → Comes says held words old new end' → Writes before after (status_of end') (text_of end') result → IsUnread
     unread-of End.Misused comes w = inl comes.1
-    unread-of (End.Stops (Stop.CannotRead name)) comes (inl w) = inr (name, comes, inl w.0)
-    unread-of (End.Stops (Stop.CannotRead name)) comes (inr w) = inr (name, comes, inr (inl w.0))
-    unread-of (End.Stops (Stop.TooLong name)) comes w = inl comes.0
-    unread-of (End.Stops (Stop.NoTests file words')) comes w = inl comes.0
-    unread-of (End.Stops Stop.Memory) (inl same) w = inl same
-    unread-of (End.Stops Stop.Memory) (inr failed) (inl w) = inr (failed.0, failed.1, inr (inr w.0))
-    unread-of (End.Stops Stop.Memory) (inr failed) (inr w) = inr (failed.0, failed.1, inr (inl w.0))
+    unread-of (End.Stops (Stop.CannotRead name)) comes (inl w) = inr (name, comes.0, inl w.0)
+    unread-of (End.Stops (Stop.CannotRead name)) comes (inr w) = inr (name, comes.0, inr (inl w.0))
+    unread-of (End.Stops (Stop.TooLong name)) comes w = inl comes.0.0
+    unread-of (End.Stops (Stop.NoTests file words')) comes w = inl comes.0.0
+    unread-of (End.Stops Stop.Memory) comes w = spent comes.0 w
     unread-of (End.Reports junit results) comes w = inl comes.0
 
     -- where a read failed 3 is answered, 4 and 5 apart

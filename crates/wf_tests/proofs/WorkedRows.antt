@@ -1,5 +1,5 @@
 -- The definitions of the program of tests, at worked names, words, schedules and ends.
-use Rattle.std.proofs.Common.{◌≡◌, ℕ, List, [], ◌∷◌, true, false, Some, None, refl}
+use Rattle.std.proofs.Common.{◌≡◌, ℕ, List, [], ◌∷◌, true, false, Some, None, Ok, inl, inr, refl, sym, ap, arith}
 use Rattle.std.specs.Fmt.{digits}
 use Rattle.std.specs.Prelude.{codes, ⊤}
 use Rattle.std.specs.Str.Lossy.{utf8_lossy}
@@ -9,10 +9,12 @@ use Rattle.wf_suite.specs.declared.suite.Given.{Given}
 use Rattle.wf_suite.specs.declared.suite.Kind.{Kind}
 use Rattle.wf_tap.specs.declared.report.Failure.{Failure}
 use Rattle.wf_tap.specs.declared.report.Outcome.{Outcome}
+use Rattle.wf_suite.specs.declared.suite.Suite.{Suite}
+use Rattle.wf_tests.specs.Asked.{IsAsked}
 use Rattle.wf_tests.specs.Command.{further_of, handed, history_of, inputs_in, seed_of, words_of}
 use Rattle.wf_tests.specs.Named.{inputs_file, schedule_file}
 use Rattle.wf_tests.specs.Names.{beside, folder}
-use Rattle.wf_tests.specs.Reading.{json_words, suite_words}
+use Rattle.wf_tests.specs.Reading.{json_words, suite_in, suite_words}
 use Rattle.wf_tests.specs.Schedules.{lines_behind, start}
 use Rattle.wf_tests.specs.Served.{End, status_of, text_of}
 use Rattle.wf_tests.specs.Words.{wish_of}
@@ -151,6 +153,26 @@ fault-twice = refl
 
 fault-no_test : suite_words (SuiteFault.NoTest (codes "a")) ≡ codes "NoTest \"a\""
 fault-no_test = refl
+
+-- ---- files that are asked for
+
+abbrev one_word : List (List ℕ)
+one_word = codes "a/tests.json" ∷ []
+
+asked-a_word : IsAsked None one_word (codes "a/tests.json")
+asked-a_word = (record { junit = false; files = one_word }, refl, (codes "a/tests.json", (0, omega arith, refl), inl refl))
+
+asked-a_definition : (bytes : List ℕ) (suite : Suite) → suite_in bytes ≡ Ok suite → suite.definition ≡ codes "c.json"
+    → IsAsked None one_word (utf8_lossy (codes "a/c.json"))
+asked-a_definition bytes suite tests named = (
+  record { junit = false; files = one_word },
+  refl,
+  (
+    codes "a/tests.json",
+    (0, omega arith, refl),
+    inr (bytes, suite, tt, tests, inl (sym (ap (beside (codes "a/tests.json")) named))),
+  ),
+)
 
 -- ---- ends
 

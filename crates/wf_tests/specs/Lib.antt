@@ -7,5 +7,6 @@ pub mod Schedules
 pub mod Runs
 pub mod Loaded
 pub mod Named
+pub mod Asked
 pub mod Served
 pub mod Kept

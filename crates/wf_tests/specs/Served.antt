@@ -9,6 +9,7 @@ use Rattle.wf_tap.specs.Tap.{tap_of}
 use Rattle.wf_tap.specs.declared.report.Failure.{Failure}
 use Rattle.wf_tap.specs.declared.report.Outcome.{Outcome}
 use Rattle.wf_tap.specs.declared.report.Results.{Results}
+use Rattle.wf_tests.specs.Asked.{IsAsked, TellsOf}
 use Rattle.wf_tests.specs.Loaded.{AreLoaded, Stopped}
 use Rattle.wf_tests.specs.Runs.{AreRun, Says}
 use Rattle.wf_tests.specs.Words.{Wish, wish_of}
@@ -102,10 +103,10 @@ pub record HasReport (says : Says) (held : Held) (wish : Wish) (results : List R
   pub reported : text ≡ report_of wish.junit results
   pub told : pass ≡ passed results
 
--- The words come to this end, and do this to the list of names whose reads failed.
+-- The words come to this end, and do this to the list of names whose reads failed. Where no test runs a file is told of that is asked for.
 abbrev pub Comes : Says → Held → List (List ℕ) → List (List ℕ) → List (List ℕ) → End → Type 0
 Comes says held words old new Misused = (wish_of words ≡ None) × (new ≡ old)
-Comes says held words old new (Stops stop) = Stopped held old new stop
+Comes says held words old new (Stops stop) = Stopped held old new stop × TellsOf (IsAsked held words) stop
 Comes says held words old new (Reports junit results) = (new ≡ old) × HasTested says held words junit results
 
 -- A CALL: its words came to an end, whose text it wrote.

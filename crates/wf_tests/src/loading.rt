@@ -1,7 +1,10 @@
 //! The reading of files, before any test runs.
-ghost use Rattle.std.specs.Prelude.{◌≡◌, ◌≤◌, ◌++◌, Err, IfErr, IfOk, Ok, List, ℕ};
+ghost use Rattle.std.specs.Prelude.{◌≡◌, ◌≤◌, ◌++◌, Err, IfErr, IfOk, Ok, List, ℕ, option_map};
 ghost use Rattle.wf_json.specs.Json.{string};
+ghost use Rattle.wf_tests.specs.Asked.{AnyAsks, FileAsks, IsNamed, SuiteNames, TellsOf, TestNames};
 ghost use Rattle.wf_tests.specs.Loaded.{AreLoaded, AreSources, HasRead, IsLoaded, Stopped};
+ghost use Rattle.wf_tests.specs.Named.{file_of, inputs_file, schedule_file};
+ghost use Rattle.wf_tests.specs.Names.{beside};
 ghost use Rattle.wf_tests.specs.Reading.{json_words, suite_in, suite_words};
 ghost use Rattle.wf_tests.specs.Sources.{source_named};
 ghost use Rattle.wf_tests.specs.declared.stop.Stop.TheVariants.{Memory};
@@ -73,6 +76,7 @@ fn read<F: Files>(alloc: Global, files: &mut F, name: &Text, limit: u64) -> Resu
     requires { 4194304 ≤ limit }
     ensures bytes { IfOk result (λ bytes. HasRead (F.held files.old) name.now bytes.items × (F.failed files.new ≡ F.failed files.old)) }
     ensures stop { IfErr result (λ stop. Stopped (F.held files.old) (F.failed files.old) (F.failed files.new) stop) }
+    ensures told { IfErr result (λ stop. TellsOf (λ path. path ≡ name.now) stop) }
     ensures same { F.held files.new ≡ F.held files.old }
 {
     match files.read(name, limit) {
@@ -96,6 +100,7 @@ fn with_named<F: Files>(
     requires read { AreSources (F.held files.old) file.now sources }
     ensures sources { IfOk result (λ s. AreSources (F.held files.old) file.now s × (F.failed files.new ≡ F.failed files.old)) }
     ensures stop { IfErr result (λ stop. Stopped (F.held files.old) (F.failed files.old) (F.failed files.new) stop) }
+    ensures told { IfErr result (λ stop. TellsOf (λ path. path ≡ beside file.now name.now) stop) }
     ensures same { F.held files.new ≡ F.held files.old }
 {
     if sources.get(name).is_some() {
@@ -106,41 +111,52 @@ fn with_named<F: Files>(
     Ok(sources.with(alloc, name, bytes)?)
 }
 
-// With the inputs that a test names, if it names them.
-fn with_inputs<F: Files>(
+// With the file of a name, if there is one.
+fn with_any<F: Files>(
     alloc: Global,
     files: &mut F,
     file: &Text,
-    given: &Given,
+    name: Option<&Text>,
     sources: Sources,
 ) -> Result<Sources, Stop>
     requires { AreSources (F.held files.old) file.now sources }
     ensures sources { IfOk result (λ s. AreSources (F.held files.old) file.now s × (F.failed files.new ≡ F.failed files.old)) }
     ensures stop { IfErr result (λ stop. Stopped (F.held files.old) (F.failed files.old) (F.failed files.new) stop) }
+    ensures told { IfErr result (λ stop. TellsOf (IsNamed file.now (option_map (λ n. n.now) name.entry)) stop) }
     ensures same { F.held files.new ≡ F.held files.old }
 {
-    match given {
-        Given::File(name) => with_named(alloc, files, file, name, LONG, sources),
-        Given::Itself(_) => Ok(sources),
+    match name {
+        Some(name) => with_named(alloc, files, file, name, LONG, sources),
+        None => Ok(sources),
     }
 }
 
-// With the schedule that a test names, if it names one.
-fn with_schedule<F: Files>(
-    alloc: Global,
-    files: &mut F,
-    file: &Text,
-    schedule: &Option<Text>,
-    sources: Sources,
-) -> Result<Sources, Stop>
-    requires { AreSources (F.held files.old) file.now sources }
-    ensures sources { IfOk result (λ s. AreSources (F.held files.old) file.now s × (F.failed files.new ≡ F.failed files.old)) }
-    ensures stop { IfErr result (λ stop. Stopped (F.held files.old) (F.failed files.old) (F.failed files.new) stop) }
-    ensures same { F.held files.new ≡ F.held files.old }
+fn file_of(given: &Given) -> Option<&Text>
+    ensures { option_map (λ n. n.now) result ≡ file_of given.now }
 {
-    match schedule {
-        Some(name) => with_named(alloc, files, file, name, LONG, sources),
-        None => Ok(sources),
+    match given {
+        Given::File(name) => Some(name),
+        Given::Itself(_) => None,
+    }
+}
+
+fn inputs_file(kind: &Kind) -> Option<&Text>
+    ensures { option_map (λ n. n.now) result ≡ inputs_file kind.now }
+{
+    match kind {
+        Kind::Check => None,
+        Kind::Run { inputs, .. } => file_of(inputs),
+        Kind::Again { inputs, .. } => file_of(inputs),
+    }
+}
+
+fn schedule_file(kind: &Kind) -> Option<&Text>
+    ensures { option_map (λ n. n.now) result ≡ schedule_file kind.now }
+{
+    match kind {
+        Kind::Check => None,
+        Kind::Run { schedule, .. } => schedule.as_ref(),
+        Kind::Again { schedule, .. } => schedule.as_ref(),
     }
 }
 
@@ -155,27 +171,11 @@ fn with_test<F: Files>(
     requires { AreSources (F.held files.old) file.now sources }
     ensures sources { IfOk result (λ s. AreSources (F.held files.old) file.now s × (F.failed files.new ≡ F.failed files.old)) }
     ensures stop { IfErr result (λ stop. Stopped (F.held files.old) (F.failed files.old) (F.failed files.new) stop) }
+    ensures told { IfErr result (λ stop. TellsOf (TestNames file.now test.now) stop) }
     ensures same { F.held files.new ≡ F.held files.old }
 {
-    match &test.kind {
-        Kind::Check => Ok(sources),
-        Kind::Run {
-            inputs,
-            schedule,
-            ..
-        } => {
-            let sources = with_inputs(alloc, files, file, inputs, sources)?;
-            with_schedule(alloc, files, file, schedule, sources)
-        }
-        Kind::Again {
-            inputs,
-            schedule,
-            ..
-        } => {
-            let sources = with_inputs(alloc, files, file, inputs, sources)?;
-            with_schedule(alloc, files, file, schedule, sources)
-        }
-    }
+    let sources = with_any(alloc, files, file, inputs_file(&test.kind), sources)?;
+    with_any(alloc, files, file, schedule_file(&test.kind), sources)
 }
 
 // The files that all tests of a file name.
@@ -187,6 +187,7 @@ fn sources_of<F: Files>(
 ) -> Result<Sources, Stop>
     ensures sources { IfOk result (λ s. AreSources (F.held files.old) file.now s × (F.failed files.new ≡ F.failed files.old)) }
     ensures stop { IfErr result (λ stop. Stopped (F.held files.old) (F.failed files.old) (F.failed files.new) stop) }
+    ensures told { IfErr result (λ stop. TellsOf (SuiteNames file.now suite.now) stop) }
     ensures same { F.held files.new ≡ F.held files.old }
 {
     let none = Sources::new(alloc);
@@ -210,6 +211,7 @@ fn suite_of<F: Files>(alloc: Global, files: &mut F, file: &Text) -> Result<Suite
     ensures suite { IfOk result (λ suite. ((bytes : List ℕ) × HasRead (F.held files.old) file.now bytes × (suite_in bytes ≡ Ok suite))
         × (F.failed files.new ≡ F.failed files.old)) }
     ensures stop { IfErr result (λ stop. Stopped (F.held files.old) (F.failed files.old) (F.failed files.new) stop) }
+    ensures told { IfErr result (λ stop. TellsOf (λ path. path ≡ file.now) stop) }
     ensures same { F.held files.new ≡ F.held files.old }
 {
     let bytes = read(alloc, files, file, SHORT)?;
@@ -226,6 +228,7 @@ fn suite_of<F: Files>(alloc: Global, files: &mut F, file: &Text) -> Result<Suite
 fn load<F: Files>(alloc: Global, files: &mut F, file: &Text) -> Result<Loaded, Stop>
     ensures loaded { IfOk result (λ loaded. IsLoaded (F.held files.old) file.now loaded × (F.failed files.new ≡ F.failed files.old)) }
     ensures stop { IfErr result (λ stop. Stopped (F.held files.old) (F.failed files.old) (F.failed files.new) stop) }
+    ensures told { IfErr result (λ stop. TellsOf (FileAsks (F.held files.old) file.now) stop) }
     ensures same { F.held files.new ≡ F.held files.old }
 {
     let suite = suite_of(alloc, files, file)?;
@@ -246,6 +249,7 @@ pub(crate) fn load_all<F: Files>(
 ) -> Result<Vec<Loaded>, Stop>
     ensures loaded { IfOk result (λ all. AreLoaded (F.held files.old) names.now all.items × (F.failed files.new ≡ F.failed files.old)) }
     ensures stop { IfErr result (λ stop. Stopped (F.held files.old) (F.failed files.old) (F.failed files.new) stop) }
+    ensures told { IfErr result (λ stop. TellsOf (AnyAsks (F.held files.old) names.now) stop) }
     ensures same { F.held files.new ≡ F.held files.old }
 {
     let mut all = Vec::new(alloc);

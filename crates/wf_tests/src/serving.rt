@@ -4,6 +4,7 @@ ghost use Rattle.std.specs.Io.KnownBytes.{Appends};
 ghost use Rattle.wf_json.specs.Json.{string};
 ghost use Rattle.wf_judged.specs.declared.lines.Ended.{Ended};
 ghost use Rattle.wf_outside.specs.Outside.{Rose};
+ghost use Rattle.wf_tests.specs.Asked.{AnyAsks, IsAsked, TellsOf};
 ghost use Rattle.wf_tests.specs.Loaded.{Stopped};
 ghost use Rattle.wf_tests.specs.Named.{HasReadAll};
 ghost use Rattle.wf_tests.specs.Served.{AreTested, HasPassed, HasReport, IsTested, all_pass, passed, report_of, report_status, stop_line};
@@ -108,6 +109,7 @@ fn make_report<F: Files, P: Program>(
     ensures report { IfOk result (λ r. (F.failed files.new ≡ F.failed files.old) × ((results : List Results)
         × HasReport P.says (F.held files.old) (wish_tree asked.entry) results r.text r.passed)) }
     ensures stop { IfErr result (λ stop. Stopped (F.held files.old) (F.failed files.old) (F.failed files.new) stop) }
+    ensures told { IfErr result (λ stop. TellsOf (AnyAsks (F.held files.old) asked.entry.files.now) stop) }
     ensures same { F.held files.new ≡ F.held files.old }
 {
     let loaded = load_all(alloc, files, asked.files)?;
@@ -232,7 +234,8 @@ pub fn serve_tests<F: Files, P: Program, O: Sink>(
 ) -> u8
     ensures status { result ≤ 6 }
 
-    // The words come to one end: they are none, a file stops them, or the tests of all files were run and the report is written.
+    // The words come to one end: they are none, a file stops them that they name or that is named in a file of tests, or the tests of all
+    // files were run and the report is written.
     ensures tested { IsTested P.says (F.held files.old) words.now (F.failed files.old) (F.failed files.new) (O.taken out.old)
         (O.taken out.new) result }
 
@@ -242,8 +245,9 @@ pub fn serve_tests<F: Files, P: Program, O: Sink>(
     // 0 and 1 come only where each file of tests was read that the words name, and beside it each file that one of its tests names.
     ensures read { result ≤ 1 → HasReadAll (F.held files.old) words.now }
 
-    // 3 comes where a read failed, whose name was written, and always there, 4 and 5 apart.
-    ensures three { result ≡ 3 → (name : List ℕ) × (F.failed files.new ≡ F.failed files.old ++ name ∷ [])
+    // 3 comes where the read failed of a file that is asked for, whose name was written, and always there, 4 and 5 apart.
+    ensures three { result ≡ 3 → (name : List ℕ) × IsAsked (F.held files.old) words.now name
+        × (F.failed files.new ≡ F.failed files.old ++ name ∷ [])
         × Appends (O.taken out.old) (O.taken out.new) (stop_line (Stop.CannotRead name)) }
     ensures unread { (F.failed files.new ≡ F.failed files.old)
         ⊎ ((name : List ℕ) × (F.failed files.new ≡ F.failed files.old ++ name ∷ [])

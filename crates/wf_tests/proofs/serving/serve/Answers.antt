@@ -16,4 +16,5 @@ pub returns-in-Err-clause-tested : goal.returns-in-Err-clause-tested
 returns-in-Err-clause-tested g c =
     stopped (g.F.Files.held c.args.files.now) (g.F.Files.failed c.args.files.now) (g.F.Files.failed c.make_report.new.files)
     g.P.Program.says c.args.words.now (g.O.Sink.taken c.args.out.now) (g.O.Sink.taken c.tell_stop.new.out) c.tell_stop.result
-    c.in-Err.stop c.in-Err.ensures.stop c.tell_stop.ensures.writes
+    (wish_tree c.in-Some.asked) c.in-Err.stop (sym c.in-Some.ensures) c.in-Err.ensures.stop c.in-Err.ensures.told
+    c.tell_stop.ensures.writes
