@@ -9,7 +9,7 @@ use Rattle.wf_tap.specs.Tap.{tap_of}
 use Rattle.wf_tap.specs.declared.report.Failure.{Failure}
 use Rattle.wf_tap.specs.declared.report.Outcome.{Outcome}
 use Rattle.wf_tap.specs.declared.report.Results.{Results}
-use Rattle.wf_tests.specs.Asked.{IsAsked, TellsOf}
+use Rattle.wf_tests.specs.Asked.{AnyAsks, TellsOf}
 use Rattle.wf_tests.specs.Loaded.{AreLoaded, Stopped}
 use Rattle.wf_tests.specs.Runs.{AreRun, Says}
 use Rattle.wf_tests.specs.Words.{Wish, wish_of}
@@ -88,12 +88,19 @@ pub record HasTested (says : Says) (held : Held) (words : List (List ℕ)) (juni
   pub read : AreLoaded held files loaded
   pub tested : AreTested says loaded results
 
--- All tests of the files that the words name were run, and passed.
-pub record HasPassed (says : Says) (held : Held) (words : List (List ℕ)) : Type 0 where
+-- All tests of the files that the words name were run, and whether they passed is this.
+pub record HasRun (says : Says) (held : Held) (words : List (List ℕ)) (pass : Bool) : Type 0 where
   pub junit : Bool
   pub results : List Results
   pub tested : HasTested says held words junit results
-  pub pass : passed results ≡ true
+  pub told : passed results ≡ pass
+
+-- They all passed; one of them failed.
+abbrev pub HasPassed : Says → Held → List (List ℕ) → Type 0
+HasPassed says held words = HasRun says held words true
+
+abbrev pub HasFailed : Says → Held → List (List ℕ) → Type 0
+HasFailed says held words = HasRun says held words false
 
 -- This is the report of all tests of the files that are wished, and says whether they passed.
 pub record HasReport (says : Says) (held : Held) (wish : Wish) (results : List Results) (text : List ℕ) (pass : Bool) : Type 0 where
@@ -103,10 +110,15 @@ pub record HasReport (says : Says) (held : Held) (wish : Wish) (results : List R
   pub reported : text ≡ report_of wish.junit results
   pub told : pass ≡ passed results
 
--- The words come to this end, and do this to the list of names whose reads failed. Where no test runs a file is told of that is asked for.
+-- No test of the files that the words name runs, for this cause: where it tells of a file, that is asked for.
+abbrev pub StopsBy : Held → List (List ℕ) → List (List ℕ) → List (List ℕ) → Stop → Type 0
+StopsBy held words old new stop =
+    (wish : Wish) × (wish_of words ≡ Some wish) × Stopped held old new stop × TellsOf (AnyAsks held wish.files) stop
+
+-- The words come to this end, and do this to the list of names whose reads failed.
 abbrev pub Comes : Says → Held → List (List ℕ) → List (List ℕ) → List (List ℕ) → End → Type 0
 Comes says held words old new Misused = (wish_of words ≡ None) × (new ≡ old)
-Comes says held words old new (Stops stop) = Stopped held old new stop × TellsOf (IsAsked held words) stop
+Comes says held words old new (Stops stop) = StopsBy held words old new stop
 Comes says held words old new (Reports junit results) = (new ≡ old) × HasTested says held words junit results
 
 -- A CALL: its words came to an end, whose text it wrote.

@@ -1,5 +1,5 @@
 //! The call of the program of tests.
-ghost use Rattle.std.specs.Prelude.{◌≡◌, ◌≢◌, ◌≤◌, ◌<◌, ◌⊎◌, ◌∷◌, ◌++◌, List, ℕ, [], IfOk, IfErr};
+ghost use Rattle.std.specs.Prelude.{◌≡◌, ◌≢◌, ◌≤◌, ◌<◌, ◌⊎◌, ◌∷◌, ◌++◌, List, ℕ, [], IfOk, IfErr, None};
 ghost use Rattle.std.specs.Io.KnownBytes.{Appends};
 ghost use Rattle.wf_json.specs.Json.{string};
 ghost use Rattle.wf_judged.specs.declared.lines.Ended.{Ended};
@@ -7,11 +7,11 @@ ghost use Rattle.wf_outside.specs.Outside.{Rose};
 ghost use Rattle.wf_tests.specs.Asked.{AnyAsks, IsAsked, TellsOf};
 ghost use Rattle.wf_tests.specs.Loaded.{Stopped};
 ghost use Rattle.wf_tests.specs.Named.{HasReadAll};
-ghost use Rattle.wf_tests.specs.Served.{AreTested, HasPassed, HasReport, IsTested, all_pass, passed, report_of, report_status, stop_line};
-ghost use Rattle.wf_tests.specs.Served.{stop_status};
+ghost use Rattle.wf_tests.specs.Served.{AreTested, HasFailed, HasPassed, HasReport, IsTested, StopsBy, all_pass, passed, report_of};
+ghost use Rattle.wf_tests.specs.Served.{report_status, stop_line, stop_status};
 ghost use Rattle.wf_tests.specs.Runs.{AreRun};
 ghost use Rattle.wf_talk.specs.Written.{Writes};
-ghost use Rattle.wf_tests.specs.Words.{wish_tree};
+ghost use Rattle.wf_tests.specs.Words.{wish_of, wish_tree};
 
 use crate::loading::{Loaded, load_all};
 use crate::program::Program;
@@ -239,11 +239,16 @@ pub fn serve_tests<F: Files, P: Program, O: Sink>(
     ensures tested { IsTested P.says (F.held files.old) words.now (F.failed files.old) (F.failed files.new) (O.taken out.old)
         (O.taken out.new) result }
 
-    // 0 comes only where all of them passed.
+    // 0 comes only where all of them passed, and 1 where one of them failed.
     ensures passed { result ≡ 0 → HasPassed P.says (F.held files.old) words.now }
+    ensures failed { result ≡ 1 → HasFailed P.says (F.held files.old) words.now }
 
     // 0 and 1 come only where each file of tests was read that the words name, and beside it each file that one of its tests names.
     ensures read { result ≤ 1 → HasReadAll (F.held files.old) words.now }
+
+    // 2 comes where the words are none, and always there, 4 apart.
+    ensures two { result ≡ 2 → wish_of words.now ≡ None }
+    ensures misused { wish_of words.now ≡ None → (result ≡ 2) ⊎ (result ≡ 4) }
 
     // 3 comes where the read failed of a file that is asked for, whose name was written, and always there, 4 and 5 apart.
     ensures three { result ≡ 3 → (name : List ℕ) × IsAsked (F.held files.old) words.now name
@@ -256,6 +261,11 @@ pub fn serve_tests<F: Files, P: Program, O: Sink>(
     // 4 comes where the sink's count rose, and always there.
     ensures four { result ≡ 4 → Rose (O.faults out.old) (O.faults out.new) }
     ensures unwritten { O.faults out.old < O.faults out.new → result ≡ 4 }
+
+    // 6 comes where a file that is asked for has more bytes than it may, or one that the words name isn't one of tests; and that was written.
+    ensures six { result ≡ 6 → (stop : Stop) × (6 ≡ stop_status stop)
+        × StopsBy (F.held files.old) words.now (F.failed files.old) (F.failed files.new) stop
+        × Appends (O.taken out.old) (O.taken out.new) (stop_line stop) }
 
     // What the files hold stays as it was.
     ensures files_held { F.held files.new ≡ F.held files.old }
