@@ -1,8 +1,9 @@
 -- How a call ends: with a report, or with why no test runs.
-use Rattle.std.proofs.Common.{◌≡◌, ◌⊎◌, ◌≤◌, ◌∙◌, ℕ, List, [], ◌∷◌, ◌++◌, Bool, true, false, Option, None, Some, inl, inr, refl, sym, ap, subst}
-use Rattle.std.proofs.Common.{arith}
+use Rattle.std.proofs.Common.{◌≡◌, ◌⊎◌, ◌≤◌, ◌∙◌, ℕ, List, [], ◌∷◌, ◌++◌, Bool, true, false, Option, None, Some, inl, inr}
+use Rattle.std.proofs.Common.{refl, sym, ap, subst, arith}
 use Rattle.std.proofs.lemmas.Option.{none-some}
 use Rattle.std.specs.Io.KnownBytes.{Appends}
+use Rattle.std.specs.List.{Contains}
 use Rattle.wf_outside.specs.Outside.{Held}
 use Rattle.wf_talk.specs.Written.{Writes}
 use Rattle.wf_tap.specs.declared.report.Results.{Results}
@@ -47,7 +48,7 @@ module _ (held : Held) (old new : List (List ℕ)) where
     Tested = IsTested says held words old new before after result
 
     pub stopped : (wish : Wish) (stop : Stop) → wish_of words ≡ Some wish → Stopped held old new stop
-        → TellsOf (AnyAsks held wish.files) stop
+        → TellsOf (AnyAsks held wish.files) (Contains wish.files) stop
         → (Writes before after (stop_status stop) (stop_line stop) result ⊎ Writes before after 5 (stop_line Stop.Memory) result)
         → Tested
     stopped wish stop asked is told (inl w) = record { end' = End.Stops stop; comes = (wish, asked, is, told); writes = w }

@@ -10,12 +10,12 @@ use Rattle.wf_tests.specs.Reading.{suite_in}
 use Rattle.wf_tests.specs.Words.{Wish, wish_of}
 use Rattle.wf_tests.specs.declared.stop.Stop.{Stop}
 
--- A stop tells of such a file, or of none.
-abbrev pub TellsOf : (List ℕ → Type 0) → Stop → Type 0
-TellsOf Such (Stop.CannotRead path) = Such path
-TellsOf Such (Stop.TooLong path) = Such path
-TellsOf Such (Stop.NoTests path words) = Such path
-TellsOf Such Stop.Memory = Unit {0}
+-- A stop tells of such a file, or of none; and one that is no file of tests is one of these.
+abbrev pub TellsOf : (List ℕ → Type 0) → (List ℕ → Type 0) → Stop → Type 0
+TellsOf Such OfTests (Stop.CannotRead path) = Such path
+TellsOf Such OfTests (Stop.TooLong path) = Such path
+TellsOf Such OfTests (Stop.NoTests path words) = OfTests path
+TellsOf Such OfTests Stop.Memory = Unit {0}
 
 -- The file of this path has this name beside a file of tests.
 abbrev pub IsNamed : List ℕ → Option (List ℕ) → List ℕ → Type 0

@@ -1,5 +1,6 @@
 -- How a call ends, and what it wrote.
-use Rattle.std.specs.Prelude.{◌≡◌, ℕ, List, [], ◌∷◌, ◌++◌, Bool, true, false, ◌&&◌, Option, None, Some, codes, if◌then◌else◌}
+use Rattle.std.specs.Prelude.{◌≡◌, ℕ, List, [], ◌∷◌, ◌++◌, Bool, true, false, ◌&&◌, Option, None, Some, Contains, codes}
+use Rattle.std.specs.Prelude.{if◌then◌else◌}
 use Rattle.wf_json.specs.Json.{string}
 use Rattle.wf_judged.specs.declared.lines.Ended.{Ended}
 use Rattle.wf_outside.specs.Outside.{Held}
@@ -110,10 +111,11 @@ pub record HasReport (says : Says) (held : Held) (wish : Wish) (results : List R
   pub reported : text ≡ report_of wish.junit results
   pub told : pass ≡ passed results
 
--- No test of the files that the words name runs, for this cause: where it tells of a file, that is asked for.
+-- No test of the files that the words name runs, for this cause: where it tells of a file, that is asked for, and one that is no file of
+-- tests is named by the words.
 abbrev pub StopsBy : Held → List (List ℕ) → List (List ℕ) → List (List ℕ) → Stop → Type 0
 StopsBy held words old new stop =
-    (wish : Wish) × (wish_of words ≡ Some wish) × Stopped held old new stop × TellsOf (AnyAsks held wish.files) stop
+    (wish : Wish) × (wish_of words ≡ Some wish) × Stopped held old new stop × TellsOf (AnyAsks held wish.files) (Contains wish.files) stop
 
 -- The words come to this end, and do this to the list of names whose reads failed.
 abbrev pub Comes : Says → Held → List (List ℕ) → List (List ℕ) → List (List ℕ) → End → Type 0

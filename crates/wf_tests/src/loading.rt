@@ -1,5 +1,5 @@
 //! The reading of files, before any test runs.
-ghost use Rattle.std.specs.Prelude.{◌≡◌, ◌≤◌, ◌++◌, Err, IfErr, IfOk, Ok, List, ℕ, option_map};
+ghost use Rattle.std.specs.Prelude.{◌≡◌, ◌≤◌, ◌++◌, Contains, Err, IfErr, IfOk, Ok, List, ℕ, option_map};
 ghost use Rattle.wf_json.specs.Json.{string};
 ghost use Rattle.wf_tests.specs.Asked.{AnyAsks, FileAsks, IsNamed, SuiteNames, TellsOf, TestNames};
 ghost use Rattle.wf_tests.specs.Loaded.{AreLoaded, AreSources, HasRead, IsLoaded, Stopped};
@@ -76,7 +76,7 @@ fn read<F: Files>(alloc: Global, files: &mut F, name: &Text, limit: u64) -> Resu
     requires { 4194304 ≤ limit }
     ensures bytes { IfOk result (λ bytes. HasRead (F.held files.old) name.now bytes.items × (F.failed files.new ≡ F.failed files.old)) }
     ensures stop { IfErr result (λ stop. Stopped (F.held files.old) (F.failed files.old) (F.failed files.new) stop) }
-    ensures told { IfErr result (λ stop. TellsOf (λ path. path ≡ name.now) stop) }
+    ensures told { IfErr result (λ stop. TellsOf (λ path. path ≡ name.now) (λ _. ⊥) stop) }
     ensures same { F.held files.new ≡ F.held files.old }
 {
     match files.read(name, limit) {
@@ -100,7 +100,7 @@ fn with_named<F: Files>(
     requires read { AreSources (F.held files.old) file.now sources }
     ensures sources { IfOk result (λ s. AreSources (F.held files.old) file.now s × (F.failed files.new ≡ F.failed files.old)) }
     ensures stop { IfErr result (λ stop. Stopped (F.held files.old) (F.failed files.old) (F.failed files.new) stop) }
-    ensures told { IfErr result (λ stop. TellsOf (λ path. path ≡ beside file.now name.now) stop) }
+    ensures told { IfErr result (λ stop. TellsOf (λ path. path ≡ beside file.now name.now) (λ _. ⊥) stop) }
     ensures same { F.held files.new ≡ F.held files.old }
 {
     if sources.get(name).is_some() {
@@ -122,7 +122,7 @@ fn with_any<F: Files>(
     requires { AreSources (F.held files.old) file.now sources }
     ensures sources { IfOk result (λ s. AreSources (F.held files.old) file.now s × (F.failed files.new ≡ F.failed files.old)) }
     ensures stop { IfErr result (λ stop. Stopped (F.held files.old) (F.failed files.old) (F.failed files.new) stop) }
-    ensures told { IfErr result (λ stop. TellsOf (IsNamed file.now (option_map (λ n. n.now) name.entry)) stop) }
+    ensures told { IfErr result (λ stop. TellsOf (IsNamed file.now (option_map (λ n. n.now) name.entry)) (λ _. ⊥) stop) }
     ensures same { F.held files.new ≡ F.held files.old }
 {
     match name {
@@ -171,7 +171,7 @@ fn with_test<F: Files>(
     requires { AreSources (F.held files.old) file.now sources }
     ensures sources { IfOk result (λ s. AreSources (F.held files.old) file.now s × (F.failed files.new ≡ F.failed files.old)) }
     ensures stop { IfErr result (λ stop. Stopped (F.held files.old) (F.failed files.old) (F.failed files.new) stop) }
-    ensures told { IfErr result (λ stop. TellsOf (TestNames file.now test.now) stop) }
+    ensures told { IfErr result (λ stop. TellsOf (TestNames file.now test.now) (λ _. ⊥) stop) }
     ensures same { F.held files.new ≡ F.held files.old }
 {
     let sources = with_any(alloc, files, file, inputs_file(&test.kind), sources)?;
@@ -187,7 +187,7 @@ fn sources_of<F: Files>(
 ) -> Result<Sources, Stop>
     ensures sources { IfOk result (λ s. AreSources (F.held files.old) file.now s × (F.failed files.new ≡ F.failed files.old)) }
     ensures stop { IfErr result (λ stop. Stopped (F.held files.old) (F.failed files.old) (F.failed files.new) stop) }
-    ensures told { IfErr result (λ stop. TellsOf (SuiteNames file.now suite.now) stop) }
+    ensures told { IfErr result (λ stop. TellsOf (SuiteNames file.now suite.now) (λ _. ⊥) stop) }
     ensures same { F.held files.new ≡ F.held files.old }
 {
     let none = Sources::new(alloc);
@@ -211,7 +211,7 @@ fn suite_of<F: Files>(alloc: Global, files: &mut F, file: &Text) -> Result<Suite
     ensures suite { IfOk result (λ suite. ((bytes : List ℕ) × HasRead (F.held files.old) file.now bytes × (suite_in bytes ≡ Ok suite))
         × (F.failed files.new ≡ F.failed files.old)) }
     ensures stop { IfErr result (λ stop. Stopped (F.held files.old) (F.failed files.old) (F.failed files.new) stop) }
-    ensures told { IfErr result (λ stop. TellsOf (λ path. path ≡ file.now) stop) }
+    ensures told { IfErr result (λ stop. TellsOf (λ path. path ≡ file.now) (λ path. path ≡ file.now) stop) }
     ensures same { F.held files.new ≡ F.held files.old }
 {
     let bytes = read(alloc, files, file, SHORT)?;
@@ -228,7 +228,7 @@ fn suite_of<F: Files>(alloc: Global, files: &mut F, file: &Text) -> Result<Suite
 fn load<F: Files>(alloc: Global, files: &mut F, file: &Text) -> Result<Loaded, Stop>
     ensures loaded { IfOk result (λ loaded. IsLoaded (F.held files.old) file.now loaded × (F.failed files.new ≡ F.failed files.old)) }
     ensures stop { IfErr result (λ stop. Stopped (F.held files.old) (F.failed files.old) (F.failed files.new) stop) }
-    ensures told { IfErr result (λ stop. TellsOf (FileAsks (F.held files.old) file.now) stop) }
+    ensures told { IfErr result (λ stop. TellsOf (FileAsks (F.held files.old) file.now) (λ path. path ≡ file.now) stop) }
     ensures same { F.held files.new ≡ F.held files.old }
 {
     let suite = suite_of(alloc, files, file)?;
@@ -249,7 +249,7 @@ pub(crate) fn load_all<F: Files>(
 ) -> Result<Vec<Loaded>, Stop>
     ensures loaded { IfOk result (λ all. AreLoaded (F.held files.old) names.now all.items × (F.failed files.new ≡ F.failed files.old)) }
     ensures stop { IfErr result (λ stop. Stopped (F.held files.old) (F.failed files.old) (F.failed files.new) stop) }
-    ensures told { IfErr result (λ stop. TellsOf (AnyAsks (F.held files.old) names.now) stop) }
+    ensures told { IfErr result (λ stop. TellsOf (AnyAsks (F.held files.old) names.now) (Contains names.now) stop) }
     ensures same { F.held files.new ≡ F.held files.old }
 {
     let mut all = Vec::new(alloc);

@@ -1,5 +1,5 @@
 //! The call of the program of tests.
-ghost use Rattle.std.specs.Prelude.{◌≡◌, ◌≢◌, ◌≤◌, ◌<◌, ◌⊎◌, ◌∷◌, ◌++◌, List, ℕ, [], IfOk, IfErr, None};
+ghost use Rattle.std.specs.Prelude.{◌≡◌, ◌≢◌, ◌≤◌, ◌<◌, ◌⊎◌, ◌∷◌, ◌++◌, List, ℕ, [], Contains, IfOk, IfErr, None};
 ghost use Rattle.std.specs.Io.KnownBytes.{Appends};
 ghost use Rattle.wf_json.specs.Json.{string};
 ghost use Rattle.wf_judged.specs.declared.lines.Ended.{Ended};
@@ -109,7 +109,7 @@ fn make_report<F: Files, P: Program>(
     ensures report { IfOk result (λ r. (F.failed files.new ≡ F.failed files.old) × ((results : List Results)
         × HasReport P.says (F.held files.old) (wish_tree asked.entry) results r.text r.passed)) }
     ensures stop { IfErr result (λ stop. Stopped (F.held files.old) (F.failed files.old) (F.failed files.new) stop) }
-    ensures told { IfErr result (λ stop. TellsOf (AnyAsks (F.held files.old) asked.entry.files.now) stop) }
+    ensures told { IfErr result (λ stop. TellsOf (AnyAsks (F.held files.old) asked.entry.files.now) (Contains asked.entry.files.now) stop) }
     ensures same { F.held files.new ≡ F.held files.old }
 {
     let loaded = load_all(alloc, files, asked.files)?;
@@ -262,7 +262,8 @@ pub fn serve_tests<F: Files, P: Program, O: Sink>(
     ensures four { result ≡ 4 → Rose (O.faults out.old) (O.faults out.new) }
     ensures unwritten { O.faults out.old < O.faults out.new → result ≡ 4 }
 
-    // 6 comes where a file that is asked for has more bytes than it may, or one that the words name isn't one of tests; and that was written.
+    // 6 comes where a file that is asked for has more bytes than it may, or one that the words name isn't one of tests, and that was
+    // written.
     ensures six { result ≡ 6 → (stop : Stop) × (6 ≡ stop_status stop)
         × StopsBy (F.held files.old) words.now (F.failed files.old) (F.failed files.new) stop
         × Appends (O.taken out.old) (O.taken out.new) (stop_line stop) }
