@@ -1,10 +1,11 @@
 -- Levels at worked graphs: A, then B after A, C after A and D after B, whatever the order of their names.
-use Rattle.std.proofs.Common.{◌≡◌, ℕ, List, [], ◌∷◌, true, false, codes, refl}
+use Rattle.std.proofs.Common.{◌≡◌, ℕ, List, [], ◌∷◌, true, false, codes, refl, rules}
 use Rattle.wf_def.specs.ActionTree.{ActionTree, action, terminate, scope, action_trees}
 use Rattle.wf_def.specs.declared.after.After.{After}
 use Rattle.wf_def.specs.declared.after.Statuses.{Statuses}
 use Rattle.wf_drawn.specs.After.{after_pieces}
-use Rattle.wf_drawn.specs.Levels.{depth, levels, levels_of}
+use Rattle.wf_drawn.specs.Below.{AreOrdered}
+use Rattle.wf_drawn.specs.Levels.{depth, level_at, levels_of}
 use Rattle.wf_html.specs.Html.{opened, closed, said}
 use Rattle.wf_html.specs.declared.tag.Tag.{Tag}
 
@@ -43,3 +44,7 @@ others : after_pieces (record { name = codes "A"; number = 0; statuses = record 
     ∷ said (codes " ") ∷ opened Tag.Wanted ∷ said (codes "TimedOut") ∷ closed Tag.Wanted
     ∷ closed Tag.After ∷ []
 others = refl
+
+-- its actions wait for none that waits for them
+ordered : AreOrdered (level_at (0 ∷ 1 ∷ 1 ∷ 2 ∷ [])) diamond
+ordered = record { differ = search rules; below = search rules; fall = search rules }

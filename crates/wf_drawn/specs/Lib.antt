@@ -1,4 +1,5 @@
 pub mod After
+pub mod Below
 pub mod Drawn
 pub mod Kinds
 pub mod Levels
