@@ -51,3 +51,9 @@ pub record IsHead (head : List ℕ) : Type 0 where
   pub style : List ℕ
   pub is : head ≡ opening ++ (style ++ style_end)
   pub no_tag : has style (codes "<") ≡ false
+
+-- how the elements begin that run something, or for which something is fetched
+abbrev pub running : List (List ℕ)
+running =
+    codes "<script" ∷ codes "<iframe" ∷ codes "<object" ∷ codes "<embed" ∷ codes "<link" ∷ codes "<base" ∷ codes "<img" ∷ codes "<svg"
+    ∷ codes "<math" ∷ codes "<video" ∷ codes "<form" ∷ codes "<input" ∷ codes "<a" ∷ []

@@ -1,8 +1,9 @@
 //! What the definitions of pages say, in other words. Each call tells a caller so, and does nothing.
-ghost use Rattle.std.specs.Prelude.{◌≡◌, ◌++◌, ℕ, List, flat_map};
+ghost use Rattle.std.specs.Prelude.{◌≡◌, ◌++◌, ℕ, List, [], false, flat_map};
+ghost use Rattle.std.specs.List.{AllByRecursion};
 ghost use Rattle.wf_html.specs.Html.{Piece, escape, piece_text, written};
 ghost use Rattle.wf_html.specs.Safe.{ReadsAs};
-ghost use Rattle.wf_html.specs.Still.{IsHead, IsStill};
+ghost use Rattle.wf_html.specs.Still.{IsHead, IsStill, has, running};
 ghost use Rattle.wf_html.specs.Tags.{close_text, open_text};
 ghost use Rattle.wf_html.specs.declared.tag.Tag.{Tag};
 
@@ -28,4 +29,10 @@ pub fn a_page_opens_with_its_policy()
 pub fn tags_stand_still()
     ensures opened { (t : Tag) → IsStill (open_text t) }
     ensures closed { (t : Tag) → IsStill (close_text t) }
+{}
+
+/// Whatever is said in a page, no element of it runs anything, or has anything fetched for it: nowhere in its text a `<` is followed by the
+/// name of such a one, in small letters or in capitals.
+pub fn no_page_runs_anything()
+    ensures { (ps : List Piece) → AllByRecursion (λ word. has (written [] ps) word ≡ false) running }
 {}

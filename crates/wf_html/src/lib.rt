@@ -15,7 +15,8 @@ mod tag;
 mod writing;
 
 pub use laws::{
-    a_page_is_its_pieces, a_page_opens_with_its_policy, tags_stand_still, what_is_said_is_read_back,
+    a_page_is_its_pieces, a_page_opens_with_its_policy, no_page_runs_anything, tags_stand_still,
+    what_is_said_is_read_back,
 };
 pub use tag::{Look, Tag};
 pub use writing::{close, open, say, say_bytes, say_in};
