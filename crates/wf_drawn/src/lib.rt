@@ -16,5 +16,6 @@ mod view;
 
 pub use laws::{
     a_page_is_nested, actions_stand_below_what_they_wait_for, each_action_is_drawn_once,
+    each_row_is_drawn_once,
 };
 pub use page::draw;

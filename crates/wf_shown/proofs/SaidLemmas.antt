@@ -161,7 +161,7 @@ rows_say is only closes earlier (r ∷ s ∷ rs) = several_say is only closes ea
 
 -- ---- of names and of places
 
-only_places : (t : Tag) → is_head t ≡ false → is_place t ≡ false
+pub only_places : (t : Tag) → is_head t ≡ false → is_place t ≡ false
 only_places Tag.Name other = absurd (cc)
 only_places Tag.Place other = absurd (cc)
 only_places t other = refl
@@ -171,11 +171,11 @@ only_names Tag.Name other = absurd (cc)
 only_names Tag.Place other = absurd (cc)
 only_names t other = refl
 
-each_place : (rs : List RowTree) → flat_map (place_in is_place) rs ≡ places rs
+pub each_place : (rs : List RowTree) → flat_map (place_in is_place) rs ≡ places rs
 each_place [] = refl
 each_place (r ∷ rs) = ap (λ x. place_text r.address.at ∷ x) (each_place rs)
 
-no_place : (rs : List RowTree) → flat_map (place_in is_name) rs ≡ []
+pub no_place : (rs : List RowTree) → flat_map (place_in is_name) rs ≡ []
 no_place [] = refl
 no_place (r ∷ rs) = no_place rs
 
