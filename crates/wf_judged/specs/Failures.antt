@@ -11,6 +11,7 @@ use Rattle.wf_val.specs.ValueTree.{ValueTree}
 use Rattle.wf_suite.specs.declared.suite.Test.{Test}
 use Rattle.wf_suite.specs.declared.suite.Wanted.{Wanted}
 use Rattle.wf_judged.specs.Lines.{ending_number, is_summary, record_lines, records_text}
+use Rattle.wf_judged.specs.Unanswered.{unanswered}
 use Rattle.wf_judged.specs.Why.{Why, Differs, Says}
 use Rattle.wf_judged.specs.declared.lines.Ended.{Ended}
 
@@ -27,18 +28,22 @@ first_of (line ∷ lines) = line
 abbrev pub quoted : List ℕ → List ℕ
 quoted line = string (utf8_lossy line)
 
--- the status, and the line of a refusal
+-- the status, and the line
 unfoldable pub end_words : ℕ → List ℕ → List ℕ
 end_words status line = codes ", and it ended with " ++ decimal status ++ codes " " ++ quoted line
 
 unfoldable pub zero_words : List ℕ
 zero_words = codes ", and it ended with 0"
 
-abbrev pub ended_so : ℕ → List ℕ → List ℕ
-ended_so status text = if nat_eq status 0 then zero_words else end_words status (first_of (lines_of text))
+abbrev pub ended_with : ℕ → List ℕ → List ℕ
+ended_with status text = end_words status (first_of (lines_of text))
 
-unfoldable pub other_end : List ℕ → ℕ → List ℕ → List ℕ
-other_end wanted status text = codes "expected " ++ wanted ++ ended_so status text
+-- the same without the line where the status is 0, since it may be a record there
+abbrev pub ended_so : ℕ → List ℕ → List ℕ
+ended_so status text = if nat_eq status 0 then zero_words else ended_with status text
+
+unfoldable pub other_end : List ℕ → List ℕ → List ℕ
+other_end wanted ended = codes "expected " ++ wanted ++ ended
 
 -- ---- a check, and a refusal
 
@@ -54,8 +59,13 @@ is_refused line status text = not (nat_eq status 0) && bytes_eq text (line ++ 10
 
 -- ---- records
 
+-- behind differences, and only there, stand the answers that were left out
+abbrev pub and_unanswered : List Why → ValueTree → List Why
+and_unanswered [] record' = []
+and_unanswered (f ∷ fs) record' = (f ∷ fs) ++ unanswered record'
+
 abbrev pub in_value : ValueTree → Result ValueTree JsonFault → List Why
-in_value expected (Ok record') = map Differs (record_differences expected record')
+in_value expected (Ok record') = and_unanswered (map Differs (record_differences expected record')) record'
 in_value expected (Err fault) = Says (codes "a record is no value") ∷ []
 
 -- which record it is, where there are several
@@ -90,12 +100,12 @@ of_records expected lines =
 abbrev pub if_done : List ValueTree → ℕ → List ℕ → List Why
 if_done expected status text =
     if nat_eq status 0 then of_records expected (record_lines (lines_of text))
-    else (Says (other_end (codes "records") status text) ∷ [])
+    else (Says (other_end (codes "records") (ended_with status text)) ∷ [])
 
 -- what is expected isn't so
 abbrev pub of_wanted : Wanted → ℕ → List ℕ → List Why
-of_wanted (Wanted.Accepts n) status text = unless (is_accepted n status text) (other_end (quoted (accepted n)) status text)
-of_wanted (Wanted.Refused line) status text = unless (is_refused line status text) (other_end (quoted line) status text)
+of_wanted (Wanted.Accepts n) status text = unless (is_accepted n status text) (other_end (quoted (accepted n)) (ended_with status text))
+of_wanted (Wanted.Refused line) status text = unless (is_refused line status text) (other_end (quoted line) (ended_so status text))
 of_wanted (Wanted.Records expected) status text = if_done expected status text
 
 -- ---- peaks

@@ -1,3 +1,4 @@
 pub mod Lines
 pub mod Why
+pub mod Unanswered
 pub mod Failures

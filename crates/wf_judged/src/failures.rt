@@ -1,6 +1,6 @@
 //! Failures in plain words.
 ghost use Rattle.std.specs.Prelude.{◌≡◌, ◌++◌, ◌∷◌, [], IfOk, OnOk, bytes_eq, map, string_bytes};
-ghost use Rattle.wf_judged.specs.Failures.{accepted, end_words, ended_so, first_of, of_wanted, other_end, quoted, unless};
+ghost use Rattle.wf_judged.specs.Failures.{accepted, end_words, ended_so, ended_with, first_of, of_wanted, other_end, quoted, unless};
 ghost use Rattle.wf_judged.specs.Why.{why};
 ghost use Rattle.wf_suite.specs.declared.suite.Wanted.{Wanted};
 ghost use Rattle.wf_lines.specs.Lines.{lines_of};
@@ -52,6 +52,14 @@ fn end_words(alloc: Global, status: u8, line: &[u8]) -> Result<String, AllocErro
     format!(in alloc; ", and it ended with {status} {line}")
 }
 
+/// How a command ended: its status, and the first line.
+pub(crate) fn ended_with(alloc: Global, ended: &Ended) -> Result<String, AllocError>
+    ensures { IfOk result (λ words. string_bytes words ≡ ended_with ended.now.status ended.now.text.items) }
+{
+    end_words(alloc, ended.status, first_line(alloc, &ended.text)?)
+}
+
+// The same without the line where it may be a record.
 #[tactic(auto, unfolding(crate::specs::Failures::zero_words))]
 fn ended_so(alloc: Global, ended: &Ended) -> Result<String, AllocError>
     ensures { IfOk result (λ words. string_bytes words ≡ ended_so ended.now.status ended.now.text.items) }
@@ -59,17 +67,15 @@ fn ended_so(alloc: Global, ended: &Ended) -> Result<String, AllocError>
     if ended.status == 0 {
         String::from_str(alloc, ", and it ended with 0")
     } else {
-        end_words(alloc, ended.status, first_line(alloc, &ended.text)?)
+        ended_with(alloc, ended)
     }
 }
 
 /// Says that an end isn't the one that is expected.
 #[tactic(auto, unfolding(crate::specs::Failures::other_end))]
-pub(crate) fn other_end(alloc: Global, wanted: &str, ended: &Ended) -> Result<Text, AllocError>
-    ensures { IfOk result (λ words. words ≡ other_end wanted.now ended.now.status ended.now.text.items) }
+pub(crate) fn other_end(alloc: Global, wanted: &str, end: &str) -> Result<Text, AllocError>
+    ensures { IfOk result (λ words. words ≡ other_end wanted.now end.now) }
 {
-    let end = ended_so(alloc, ended)?;
-    let end = end.as_str();
     Ok(Text::from_string(format!(in alloc; "expected {wanted}{end}")?))
 }
 
@@ -100,7 +106,8 @@ pub(crate) fn of_accepts(
     let line = accepted(alloc, count)?;
     let holds = ended.status == 0 && is_line(alloc, &ended.text, line.as_str())?;
     let wanted = quoted(alloc, line.as_bytes())?;
-    unless(holds, other_end(alloc, wanted.as_str(), ended)?, all)
+    let end = ended_with(alloc, ended)?;
+    unless(holds, other_end(alloc, wanted.as_str(), end.as_str())?, all)
 }
 
 /// Tells where an end isn't a refusal with this line.
@@ -114,5 +121,6 @@ pub(crate) fn of_refused(
 {
     let holds = ended.status != 0 && is_line(alloc, &ended.text, line.as_str())?;
     let wanted = quoted(alloc, line.as_str().as_bytes())?;
-    unless(holds, other_end(alloc, wanted.as_str(), ended)?, all)
+    let end = ended_so(alloc, ended)?;
+    unless(holds, other_end(alloc, wanted.as_str(), end.as_str())?, all)
 }

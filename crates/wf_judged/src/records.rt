@@ -1,13 +1,14 @@
 //! Records that aren't as expected.
-ghost use Rattle.std.specs.Prelude.{◌≡◌, ◌<◌, ◌^◌, ◌∷◌, ◌++◌, [], IfOk, OnOk, codes, length, map, slice_get};
+ghost use Rattle.std.specs.Prelude.{◌≡◌, ◌<◌, ◌^◌, ◌∷◌, ◌++◌, [], IfOk, Ok, OnOk, codes, length, map, slice_get};
 ghost use Rattle.wf_judged.specs.Failures.{if_any, if_done, in_record, in_value, number_words, of_records, which, which_words};
 ghost use Rattle.wf_judged.specs.Why.{Differs, Says, why};
 ghost use Rattle.wf_json.specs.Read.{read_value};
 ghost use Rattle.wf_match.specs.Told.{told};
 ghost use Rattle.wf_val.specs.Seen.{tree};
 
-use crate::failures::{Failures, other_end};
+use crate::failures::{Failures, ended_with, other_end};
 use crate::lines::{Ended, lines_of, record_lines};
+use crate::unanswered::add_unanswered;
 use std::alloc::{AllocError, Global};
 use wf_json::JsonFault;
 use wf_match::{Difference, differences_of_record};
@@ -24,7 +25,8 @@ pub(crate) fn of_expected(
     ensures { OnOk result (map why all.new ≡ map why all.old ++ if_done expected.now ended.now.status ended.now.text.items) }
 {
     if ended.status != 0 {
-        all.push(Failure::Says(other_end(alloc, "records", ended)?))?;
+        let end = ended_with(alloc, ended)?;
+        all.push(Failure::Says(other_end(alloc, "records", end.as_str())?))?;
         return Ok(());
     }
     let lines = lines_of(alloc, &ended.text)?;
@@ -84,10 +86,21 @@ fn in_value(alloc: Global, expected: &Val, line: &[u8]) -> Result<Vec<Failure>, 
     ensures { IfOk result (λ found. map why found.items ≡ in_value (tree expected.now) (read_value line.now)) }
 {
     match wf_json::read(alloc, line) {
-        Ok(record) => all_differ(alloc, differences_of_record(alloc, expected, &record)?),
+        Ok(record) => of_value(alloc, expected, &record),
         Err(JsonFault::Memory) => Err(AllocError),
         Err(_) => no_value(alloc),
     }
+}
+
+// Where a record isn't as expected, and then which answers were left out.
+fn of_value(alloc: Global, expected: &Val, record: &Val) -> Result<Vec<Failure>, AllocError>
+    ensures { IfOk result (λ found. map why found.items ≡ in_value (tree expected.now) (Ok (tree record.now))) }
+{
+    let mut found = all_differ(alloc, differences_of_record(alloc, expected, record)?)?;
+    if !found.is_empty() {
+        add_unanswered(alloc, record, &mut found)?;
+    }
+    Ok(found)
 }
 
 fn all_differ(alloc: Global, differences: Vec<Difference>) -> Result<Vec<Failure>, AllocError>
