@@ -6,7 +6,7 @@ use Rattle.wf_files.specs.Fault.{fault_line}
 use Rattle.wf_files.specs.Form.{definition_form}
 use Rattle.wf_files.specs.declared.fault.FormFault.{FormFault}
 use Rattle.wf_record.specs.Record.{RecordTree}
-use Rattle.wf_page.specs.Logs.{log_of}
+use Rattle.wf_page.specs.Logs.{earlier_word, log_of, record_word}
 
 -- a status, and the whole text
 pub record SaidTree : Type 0 where
@@ -24,7 +24,7 @@ by_both d r (Ok old) = say 0 (page d.top r (Some old))
 -- or without one
 abbrev pub by_earlier : DefTree → RecordTree → Option (Option (List ℕ)) → SaidTree
 by_earlier d r None = say 0 (page d.top r None)
-by_earlier d r (Some file) = by_both d r (log_of d file)
+by_earlier d r (Some file) = by_both d r (log_of earlier_word d file)
 
 abbrev pub by_log : DefTree → Result RecordTree (List ℕ) → Option (Option (List ℕ)) → SaidTree
 by_log d (Err line) earlier = say 7 line
@@ -32,7 +32,7 @@ by_log d (Ok r) earlier = by_earlier d r earlier
 
 abbrev pub by_definition : Result DefTree FormFault → Option (List ℕ) → Option (Option (List ℕ)) → SaidTree
 by_definition (Err f) log earlier = say 1 (fault_line (codes "definition ") f)
-by_definition (Ok d) log earlier = by_log d (log_of d log) earlier
+by_definition (Ok d) log earlier = by_log d (log_of record_word d log) earlier
 
 -- what the files of a definition, a record and an earlier record hold; None stands for a file over its limit
 pub record Files : Type 0 where

@@ -21,16 +21,23 @@ log_words HistoryFault.NoRun = codes "NoRun"
 log_words (HistoryFault.Twice first second) = codes "Twice " ++ (decimal first ++ (32 ∷ decimal second))
 log_words HistoryFault.Memory = []
 
+-- which of the two files it is, as the words of a call have it
+abbrev pub record_word : List ℕ
+record_word = codes "record "
+
+abbrev pub earlier_word : List ℕ
+earlier_word = codes "earlier "
+
 -- and in a line
-abbrev pub log_line : List ℕ → List ℕ
-log_line words = codes "record " ++ (words ++ 10 ∷ [])
+abbrev pub log_line : List ℕ → List ℕ → List ℕ
+log_line which words = which ++ (words ++ 10 ∷ [])
 
 -- a record has to be one of the definition
-abbrev pub of_definition : DefTree → Result RecordTree HistoryFault → Result RecordTree (List ℕ)
-of_definition d (Err f) = Err (log_line (log_words f))
-of_definition d (Ok r) = if bytes_eq d.digest r.digest then Ok r else Err (log_line (codes "OtherDefinition"))
+abbrev pub of_definition : List ℕ → DefTree → Result RecordTree HistoryFault → Result RecordTree (List ℕ)
+of_definition which d (Err f) = Err (log_line which (log_words f))
+of_definition which d (Ok r) = if bytes_eq d.digest r.digest then Ok r else Err (log_line which (codes "OtherDefinition"))
 
 -- the record of a definition that a file has, or the line that says why it has none: None stands for a file over its limit
-abbrev pub log_of : DefTree → Option (List ℕ) → Result RecordTree (List ℕ)
-log_of d None = Err (log_line (codes "too long"))
-log_of d (Some bytes) = of_definition d (first_log bytes)
+abbrev pub log_of : List ℕ → DefTree → Option (List ℕ) → Result RecordTree (List ℕ)
+log_of which d None = Err (log_line which (codes "too long"))
+log_of which d (Some bytes) = of_definition which d (first_log bytes)

@@ -45,7 +45,7 @@ fn by_earlier(
             Ok(Said { status: 0, text })
         }
         Some(file) => {
-            let old = log_of(alloc, def, file)?;
+            let old = log_of(alloc, b"earlier ", def, file)?;
             by_both(alloc, def, log, old)
         }
     }
@@ -82,7 +82,7 @@ pub fn judge(alloc: Global, given: Given) -> Result<Said, AllocError>
             Ok(Said { status: 1, text })
         }
         Ok(checked) => {
-            let log = log_of(alloc, &checked.def, log)?;
+            let log = log_of(alloc, b"record ", &checked.def, log)?;
             by_log(alloc, &checked.def, log, earlier)
         }
     }

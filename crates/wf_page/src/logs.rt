@@ -43,41 +43,47 @@ fn log_words(alloc: Global, fault: HistoryFault) -> Result<Vec<u8>, AllocError>
     }
 }
 
-fn log_line(alloc: Global, words: &[u8]) -> Result<Vec<u8>, AllocError>
-    ensures { IfOk result (λ line. line.items ≡ log_line words.now) }
+fn log_line(alloc: Global, which: &[u8], words: &[u8]) -> Result<Vec<u8>, AllocError>
+    ensures { IfOk result (λ line. line.items ≡ log_line which.now words.now) }
 {
-    let mut line = b"record ".to_vec(alloc)?;
+    let mut line = which.to_vec(alloc)?;
     line.extend_from_slice(words)?;
     line.push(b'\n')?;
     Ok(line)
 }
 
 // A record has to be one of the definition.
-fn same_definition(alloc: Global, def: &Def, log: Record) -> Result<Log, AllocError>
-    ensures { IfOk result (λ l. log_tree l ≡ of_definition (def_tree def.now) (Ok (record_tree log))) }
+fn same_definition(alloc: Global, which: &[u8], def: &Def, log: Record) -> Result<Log, AllocError>
+    ensures { IfOk result (λ l. log_tree l ≡ of_definition which.now (def_tree def.now) (Ok (record_tree log))) }
 {
     if def.digest.bytes == log.digest.bytes {
         Ok(Log::Found(log))
     } else {
-        let line = log_line(alloc, b"OtherDefinition")?;
+        let line = log_line(alloc, which, b"OtherDefinition")?;
         Ok(Log::Missing(line))
     }
 }
 
-/// The record of a definition that a file has, or the line that says why it has none; `None` stands for a file over its limit.
-pub fn log_of(alloc: Global, def: &Def, file: Option<Vec<u8>>) -> Result<Log, AllocError>
-    ensures { IfOk result (λ l. log_tree l ≡ log_of (def_tree def.now) (option_map (λ bytes. bytes.items) file)) }
+/// The record of a definition that a file has, or the line that says why it has none; `None` stands for a file over its limit. The line begins
+/// with the word that tells which file it is.
+pub fn log_of(
+    alloc: Global,
+    which: &[u8],
+    def: &Def,
+    file: Option<Vec<u8>>,
+) -> Result<Log, AllocError>
+    ensures { IfOk result (λ l. log_tree l ≡ log_of which.now (def_tree def.now) (option_map (λ bytes. bytes.items) file)) }
 {
     let bytes = match file {
-        None => return Ok(Log::Missing(log_line(alloc, b"too long")?)),
+        None => return Ok(Log::Missing(log_line(alloc, which, b"too long")?)),
         Some(bytes) => bytes,
     };
     match first_log(alloc, &bytes) {
-        Ok(log) => same_definition(alloc, def, log),
+        Ok(log) => same_definition(alloc, which, def, log),
         Err(HistoryFault::Memory) => Err(AllocError),
         Err(fault) => {
             let words = log_words(alloc, fault)?;
-            Ok(Log::Missing(log_line(alloc, &words)?))
+            Ok(Log::Missing(log_line(alloc, which, &words)?))
         }
     }
 }
