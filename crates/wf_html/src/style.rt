@@ -47,7 +47,7 @@ summary{cursor:pointer}
 .branches{display:flex;flex-wrap:wrap;justify-content:center;align-items:flex-start;gap:.75rem;margin-top:.5rem}
 .branch{min-width:0;flex:0 1 auto;padding:.5rem;border:1px dashed var(--line);border-radius:.3rem;background:var(--paper)}
 .case{margin:0 0 .4rem;overflow-wrap:anywhere}
-.kept,.closed,.redone{margin-left:.4rem;padding:0 .3rem;border:1px solid;border-radius:.25rem;font-size:.8125rem}
+.kept,.closed,.redone{display:inline-block;margin-left:.4rem;padding:0 .3rem;border:1px solid;border-radius:.25rem;font-size:.8125rem}
 .kept{color:var(--soft);border-style:dotted}
 .closed{color:var(--many)}
 .redone{color:var(--late);border-width:2px}

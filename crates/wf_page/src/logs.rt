@@ -64,8 +64,8 @@ fn same_definition(alloc: Global, which: &[u8], def: &Def, log: Record) -> Resul
     }
 }
 
-/// The record of a definition that a file has, or the line that says why it has none; `None` stands for a file over its limit. The line begins
-/// with the word that tells which file it is.
+/// The record of a definition that a file has, or the line that says why it has none; `None` stands for a file over its limit. The line
+/// begins with the word that tells which file it is.
 pub fn log_of(
     alloc: Global,
     which: &[u8],
