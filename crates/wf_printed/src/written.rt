@@ -7,7 +7,7 @@ ghost use Rattle.wf_told.specs.Text.{run_text};
 
 use crate::summary::summary_line;
 use std::alloc::{AllocError, Global};
-use wf_record::record_line;
+use wf_record::with_record_line;
 use wf_run::Ended;
 
 /// The texts of runs, one after the other, and what they cost together, which is at most 2^26.
@@ -49,7 +49,7 @@ pub(crate) fn with_run(alloc: Global, text: Vec<u8>, ended: &Ended) -> Result<Ve
 {
     let mut more = text;
     more.extend_from_slice(&ended.trace)?;
-    more.extend_from_slice(&record_line(alloc, &ended.finished)?)?;
+    let mut more = with_record_line(alloc, more, &ended.finished)?;
     more.extend_from_slice(&summary_line(
         alloc,
         ended.finished.run.as_str(),

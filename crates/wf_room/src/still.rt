@@ -1,5 +1,7 @@
 //! Items that stand still.
-ghost use Rattle.std.specs.Prelude.{◌≡◌, ◌<◌, ◌≤◌, ◌+◌, ◌^◌, [], length, IfOk, IfErr, OnOk, Some, insert, remove, slice_get, slice_index_or, slice_set, vec_capacity};
+ghost use Rattle.std.specs.Prelude.{◌≡◌, ◌<◌, ◌≤◌, ◌+◌, ◌^◌, [], length, true, Ok, Err, IfOk, IfErr, OnOk, Some, insert, remove, slice_get, slice_index_or, slice_set, vec_capacity};
+ghost use Rattle.std.specs.List.{AllByRecursion};
+ghost use Rattle.std.specs.declared.cmp.Ordering.TheVariants.{Less, Greater};
 ghost use Rattle.std.specs.List.Sorted.{IsSearchInRange};
 ghost use Rattle.wf_lists.specs.KeyOrder.{IsInKeyOrder, IsKeyPlace, IsKeyGap};
 ghost use Rattle.wf_room.specs.Cells.{held, AreFull};
@@ -14,6 +16,8 @@ use wf_lists::Keyed;
 pub(crate) struct Still<T> {
     full: Vec<Full<T>>,
     empty: Vec<Box<Option<T>>>,
+    // The place of the last edit: a search begins beside it, since what is asked for next mostly stands there.
+    last: usize,
     alloc: Global,
 }
 
@@ -36,6 +40,7 @@ impl<T> Still<T> {
         Still {
             full: Vec::new(alloc),
             empty: Vec::new(alloc),
+            last: 0,
             alloc,
         }
     }
@@ -82,6 +87,7 @@ impl<T> Still<T> {
     {
         let full = filled(&mut self.empty, item);
         insert_in_room(&mut self.full, place, full);
+        self.last = place;
     }
 
     /// Puts an item in the place of another, and gives that one back.
@@ -91,6 +97,7 @@ impl<T> Still<T> {
         ensures items { self.new.0 ≡ slice_set self.old.0 place item }
         ensures room { self.new.1 ≡ self.old.1 }
     {
+        self.last = place;
         replace_at(&mut self.full, place, item)
     }
 
@@ -101,6 +108,7 @@ impl<T> Still<T> {
         ensures rest { self.new.0 ≡ remove self.old.0 place }
         ensures room { self.new.1 ≡ self.old.1 }
     {
+        self.last = place;
         self.full.remove(place).into_item()
     }
 
@@ -110,7 +118,12 @@ impl<T> Still<T> {
         T: Drop,
         ensures { IfOk result (λ items. items.items ≡ self.0) }
     {
-        let Still { full, empty, alloc } = self;
+        let Still {
+            full,
+            empty,
+            last: _,
+            alloc,
+        } = self;
         drop(empty);
         items_of(alloc, full)
     }
@@ -124,7 +137,61 @@ impl<T: Keyed> Still<T> {
         ensures place { IfOk result (IsKeyPlace T.Key.cmp T.key_of key.now self.now.0) }
         ensures gap { IfErr result (IsKeyGap T.Key.cmp T.key_of key.now self.now.0) }
     {
-        place_among(&self.full, key)
+        place_beside(&self.full, self.last, key)
+    }
+}
+
+// As `place_among` says, and sooner where the key stands beside a place: only few cells are looked at, which stand side by side.
+fn place_beside<T: Keyed>(cells: &[Full<T>], place: usize, key: &T::Key) -> Result<usize, usize>
+    requires full { AreFull cells.now }
+    requires in_order { IsInKeyOrder T.Key.cmp T.key_of (held cells.now) }
+    ensures in_range { IsSearchInRange result (length cells.now) }
+    ensures place { IfOk result (IsKeyPlace T.Key.cmp T.key_of key.now (held cells.now)) }
+    ensures gap { IfErr result (IsKeyGap T.Key.cmp T.key_of key.now (held cells.now)) }
+{
+    let (before, rest) = cells.split_at(place.saturating_sub(8).min(cells.len()));
+    let (beside, behind) = rest.split_at(rest.len().min(16));
+    if is_above(before, key) && is_below(behind, key) {
+        further(place_among(beside, key), before.len())
+    } else {
+        place_among(cells, key)
+    }
+}
+
+// Whether the key is above those of all cells, which the last of them tells.
+fn is_above<T: Keyed>(cells: &[Full<T>], key: &T::Key) -> bool
+    requires full { AreFull cells.now }
+    requires in_order { IsInKeyOrder T.Key.cmp T.key_of (held cells.now) }
+    ensures { result ≡ true → AllByRecursion (λ x. T.Key.cmp key.now (T.key_of x) ≡ Greater) (held cells.now) }
+{
+    match cells.last() {
+        Some(cell) => key.cmp(cell.item().key()).is_gt(),
+        None => true,
+    }
+}
+
+// Whether the key is below those of all cells, which the first of them tells.
+fn is_below<T: Keyed>(cells: &[Full<T>], key: &T::Key) -> bool
+    requires full { AreFull cells.now }
+    requires in_order { IsInKeyOrder T.Key.cmp T.key_of (held cells.now) }
+    ensures { result ≡ true → AllByRecursion (λ x. T.Key.cmp key.now (T.key_of x) ≡ Less) (held cells.now) }
+{
+    match cells.first() {
+        Some(cell) => key.cmp(cell.item().key()).is_lt(),
+        None => true,
+    }
+}
+
+// A place or a gap, behind so many cells more.
+fn further(place: Result<usize, usize>, cells: usize) -> Result<usize, usize>
+    requires place { IfOk place (λ i. cells + i < 2 ^ 64) }
+    requires gap { IfErr place (λ i. cells + i < 2 ^ 64) }
+    ensures place { IfOk place (λ i. result ≡ Ok (cells + i)) }
+    ensures gap { IfErr place (λ i. result ≡ Err (cells + i)) }
+{
+    match place {
+        Ok(place) => Ok(cells + place),
+        Err(gap) => Err(cells + gap),
     }
 }
 
