@@ -88,6 +88,7 @@ fn items_in(alloc: Global, reader: &mut Reader<'_>, room: u32) -> Result<Vals, S
         let item = value_in(alloc, reader, room)?;
         found.push(item)?;
     }
+    found.shrink_to_fit();
     Ok(found)
 }
 
@@ -126,9 +127,9 @@ fn put(found: &mut BTreeMap<String, Val>, name: String, value: Val) -> Result<()
 fn in_order(alloc: Global, found: BTreeMap<String, Val>) -> Result<Fields, AllocError>
     ensures { IfOk result (λ fs. fs ≡ map named found.entries) }
 {
-    let mut fields = Fields::new(alloc);
-    // that the names come in order is told by a call on the map alone
-    let _count = found.len();
+    // that the names come in order is told by this call on the map alone
+    let count = found.len();
+    let mut fields = Fields::with_capacity(alloc, count)?;
     for (name, value) in found {
         fields.append(Text::from_string(name), value)?;
     }

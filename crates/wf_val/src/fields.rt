@@ -61,6 +61,15 @@ impl Fields {
         }
     }
 
+    /// No members, with room for so many.
+    pub fn with_capacity(alloc: Global, capacity: usize) -> Result<Self, AllocError>
+        ensures { IfOk result (λ f. f ≡ []) }
+    {
+        Ok(Fields {
+            members: Vec::with_capacity(alloc, capacity)?,
+        })
+    }
+
     /// How many members there are.
     pub fn len(&self) -> u64
         ensures { result ≡ length self.now }

@@ -56,6 +56,15 @@ impl Vals {
         }
     }
 
+    /// No values, with room for so many.
+    pub fn with_capacity(alloc: Global, capacity: usize) -> Result<Self, AllocError>
+        ensures { IfOk result (λ v. v ≡ []) }
+    {
+        Ok(Vals {
+            items: Vec::with_capacity(alloc, capacity)?,
+        })
+    }
+
     /// How many values there are.
     pub fn len(&self) -> u64
         ensures count { result ≡ length self.now }
@@ -117,6 +126,33 @@ impl Vals {
             copies.push(item.copy(alloc)?)?;
         }
         Ok(Vals { items: copies })
+    }
+
+    /// A copy with one more value behind, which has room for just these: `push` behind a `copy` would double its room.
+    pub fn copy_with(&self, alloc: Global, last: Val) -> Result<Vals, AllocError>
+        ensures { IfOk result (λ v. v ≡ self.now ++ tree last ∷ []) }
+    {
+        let mut copies = self.copy_with_capacity(alloc, self.items.len().saturating_add(1))?;
+        copies.push(last)?;
+        Ok(copies)
+    }
+
+    // A copy with room for so many.
+    fn copy_with_capacity(&self, alloc: Global, capacity: usize) -> Result<Vals, AllocError>
+        ensures { IfOk result (λ v. v ≡ self.now) }
+    {
+        let mut copies = Vals::with_capacity(alloc, capacity)?;
+        for item in &self.items {
+            copies.push(item.copy(alloc)?)?;
+        }
+        Ok(copies)
+    }
+
+    /// Gives back the room that no value of the list needs.
+    pub fn shrink_to_fit(&mut self)
+        ensures { self.new ≡ self.old }
+    {
+        self.items.shrink_to_fit();
     }
 
     /// How deep the deepest value in it nests, and how much all of them weigh; the list itself isn't counted

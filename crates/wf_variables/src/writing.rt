@@ -1,7 +1,8 @@
 //! The kinds that change a variable which has a value.
-ghost use Rattle.std.specs.Prelude.{◌≡◌, ◌+ℤ◌, ◌-ℤ◌, option_map};
+ghost use Rattle.std.specs.Prelude.{◌≡◌, ◌≢◌, ◌++◌, ◌+ℤ◌, ◌-ℤ◌, Ok, Err, IfOk, IfErr, option_map, string_bytes};
 ghost use Rattle.wf_val.specs.Arguments.{Gives, seen};
 ghost use Rattle.wf_val.specs.Seen.{tree};
+ghost use Rattle.wf_val.specs.declared.fault.EvalFault.{EvalFault};
 ghost use Rattle.wf_template.specs.DataSeen.{data_tree};
 ghost use Rattle.wf_look.specs.Looked.{or_no_value};
 ghost use Rattle.wf_data.specs.Made.{Comes};
@@ -12,7 +13,7 @@ ghost use Rattle.wf_variables.specs.Writing.{with_text, written};
 
 use crate::initials::given_item;
 use crate::sorts::are_alike;
-use std::alloc::Global;
+use std::alloc::{AllocError, Global};
 use wf_data::{Made, eval_tree, fitting, one_member};
 use wf_look::Look;
 use wf_template::Tree;
@@ -29,11 +30,12 @@ fn written(alloc: Global, name: &Text, value: Val, new: Val) -> Result<Made, Eva
 }
 
 // The value that the variable has.
-fn value_of<L: Look>(alloc: Global, name: &Text, look: &L) -> Result<Val, EvalFault>
-    ensures { Gives (seen result) (or_no_value name.now ((L.told look.now).variable name.now)) }
+fn value_of<'a, L: Look>(alloc: Global, name: &Text, look: &'a L) -> Result<&'a Val, EvalFault>
+    ensures ok { IfOk result (λ v. or_no_value name.now ((L.told look.now).variable name.now) ≡ Ok (tree v.now)) }
+    ensures err { IfErr result (λ f. f ≢ EvalFault.Memory → or_no_value name.now ((L.told look.now).variable name.now) ≡ Err f) }
 {
     match look.variable(name) {
-        Some(value) => Ok(value.copy(alloc)?),
+        Some(value) => Ok(value),
         None => Err(EvalFault::NoValue {
             name: name.copy(alloc)?,
         }),
@@ -41,10 +43,10 @@ fn value_of<L: Look>(alloc: Global, name: &Text, look: &L) -> Result<Val, EvalFa
 }
 
 // The value takes the place of the one that the variable has, where both are of one type.
-fn set_to(alloc: Global, name: &Text, now: Val, value: Val) -> Result<Made, EvalFault>
-    ensures { Gives (made_seen result) (set_to name.now (tree now) (tree value)) }
+fn set_to(alloc: Global, name: &Text, now: &Val, value: Val) -> Result<Made, EvalFault>
+    ensures { Gives (made_seen result) (set_to name.now (tree now.now) (tree value)) }
 {
-    if are_alike(&now, &value) {
+    if are_alike(now, &value) {
         let new = value.copy(alloc)?;
         written(alloc, name, value, new)
     } else {
@@ -77,12 +79,12 @@ fn lowered(alloc: Global, name: &Text, now: i64, by: i64) -> Result<Made, EvalFa
 }
 
 // A number is added to the one that the variable has.
-fn incremented(alloc: Global, name: &Text, now: Val, value: Val) -> Result<Made, EvalFault>
-    ensures { Gives (made_seen result) (incremented name.now (tree now) (tree value)) }
+fn incremented(alloc: Global, name: &Text, now: &Val, value: Val) -> Result<Made, EvalFault>
+    ensures { Gives (made_seen result) (incremented name.now (tree now.now) (tree value)) }
 {
     match now {
         Val::Int(now) => match value {
-            Val::Int(by) => raised(alloc, name, now, by),
+            Val::Int(by) => raised(alloc, name, *now, by),
             _ => Err(wrong_type(Fun::Variable, 0)),
         },
         _ => Err(wrong_type(Fun::Variable, 0)),
@@ -90,12 +92,12 @@ fn incremented(alloc: Global, name: &Text, now: Val, value: Val) -> Result<Made,
 }
 
 // A number is taken from the one that the variable has.
-fn decremented(alloc: Global, name: &Text, now: Val, value: Val) -> Result<Made, EvalFault>
-    ensures { Gives (made_seen result) (decremented name.now (tree now) (tree value)) }
+fn decremented(alloc: Global, name: &Text, now: &Val, value: Val) -> Result<Made, EvalFault>
+    ensures { Gives (made_seen result) (decremented name.now (tree now.now) (tree value)) }
 {
     match now {
         Val::Int(now) => match value {
-            Val::Int(by) => lowered(alloc, name, now, by),
+            Val::Int(by) => lowered(alloc, name, *now, by),
             _ => Err(wrong_type(Fun::Variable, 0)),
         },
         _ => Err(wrong_type(Fun::Variable, 0)),
@@ -104,13 +106,12 @@ fn decremented(alloc: Global, name: &Text, now: Val, value: Val) -> Result<Made,
 
 // A value goes behind the items that the variable has.
 #[tactic(auto, using(wf_val::proofs::ValueTreeLemmas::listed))]
-fn with_item(alloc: Global, name: &Text, now: Val, value: Val) -> Result<Made, EvalFault>
-    ensures { Gives (made_seen result) (with_item name.now (tree now) (tree value)) }
+fn with_item(alloc: Global, name: &Text, now: &Val, value: Val) -> Result<Made, EvalFault>
+    ensures { Gives (made_seen result) (with_item name.now (tree now.now) (tree value)) }
 {
     match now {
         Val::List(items) => {
-            let mut new = items;
-            new.push(value.copy(alloc)?)?;
+            let new = items.copy_with(alloc, value.copy(alloc)?)?;
             written(alloc, name, value, Val::List(new))
         }
         _ => Err(wrong_type(Fun::Variable, 0)),
@@ -118,18 +119,28 @@ fn with_item(alloc: Global, name: &Text, now: Val, value: Val) -> Result<Made, E
 }
 
 // A value goes, as a text, behind the text that the variable has.
-fn with_text(alloc: Global, name: &Text, now: Val, value: Val) -> Result<Made, EvalFault>
-    ensures { Gives (made_seen result) (with_text name.now (tree now) (tree value)) }
+fn with_text(alloc: Global, name: &Text, now: &Val, value: Val) -> Result<Made, EvalFault>
+    ensures { Gives (made_seen result) (with_text name.now (tree now.now) (tree value)) }
 {
     match now {
         Val::Text(text) => {
-            let mut new = String::from_str(alloc, text.as_str())?;
             let more = wf_json::text(alloc, &value)?;
-            new.push_str(more.as_str())?;
+            let new = joined(alloc, text.as_str(), more.as_str())?;
             written(alloc, name, value, Val::Text(Text::from_string(new)))
         }
         _ => Err(wrong_type(Fun::Variable, 0)),
     }
+}
+
+// Two texts as one, which has room for just these.
+fn joined(alloc: Global, front: &str, back: &str) -> Result<String, AllocError>
+    ensures { IfOk result (λ s. string_bytes s ≡ front.now ++ back.now) }
+{
+    let length = front.len().saturating_add(back.len());
+    let mut both = String::with_capacity(alloc, length)?;
+    both.push_str(front)?;
+    both.push_str(back)?;
+    Ok(both)
 }
 
 // The amount, 1 where none is given.

@@ -1,4 +1,4 @@
-use Rattle.std.proofs.Common.{◌≡◌, ◌+◌, ◌-◌, ◌<◌, [], ◌∷◌, length, Some, None, string_bytes, sym, ap, ◌∙◌, arith, rules}
+use Rattle.std.proofs.Common.{◌≡◌, ◌+◌, ◌-◌, ◌<◌, List, [], ◌∷◌, length, Some, None, string_bytes, sym, ap, ◌∙◌, arith, rules}
 use Rattle.json.specs.Token.{Token}
 use Rattle.json.specs.Json.{parse_map, after_end_array, read_key, items, members, value}
 use Rattle.json.specs.Reads.{token_of}
@@ -7,7 +7,8 @@ use Rattle.serde_json.specs.Data.{string, array, object, put}
 use Rattle.serde_json.specs.Read.{of_json, of_items, of_members, converted}
 use Rattle.wf_json.proofs.GrammarLemmas.{item_read, item_refused, items_over, member_read, member_refused, key_refused, members_over}
 use Rattle.wf_val.specs.Seen.{tree}
-use Rattle.wf_json.specs.Sent.{data_of, members_of as sent_members}
+use Rattle.wf_val.specs.ValueTree.{ValueTree, trees}
+use Rattle.wf_json.specs.Sent.{data_of, items_of, members_of as sent_members}
 use Rattle.wf_json.proofs.StraightLemmas.{items_before, items_before-no_items, one_more_item, one_more_nests}
 use Rattle.wf_json.proofs.StraightLemmas.{entries, entries_of-insert_entry, insert_entry-nests, opened_array, opened_object}
 use Rattle.wf_json.proofs.straight.+straight.Goals as goal
@@ -118,6 +119,7 @@ items_in-returns-clause-ok t c =
     let r = c.take_end_array.new.self in
     l.invariant.2 ∙ ap (parse_map (items_before l.found)) (items_over p n l.reader r l.invariant.1 (grind arith))
     ∙ ap (λ ds. Some (ds, r)) (items_before-no_items l.found)
+    ∙ ap (λ (vs : List ValueTree). Some (items_of (trees vs), r)) (sym c.shrink_to_fit.ensures)
 
 pub members_in-returns-in_err-name-clause-not_json : goal.members_in-returns-in_err-name-clause-not_json
 members_in-returns-in_err-name-clause-not_json t c _ =
