@@ -19,6 +19,7 @@ mod laws;
 mod line;
 mod record;
 mod row;
+mod short;
 mod status;
 mod value;
 
