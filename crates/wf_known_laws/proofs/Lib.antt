@@ -6,4 +6,5 @@ mod LayeredLemmas
 mod WholeDepthLemmas
 mod ReadGraphLemmas
 mod DefinitionLemmas
+mod AcceptedLemmas
 mod WorkedRows

@@ -10,19 +10,22 @@
 //! holds in a definition, at any depth, is said by `specs/Each` and `specs/Held`.
 #![tactic(auto)]
 
-ghost use Rattle.std.specs.Prelude.{◌≡◌, ◌≤◌, ℕ, Bool, List, length, nat_eq, true};
+ghost use Rattle.std.specs.Prelude.{◌≡◌, ◌≤◌, ℕ, Bool, List, Some, codes, false, length, nat_eq, pos, true};
 ghost use Rattle.std.specs.List.{list_any};
 ghost use Rattle.wf_def.specs.ActionTree.{ActionTrees};
 ghost use Rattle.wf_def.specs.DefTree.{DefTree};
 ghost use Rattle.wf_def.specs.Layered.{layered};
 ghost use Rattle.wf_def.specs.Names.{graph_names};
+ghost use Rattle.wf_kinds.specs.Containers.{is_concurrency, is_turns, limit, repetitions};
 ghost use Rattle.wf_known_laws.specs.Each.{EachGraph};
 ghost use Rattle.wf_known_laws.specs.Held.{AreInRange, EntriesAreNumbered, levels};
 ghost use Rattle.wf_layers.specs.Definition.{Closed, IsDepth, has};
 ghost use Rattle.wf_layers.specs.Seen.{Once};
 ghost use Rattle.wf_order.specs.Order.{IsBelow};
 ghost use Rattle.wf_reading.specs.Facts.{HasDepths, graph_numbers};
+ghost use Rattle.wf_reading.specs.Graphs.{count_of, has_option, repetitions_of};
 ghost use Rattle.wf_reading.specs.Read.{IsRead};
+ghost use Rattle.wf_val.specs.ValueTree.{ValueTree, number};
 
 /// The graph of a definition has the numbers of all its actions, at any depth, and no other.
 pub fn numbers_are_had()
@@ -92,3 +95,15 @@ pub fn numbers_have_their_ranges()
 {
     wf_form::the_first_fault();
 }
+
+/// The number of repetitions that the rules on forms accept is the one that is read, where iterations don't go in turn: the two have the
+/// same limits.
+pub fn accepted_repetitions_are_read()
+    ensures { (t v : ValueTree) → has_option (codes "Sequential") t ≡ false → repetitions t ≡ Some v → is_concurrency v ≡ true
+        → number (pos (repetitions_of t)) ≡ v }
+{}
+
+/// And so is the number of an Until's turns.
+pub fn accepted_turns_are_read()
+    ensures { (t v : ValueTree) → limit (codes "count") t ≡ Some v → is_turns v ≡ true → number (pos (count_of t)) ≡ v }
+{}
