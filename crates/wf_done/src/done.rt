@@ -1,6 +1,9 @@
 //! What an action has come to, and the view that expressions have of it.
-ghost use Rattle.std.specs.Prelude.{◌≡◌, IfOk};
+ghost use Rattle.std.specs.Prelude.{◌≡◌, IfOk, OnOk};
+ghost use Rattle.wf_val.specs.Get.{name_of};
+ghost use Rattle.wf_val.specs.NameOrder.{put_named};
 ghost use Rattle.wf_val.specs.Seen.{tree};
+ghost use Rattle.wf_val.specs.ValueTree.{text};
 ghost use Rattle.wf_data.specs.MadeSeen.{made_tree};
 ghost use Rattle.wf_done.specs.Done.{faulted, mismatched, skipped, succeeded, view};
 ghost use Rattle.wf_done.specs.DoneSeen.{done_tree};
@@ -80,14 +83,24 @@ pub fn view(alloc: Global, name: &Name, done: &Done) -> Result<Val, AllocError>
     ensures { IfOk result (λ v. tree v ≡ view name.now (done_tree done.now)) }
 {
     let mut fields = Fields::new(alloc);
-    fields.put(Text::of(alloc, "code")?, Val::Text(done.code.copy(alloc)?))?;
-    fields.put(Text::of(alloc, "error")?, done.error.copy(alloc)?)?;
-    fields.put(Text::of(alloc, "inputs")?, done.inputs.copy(alloc)?)?;
-    fields.put(Text::of(alloc, "name")?, Val::Text(name.copy(alloc)?))?;
-    fields.put(Text::of(alloc, "outputs")?, done.outputs.copy(alloc)?)?;
-    fields.put(
-        Text::of(alloc, "status")?,
-        Val::Text(Text::of(alloc, done.status.name())?),
-    )?;
+    put_text(alloc, &mut fields, "code", done.code.as_str())?;
+    put_copy(alloc, &mut fields, "error", &done.error)?;
+    put_copy(alloc, &mut fields, "inputs", &done.inputs)?;
+    put_text(alloc, &mut fields, "name", name.as_str())?;
+    put_copy(alloc, &mut fields, "outputs", &done.outputs)?;
+    put_text(alloc, &mut fields, "status", done.status.name())?;
     Ok(Val::Obj(fields))
+}
+
+// Each of the two owns one thing alone while it may fail, so that `view` has few ways out.
+fn put_text(alloc: Global, fields: &mut Fields, name: &str, value: &str) -> Result<(), AllocError>
+    ensures { OnOk result (fields.new ≡ put_named name_of (name.now, text value.now) fields.old) }
+{
+    fields.put(Text::of(alloc, name)?, Val::Text(Text::of(alloc, value)?))
+}
+
+fn put_copy(alloc: Global, fields: &mut Fields, name: &str, value: &Val) -> Result<(), AllocError>
+    ensures { OnOk result (fields.new ≡ put_named name_of (name.now, tree value.now) fields.old) }
+{
+    fields.put(Text::of(alloc, name)?, value.copy(alloc)?)
 }
