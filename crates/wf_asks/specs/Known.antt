@@ -58,7 +58,8 @@ module _ {Row Begun Decision Verdict : Type 0} (d : Graph) (depth : ℕ → ℕ)
     pub decided : (x : Address) (w : Opening Decision Verdict) → opens x ≡ Some w → w.decision ≡ m.decide x rows
 
   module _ (writes : ℕ → Address → Row → Bool) where
-    -- Each that may write to the variable, at whatever address, is in the action, ordered with it, or excludes it: so the action may read it.
+    -- Each that may write to the variable, at whatever address, is in the action, ordered with it, or excludes it: so the action may read
+    -- it.
     abbrev pub MayRead : ℕ → ℕ → Kind → List ℕ → Type 0
     MayRead v n kind i = (y : Address) (r : Row) → is_within d [] y ≡ true → writes v y r ≡ true → HasOrder d n kind i y
 

@@ -154,8 +154,8 @@ pub trait Acts {
     fn ends(&self, verdict: &Self::Verdict) -> bool
         ensures { result ≡ (source self.now).ends (verdict_tree verdict.now) };
 
-    /// The row with which a container closes: by what it found, how many iterations an Until had, and its last test. The number of iterations
-    /// stands in the row, so it has to be one that a value may have.
+    /// The row with which a container closes: by what it found, how many iterations an Until had, and its last test. The number of
+    /// iterations stands in the row, so it has to be one that a value may have.
     fn close(
         &self,
         alloc: Global,

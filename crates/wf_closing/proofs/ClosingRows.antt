@@ -1,4 +1,5 @@
--- Worked rows: the steps and the ends of a graph, its status, and places of branches. 0 waits for 2 and 1, 1 for 2, and none waits for 0 or 3.
+-- Worked rows: the steps and the ends of a graph, its status, and places of branches. 0 waits for 2 and 1, 1 for 2, and none waits for 0
+-- or 3.
 use Rattle.std.proofs.Common.{◌≡◌, ℕ, true, false, List, [], ◌∷◌, Some, cond, nat_eq, refl}
 use Rattle.wf_val.specs.ValueTree.{null}
 use Rattle.wf_layers.specs.Address.{Table}

@@ -73,8 +73,8 @@ status_of_graph (Some graph) at known = graph_status (actions_in graph) at known
 abbrev pub own_status : List ActionTrees → ℕ → List ℕ → Table Row → Status
 own_status graphs place at known = status_of_graph (slice_get graphs place) at known
 
--- The place of the branch of a number: of an If the first is 1, and any other number means the second; of a Switch cases are counted from 1,
--- and any other number means what is behind them.
+-- The place of the branch of a number: of an If the first is 1, and any other number means the second; of a Switch cases are counted from
+-- 1, and any other number means what is behind them.
 abbrev pub case_place : ℕ → ℕ → ℕ
 case_place cases zero = cases
 case_place cases (suc k) = cond (nat_lt k cases) k cases

@@ -189,7 +189,8 @@ impl Inside {
         }
     }
 
-    /// Whether one of the Terminates inside Succeeded at these indexes. They stand in no loop, so those of a container round them are theirs.
+    /// Whether one of the Terminates inside Succeeded at these indexes. They stand in no loop, so those of a container round them are
+    /// theirs.
     pub fn is_terminated(
         &self,
         alloc: Global,

@@ -1,10 +1,10 @@
 //! How containers close: which status their graphs ended with, and what that makes of them.
 //!
-//! A graph is Failed where an action that no `runAfter` names failed, or was Skipped after one that failed (Azure Logic Apps, "Handle errors
-//! and exceptions"). `Judged` is a graph made ready for this once: its actions, each behind those that it waits for, so that at any indexes
-//! one pass over them tells the status by the rows that are there. `Inside` has the graphs of a container, and the Terminates inside it;
-//! `close` says what the container comes to, by what it decided, how many iterations it had and how the last test of an Until ended. It is
-//! all of the container's row but its address and its tracked properties.
+//! A graph is Failed where an action that no `runAfter` names failed, or was Skipped after one that failed (Azure Logic Apps, "Handle
+//! errors and exceptions"). `Judged` is a graph made ready for this once: its actions, each behind those that it waits for, so that at any
+//! indexes one pass over them tells the status by the rows that are there. `Inside` has the graphs of a container, and the Terminates
+//! inside it; `close` says what the container comes to, by what it decided, how many iterations it had and how the last test of an Until
+//! ended. It is all of the container's row but its address and its tracked properties.
 //!
 //! It decides nothing of when a container closes, and promises nothing of a graph whose actions wait for one another in a circle.
 #![tactic(auto)]

@@ -30,8 +30,8 @@ pub record IsMade (p : PlanTree) (place : Instance) (graph : Option (List ℕ)) 
   pub places : e.places.items ≡ instances_at k (or_none graph)
 
 module _ {Row Begun Decision Verdict : Type 0} (m : Source Row Begun Decision Verdict) (p : PlanTree) where
-  -- WHAT THAT MAKES of counts and ready set: each action of the graph waits for all that the plan has of it, the graph lacks all of them, and
-  -- of the container so many iterations are unfinished now. The actions are looked at as idle ones, the container as an open one.
+  -- WHAT THAT MAKES of counts and ready set: each action of the graph waits for all that the plan has of it, the graph lacks all of them,
+  -- and of the container so many iterations are unfinished now. The actions are looked at as idle ones, the container as an open one.
   pub record IsEnteredBy (place : Address) (graph : Option (List ℕ)) (k : List ℕ) (now : ℕ) (s' : State Row Begun Decision Verdict)
       (waits waits' lacks lacks' : Table ℕ) (left left' : Address → ℕ) (ready ready' : Table Event) : Type 0 where
     pub waited : (x : Address) → waits' x

@@ -1,5 +1,5 @@
--- The condition of an If or an Until (Workflow Definition Language, "Conditions"): a text, or an object of one member, which is `and` or `or`
--- of conditions, `not` of one, or the comparison of two values by a function.
+-- The condition of an If or an Until (Workflow Definition Language, "Conditions"): a text, or an object of one member, which is `and` or
+-- `or` of conditions, `not` of one, or the comparison of two values by a function.
 use Rattle.std.specs.Prelude.{ℕ, List, [], ◌∷◌, Option, Some, None, if◌then◌else◌, bytes_eq, codes}
 use Rattle.wf_val.specs.ValueTree.{ValueTree, text, object, list, ValueTrees, no_values, value_then, MemberTrees, no_members, member_then, Member}
 use Rattle.wf_val.specs.Get.{item}

@@ -1,5 +1,5 @@
--- WHAT STANDS AT AN INSTANCE as an event has happened there: the row, the running leaf and the open container, each if there is one. As what
--- has happened is told by that instance alone, it is told of a state that has these everywhere.
+-- WHAT STANDS AT AN INSTANCE as an event has happened there: the row, the running leaf and the open container, each if there is one. As
+-- what has happened is told by that instance alone, it is told of a state that has these everywhere.
 use Rattle.std.specs.Prelude.{Option}
 use Rattle.wf_layers.specs.Machine.{Opening, Running, State}
 

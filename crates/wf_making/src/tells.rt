@@ -16,8 +16,8 @@ pub trait Tells: Acts {
     // what is told of an event of a number
     ghost told: { Self → Event → ℕ → List ℕ };
 
-    /// What is told of an event that has just happened, by what stands at its instance now. The number of an attempt is that of the attempts
-    /// which the leaf has made, and the index of an iteration is one below that of the container's next.
+    /// What is told of an event that has just happened, by what stands at its instance now. The number of an attempt is that of the
+    /// attempts which the leaf has made, and the index of an iteration is one below that of the container's next.
     fn tell(
         &self,
         alloc: Global,

@@ -7,8 +7,8 @@
 //! `specs/Variables` which writer of a variable was the last, `specs/Look` all that is told. `specs/Status` says how a graph ends,
 //! `specs/Containers` which rows containers end with, and `specs/Record` reads the record of `wf_record` off the table of rows: the run's
 //! status and error, its response, the section `outputs`, and the rows in the order of their addresses.
-//! `specs/Resubmitted` says what a resubmission of such a record means, and `specs/Answering` what a source is by which a definition answers,
-//! whatever rows it keeps of an older run.
+//! `specs/Resubmitted` says what a resubmission of such a record means, and `specs/Answering` what a source is by which a definition
+//! answers, whatever rows it keeps of an older run.
 //!
 //! The environment of a run, the section `outputs` and how a run ends without a Terminate are those of `wf_environment`. The runs that the
 //! program makes leave these records (`wf_run`).

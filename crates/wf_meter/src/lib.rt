@@ -4,8 +4,8 @@
 //! (`specs/Cost`). An engine that summed all of it in each turn would take a time that grows with the square of a run; so it keeps sums.
 //! The laws here say how the sums move as an event is taken: only by what stands at the event's own action and, of rows, at those inside it
 //! that stand in no loop there (`specs/Parts`), before the event and after it. What an open container keeps of what it decided by may be a
-//! list as long as the loop has iterations; so it has a sum of its own, which only moves where a container opens or closes. And the laws say
-//! that sums of parts that are each cut to the greatest u64 give the whole, cut so.
+//! list as long as the loop has iterations; so it has a sum of its own, which only moves where a container opens or closes. And the laws
+//! say that sums of parts that are each cut to the greatest u64 give the whole, cut so.
 //!
 //! A law is a public function with an empty body, whose contract it is. The other calls tell what stands at an action, and what lists come
 //! to that a run goes on from; when they are asked, and where the sums are kept, is the engine's part.

@@ -321,8 +321,8 @@ same_indexes-not_without s = none s.indexes s.each_loop s.of_one
     none [] count one = absurd (cc)
     none (a ∷ k) count one = absurd (cc)
 
--- Actions that both stand deep in different branches: an If 0 of a Scope 1 of 2 and 3, and otherwise of a Foreach 4 of 5; after it a Switch 6
--- with the case of an If 7 of 8, and otherwise an Until 9 of a Scope 10 of 11.
+-- Actions that both stand deep in different branches: an If 0 of a Scope 1 of 2 and 3, and otherwise of a Foreach 4 of 5; after it a
+-- Switch 6 with the case of an If 7 of 8, and otherwise an Until 9 of a Scope 10 of 11.
 abbrev deep : Graph
 deep =
     add 0 [] (Choice (

@@ -5,8 +5,8 @@
 //! it says why no run can start, or that all of them together cost too much. Which runs start is said by `wf_trigger`, how one is made by
 //! `wf_run`, what a record costs and how it is printed by `wf_record`.
 //!
-//! Of a resubmission it writes the new record's line and the summary line; or it says why the record can't be resubmitted (`wf_prepare`), or
-//! that the new record would cost too much.
+//! Of a resubmission it writes the new record's line and the summary line; or it says why the record can't be resubmitted (`wf_prepare`),
+//! or that the new record would cost too much.
 //!
 //! Of one run alone it tells how that went in figures, and writes nothing.
 //!

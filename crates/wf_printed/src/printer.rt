@@ -9,8 +9,8 @@ use wf_rules::Checked;
 use wf_told::{Engine, Measure, ResubmissionFault, RunsFault};
 use wf_val::{Name, Schedule};
 
-/// Makes runs by the event machine, and prints them. Runs are made and written one after the other, and of each its text alone is kept. Once
-/// they cost too much, no further one is made.
+/// Makes runs by the event machine, and prints them. Runs are made and written one after the other, and of each its text alone is kept.
+/// Once they cost too much, no further one is made.
 #[derive(Clone, Copy)]
 pub struct Printer;
 

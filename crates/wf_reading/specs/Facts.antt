@@ -9,8 +9,8 @@ use Rattle.wf_reading.specs.Numbers.{is_below}
 abbrev pub is_named : List ℕ → List ActionTree → Bool
 is_named k as' = list_any (λ a. bytes_eq k (action_name a)) as'
 
--- Each entry of a `runAfter` names an action of the same graph, and there are numbers, by names, that fall along every entry. So no action waits
--- for itself, by however many others, and to go by depth ends.
+-- Each entry of a `runAfter` names an action of the same graph, and there are numbers, by names, that fall along every entry. So no action
+-- waits for itself, by however many others, and to go by depth ends.
 pub record HasDepths (graph : ActionTrees) : Type 0 where
   pub depth : List ℕ → ℕ
   pub falls : AllByRecursion (λ a. AllByRecursion (λ e. (is_named e.name (actions_in graph) ≡ true) × (depth e.name < depth (action_name a))) (action_after a)) (actions_in graph)

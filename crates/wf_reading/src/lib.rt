@@ -10,8 +10,8 @@
 //! the definition breaks, or what it means.
 //!
 //! A `Def` can't be made otherwise than by reading, since its type keeps the fact that some value breaks none of the rules and means it
-//! (`specs/Read.antt`). What follows of such definitions is told by the laws: names stand once, numbers are their places, `runAfter` has depths, there are at most 500
-//! actions, and loops may turn.
+//! (`specs/Read.antt`). What follows of such definitions is told by the laws: names stand once, numbers are their places, `runAfter` has
+//! depths, there are at most 500 actions, and loops may turn.
 //!
 //! It runs nothing and knows no order of actions. What takes memory takes its allocator, and answers an error where none
 //! is left, with everything that it was lent as before; what the call was given by value is then dropped.

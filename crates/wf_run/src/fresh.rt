@@ -51,8 +51,8 @@ impl<'a> Runnable<'a> {
         Ok(made)
     }
 
-    /// Makes a run under a schedule, where other runs have cost `spent`: its record is the definition's meaning, whatever the schedule. Where
-    /// it costs too much with what others cost, none is given. The lines of its events are kept where they are asked for.
+    /// Makes a run under a schedule, where other runs have cost `spent`: its record is the definition's meaning, whatever the schedule.
+    /// Where it costs too much with what others cost, none is given. The lines of its events are kept where they are asked for.
     pub fn run(
         &self,
         alloc: Global,

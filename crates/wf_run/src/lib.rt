@@ -12,8 +12,8 @@
 //! What a run is, without any state that the machine keeps, is said by `wf_told`: one list of events, by which all is told but the record,
 //! which is the definition's meaning, or what the resubmission means, whatever the events are.
 //!
-//! What actions do is said below (`wf_actions`), and so is how the machine keeps what has happened (`wf_making`). What a `Runnable` is made of
-//! is handed on, so that who makes runs names no crate below this one for it.
+//! What actions do is said below (`wf_actions`), and so is how the machine keeps what has happened (`wf_making`). What a `Runnable` is
+//! made of is handed on, so that who makes runs names no crate below this one for it.
 #![tactic(auto)]
 
 mod again;

@@ -1,9 +1,9 @@
 //! Where a run stands that has some of its answers, and what holds a talk about it.
 //!
 //! A run of which not all answers are there goes on until nothing may happen but attempts that have none (`wf_quiet`). `specs/Moment` says
-//! to which moments a run comes, and what it has cost there; `specs/Stands` where it stands: attempts wait for their answers, or it has left
-//! its record, which is the definition's meaning by the answers that are there, or it costs too much. What is said of that to someone who
-//! sends answers is a talk (`wf_talk`).
+//! to which moments a run comes, and what it has cost there; `specs/Stands` where it stands: attempts wait for their answers, or it has
+//! left its record, which is the definition's meaning by the answers that are there, or it costs too much. What is said of that to someone
+//! who sends answers is a talk (`wf_talk`).
 //!
 //! `Converses` is what holds such talks. The top call is lent one, and knows nothing of how a run is kept; `wf_session` has the one that
 //! there is.

@@ -4,9 +4,9 @@
 //! before it answers the status that the program ends with. What it says is stated as a plan: which file is read with
 //! which limit, and what follows from its bytes. Everything that is claimed of a command is a clause of this one call.
 //!
-//! What a file holds of its form, or which line says why it holds none, is `wf_files`'s to say. The crate opens no file and no stream itself,
-//! and makes no run: that is left to the objects which it is lent, of which an engine of runs (`wf_told`) promises exactly what is told of
-//! runs and of a resubmission.
+//! What a file holds of its form, or which line says why it holds none, is `wf_files`'s to say. The crate opens no file and no stream
+//! itself, and makes no run: that is left to the objects which it is lent, of which an engine of runs (`wf_told`) promises exactly what is
+//! told of runs and of a resubmission.
 //!
 //! At `session` it does what comes before a talk, which is left to what holds one (`wf_stands`).
 //!

@@ -4,8 +4,8 @@
 //! leaves a Foreach is put together of a look-up for each of its iterations, as many as the row of the loop tells. A result lists the views
 //! of the actions in a container's own graphs, in the order of their names.
 //!
-//! `specs/Views` says what a name gives from inside given loops, in whatever rows there are. Whether that is what the definition means there
-//! depends on which rows these are, and is not said here.
+//! `specs/Views` says what a name gives from inside given loops, in whatever rows there are. Whether that is what the definition means
+//! there depends on which rows these are, and is not said here.
 #![tactic(auto)]
 
 mod inner;

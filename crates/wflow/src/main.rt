@@ -1,7 +1,7 @@
 //! The program: runs one command over the real files and the standard streams, and ends with its status.
 //!
-//! It hands the words after its own name to `wf_top::serve_words`, and lends it the engine of `wf_printed`, which is all that it does; what a
-//! command reads, writes and answers is said there. Where the words can't be had as texts nothing is written: the status is 5 for
+//! It hands the words after its own name to `wf_top::serve_words`, and lends it the engine of `wf_printed`, which is all that it does;
+//! what a command reads, writes and answers is said there. Where the words can't be had as texts nothing is written: the status is 5 for
 //! want of memory, and 2 for any other cause, as a word that isn't UTF-8.
 #![tactic(auto)]
 

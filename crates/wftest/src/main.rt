@@ -1,8 +1,8 @@
 //! The program of tests: runs the tests of workflows that lie in files beside them, over the real files, and ends with the status of them.
 //!
-//! It hands the words after its own name to `wf_tests::serve_tests`, and lends it the program `wflow` (`Wflow`), each command of which is done by
-//! `wf_top::serve_words` over files in memory. Where the words can't be had as texts nothing is written: the status is 5 for want of memory,
-//! and 2 for any other cause.
+//! It hands the words after its own name to `wf_tests::serve_tests`, and lends it the program `wflow` (`Wflow`), each command of which is
+//! done by `wf_top::serve_words` over files in memory. Where the words can't be had as texts nothing is written: the status is 5 for want
+//! of memory, and 2 for any other cause.
 #![tactic(auto)]
 
 mod wflow;
