@@ -3,9 +3,10 @@
 
   fuzz/large.py [--part deep|wide|long|records] [--only WORD] [--stack KIB] [--program PATH]
 
-Each call has a process of its own, a stack of KIB KiB (1,024 where none is named) and 2 GiB of memory. It has to end within 10 seconds of
-the processor with a status and a text that its command has (harm.py), and not for want of memory. A line tells its name, its command, the
-bytes of its files, the status, the seconds, the MiB and the beginning of the text; the last line is 'N passed, M failed'."""
+Each call has a process of its own, started as bin/launch does, a stack of KIB KiB (1,024 where none is named) and 2 GiB of memory. It has
+to end within 10 seconds of the processor with a status and a text that its command has (harm.py), and not for want of memory. A line tells
+its name, its command, the bytes of its files, the status, the seconds, the MiB and the beginning of the text; the last line is
+'N passed, M failed'."""
 import argparse
 import json
 import os
