@@ -177,3 +177,12 @@ module _ {K : Type 0} {cmp : K → K → Ordering} (total : IsTotalOrder cmp) {X
         place = tt;
         gap = rw (parted before beside behind, ← length-held before full) lifted;
       }
+
+  -- a key that is above all of the first part and below all of the second has its gap between them
+  pub gap_between : (k : K) (before behind : List (Option X)) → AreFull before
+      → AllByRecursion (λ y. cmp k (key y) ≡ Greater) (held before) → AllByRecursion (λ y. cmp k (key y) ≡ Less) (held behind)
+      → IsKeyGap cmp key k (held (before ++ behind)) (length before)
+  gap_between k before behind full over under =
+      let gap = gap-behind k (held before) (held behind) 0 over (gap_alone k (held behind) under) in
+      let place : length (held before) + 0 ≡ length before = omega (arith, length-held before full) in
+      rw (held-append before behind, ← place) gap

@@ -1,9 +1,9 @@
 -- What edits of full cells make of the items that they hold, and where a key stands there.
-use Rattle.std.proofs.Common.{◌≡◌, ℕ, zero, suc, ◌<◌, List, [], ◌∷◌, length, get_or, slice_get, set, map, insert, remove, Option, Some, None, Ordering, Less, Equal, Greater, Result, Ok, Err, IfOk, IfErr, refl, sym, ap, ◌∙◌, subst, arith}
+use Rattle.std.proofs.Common.{◌≡◌, ℕ, zero, suc, ◌<◌, List, [], ◌∷◌, length, get_or, slice_get, set, map, insert, remove, Option, Some, None, true, Ordering, Less, Equal, Greater, Result, Ok, Err, IfOk, IfErr, refl, sym, ap, ◌∙◌, subst, arith}
 use Rattle.std.proofs.lemmas.List.{length-map, get_or-map, map-set}
 use Rattle.std.proofs.lemmas.Option.{none-some}
 use Rattle.std.specs.Cmp.{IsTotalOrder}
-use Rattle.std.specs.Ordering.{ordering_index}
+use Rattle.std.specs.Ordering.{ordering_index, is_eq}
 use Rattle.std.specs.List.Sorted.{IsSearchInRange, IsBinarySearchResult, IsNonDecreasingBy}
 use Rattle.wf_lists.specs.KeyOrder.{IsInKeyOrder, IsKeyPlace, IsKeyGap}
 use Rattle.wf_lists.proofs.KeyOrderLemmas.{searched_key}
@@ -83,6 +83,11 @@ module _ {X : Type 0} where
       let last : j < length (x ∷ xs) = rw (← length-map (x ∷ xs) Some) lt in
       rw (get_or-map Some (x ∷ xs) i x d (omega arith), get_or-map Some (x ∷ xs) j x d last) (rise i j x le last)
 
+same : (o : Ordering) → is_eq o ≡ true → o ≡ Equal
+same Less is = absurd (cc)
+same Equal is = refl
+same Greater is = absurd (cc)
+
 module _ {K : Type 0} {cmp : K → K → Ordering} (total : IsTotalOrder cmp) {X : Type 0} (key : X → K) where
   -- how the item of a cell stands to a key
   abbrev pub cell_order : K → Option X → Ordering
@@ -105,3 +110,9 @@ module _ {K : Type 0} {cmp : K → K → Ordering} (total : IsTotalOrder cmp) {X
   searched-held k cells r full order in_range at =
       searched_key total key k (held cells) r order (subst (λ n. IsSearchInRange r n) (sym (length-held cells full)) in_range)
       (found k (held cells) r (subst (λ ps. IsBinarySearchResult (cell_order k) ps r) (sym full) at))
+
+  -- a cell whose item has the key is at its place
+  pub place-held : (k : K) (cells : List (Option X)) (i : ℕ) (x : X) → AreFull cells → IsInKeyOrder cmp key (held cells)
+      → i < length cells → ((d : Option X) → Some x ≡ get_or cells i d) → is_eq (cmp (key x) k) ≡ true → IsKeyPlace cmp key k (held cells) i
+  place-held k cells i x full order within at is =
+      (searched-held k cells (Ok i) full order within (λ d. rw (← at d) (same (cmp (key x) k) is))).place

@@ -16,7 +16,8 @@ use wf_lists::Keyed;
 pub(crate) struct Still<T> {
     full: Vec<Full<T>>,
     empty: Vec<Box<Option<T>>>,
-    // The place of the last edit: a search begins beside it, since what is asked for next mostly stands there.
+    // The place of the last edit: a search begins there and right behind it, and then goes on beside it, since what is asked for next
+    // mostly stands there.
     last: usize,
     alloc: Global,
 }
@@ -108,7 +109,8 @@ impl<T> Still<T> {
         ensures rest { self.new.0 ≡ remove self.old.0 place }
         ensures room { self.new.1 ≡ self.old.1 }
     {
-        self.last = place;
+        // What is taken out is mostly asked for next: it would go behind the item before.
+        self.last = place.saturating_sub(1);
         self.full.remove(place).into_item()
     }
 
@@ -137,8 +139,39 @@ impl<T: Keyed> Still<T> {
         ensures place { IfOk result (IsKeyPlace T.Key.cmp T.key_of key.now self.now.0) }
         ensures gap { IfErr result (IsKeyGap T.Key.cmp T.key_of key.now self.now.0) }
     {
-        place_beside(&self.full, self.last, key)
+        let behind = self.last.saturating_add(1).min(self.full.len());
+        if is_at(&self.full, self.last, key) {
+            Ok(self.last)
+        } else if is_gap(&self.full, behind, key) {
+            Err(behind)
+        } else {
+            place_beside(&self.full, self.last, key)
+        }
     }
+}
+
+// Whether the key is that of the cell at a place.
+fn is_at<T: Keyed>(cells: &[Full<T>], place: usize, key: &T::Key) -> bool
+    requires full { AreFull cells.now }
+    requires in_order { IsInKeyOrder T.Key.cmp T.key_of (held cells.now) }
+    ensures in_range { result ≡ true → place < length cells.now }
+    ensures place { result ≡ true → IsKeyPlace T.Key.cmp T.key_of key.now (held cells.now) place }
+{
+    match cells.get(place) {
+        Some(cell) => cell.item().key().cmp(key).is_eq(),
+        None => false,
+    }
+}
+
+// Whether an item of the key would go before the cell at a place, and behind all others.
+fn is_gap<T: Keyed>(cells: &[Full<T>], place: usize, key: &T::Key) -> bool
+    requires place { place ≤ length cells.now }
+    requires full { AreFull cells.now }
+    requires in_order { IsInKeyOrder T.Key.cmp T.key_of (held cells.now) }
+    ensures { result ≡ true → IsKeyGap T.Key.cmp T.key_of key.now (held cells.now) place }
+{
+    let (before, behind) = cells.split_at(place);
+    is_above(before, key) && is_below(behind, key)
 }
 
 // As `place_among` says, and sooner where the key stands beside a place: only few cells are looked at, which stand side by side.
