@@ -26,6 +26,11 @@ def side_by_side(count):
     return {"actions": {"Each": each(count, {"Item": {"type": "Compose", "inputs": "@item()"}})}}
 
 
+def handed_in(_):
+    made = {"Each": {"type": "Foreach", "foreach": "@triggerBody()", "actions": {"Item": {"type": "Compose", "inputs": "@item()"}}}}
+    return {"triggers": {"Asked": {"type": "Request"}}, "actions": made}
+
+
 def in_one_another(count):
     return {"actions": {"Each": each(count, {"Inner": each(count, {"Item": {"type": "Compose", "inputs": "@item()"}})})}}
 
@@ -54,12 +59,17 @@ def nothing_handed(_):
     return handed()
 
 
+def items(count):
+    return handed(outputs={"body": list(range(count))})
+
+
 def answers(count):
     return handed(answers=[{"action": "Call", "at": [k], "status": 200, "body": {"id": k}} for k in range(count)])
 
 
 LOOPS = [
     ("a Foreach", side_by_side, nothing_handed, (10000, 100000), "loop"),
+    ("a Foreach over what its trigger put out", handed_in, items, (10000, 100000), "jq"),
     ("two in one another, N by N", in_one_another, nothing_handed, (95, 300), "nested"),
     ("a sequential one, counting", counting, nothing_handed, (10000, 100000), None),
     ("a sequential one, appending", appending, nothing_handed, (1000, 10000), "appends"),

@@ -8,6 +8,8 @@ ghost use Rattle.wf_environment.specs.Environment.{fresh};
 ghost use Rattle.wf_sight_laws.specs.Answered.{IsAnswered};
 ghost use Rattle.wf_reading.specs.ReadSeen.{def_tree};
 ghost use Rattle.wf_trigger.specs.StartsSeen.{start_tree};
+ghost use Rattle.wf_val.specs.Cut.{cut_u64};
+ghost use Rattle.wf_paying.specs.Paying.{first_cost};
 ghost use Rattle.wf_actions.specs.Origin.{source_by};
 
 use wf_answers::Inputs;
@@ -42,6 +44,9 @@ pub struct Actions<'a> {
     pub start: &'a Start,
     pub inputs: &'a Inputs,
     pub(crate) old: Option<Old<'a>>,
+    // What its run costs before the first event. It is asked for at each event, and to weigh a large trigger takes long.
+    pub(crate) fee: u64,
     ghost answered: { ∥ IsAnswered (def_tree ready.now.checked.now.def) (fresh (start_tree start.now) (inputs_tree inputs.now))
         (source_by (def_tree ready.now.checked.now.def) (start_tree start.now) (inputs_tree inputs.now) old) ∥₁ },
+    ghost weighed: { fee ≡ cut_u64 (first_cost (start_tree start.now)) },
 }

@@ -3,6 +3,7 @@ ghost use Rattle.wf_actions.specs.Acting.{ActAgain, ActForItself, AnswersAgain};
 
 use crate::actions::{Actions, Old, Ready};
 use crate::opened::was_read;
+use crate::pays::first_cost;
 use wf_answers::Inputs;
 use wf_record::Record;
 use wf_trigger::Start;
@@ -22,6 +23,7 @@ impl<'a> Actions<'a> {
             start,
             inputs,
             old: None,
+            fee: first_cost(start),
         }
     }
 
@@ -41,6 +43,7 @@ impl<'a> Actions<'a> {
             start,
             inputs,
             old: Some(Old { log, from }),
+            fee: first_cost(start),
         }
     }
 }

@@ -16,7 +16,7 @@ use wf_making::Pays;
 use wf_trigger::Start;
 
 // What the run that starts so costs before its first event: 64, its trigger and its parameters.
-fn first_cost(start: &Start) -> u64
+pub(crate) fn first_cost(start: &Start) -> u64
     ensures { result ≡ cut_u64 (first_cost (start_tree start.now)) }
 {
     start
@@ -46,7 +46,7 @@ impl<'a> Pays for Actions<'a> {
     ghost rows_meant = { meant.rows_meant };
 
     fn first_cost(&self) -> u64 {
-        first_cost(self.start)
+        self.fee
     }
 
     fn is_paid(&self) {
