@@ -128,11 +128,14 @@ impl Vals {
         Ok(Vals { items: copies })
     }
 
-    /// A copy with one more value behind, which has room for just these: `push` behind a `copy` would double its room.
+    /// A copy with one more value behind, and room for about a sixteenth more: `push` behind a `copy` would double its
+    /// room, and what just the values take, given back, is too small for the next copy of a list that grows.
     pub fn copy_with(&self, alloc: Global, last: Val) -> Result<Vals, AllocError>
         ensures { IfOk result (λ v. v ≡ self.now ++ tree last ∷ []) }
     {
-        let mut copies = self.copy_with_capacity(alloc, self.items.len().saturating_add(1))?;
+        let len = self.items.len();
+        let capacity = len.saturating_add(len / 16).saturating_add(1);
+        let mut copies = self.copy_with_capacity(alloc, capacity)?;
         copies.push(last)?;
         Ok(copies)
     }

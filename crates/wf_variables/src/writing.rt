@@ -132,12 +132,13 @@ fn with_text(alloc: Global, name: &Text, now: &Val, value: Val) -> Result<Made, 
     }
 }
 
-// Two texts as one, which has room for just these.
+// Two texts as one, with room for about a sixteenth more, so that what is given back serves for the next one of a text
+// that grows.
 fn joined(alloc: Global, front: &str, back: &str) -> Result<String, AllocError>
     ensures { IfOk result (λ s. string_bytes s ≡ front.now ++ back.now) }
 {
-    let length = front.len().saturating_add(back.len());
-    let mut both = String::with_capacity(alloc, length)?;
+    let len = front.len().saturating_add(back.len());
+    let mut both = String::with_capacity(alloc, len.saturating_add(len / 16))?;
     both.push_str(front)?;
     both.push_str(back)?;
     Ok(both)
