@@ -1,4 +1,4 @@
--- What a Query, a Join, a ParseJson and a Terminate take, by a value of each type, and names that are no status of a run.
+-- What a Select, a Query, a Join, a ParseJson and a Terminate take, by a value of each type, and names that are no status of a run.
 use Rattle.std.proofs.Common.{◌≡◌, refl, ap, ℕ, List, [], ◌∷◌, map, true, false, Some, None, Ok, Err}
 use Rattle.std.specs.Prelude.{codes, replicate}
 use Rattle.wf_val.specs.Arguments.{bounded}
@@ -7,10 +7,15 @@ use Rattle.wf_val.specs.declared.fault.EvalFault.{EvalFault}
 use Rattle.wf_val.specs.declared.function.Fun.{Fun}
 use Rattle.wf_json.specs.Read.{read_value}
 use Rattle.wf_json.specs.declared.fault.JsonFault.{JsonFault}
-use Rattle.wf_data.specs.Lists.{items_from, joined, query_truth}
+use Rattle.wf_template.specs.ExprTree.{literal}
+use Rattle.wf_template.specs.TemplateTree.{whole}
+use Rattle.wf_look.proofs.WorkedLook.{nowhere}
+use Rattle.wf_record.specs.declared.status.RunStatus.{RunStatus}
+use Rattle.wf_data.specs.Lists.{items_from, joined, made_query, made_select, query_truth}
+use Rattle.wf_data.specs.Made.{one_member}
 use Rattle.wf_data.specs.Parsed.{parsed, read_answer}
-use Rattle.wf_data.specs.Simple.{run_status_by, run_status_named}
-use Rattle.wf_data.proofs.RowParts.{plus, items, fields}
+use Rattle.wf_data.specs.Simple.{run_status_by, run_status_named, terminated}
+use Rattle.wf_data.proofs.RowParts.{plus, items, fields, that, listed, item, makes}
 
 -- ---- a list alone is gone over
 
@@ -27,6 +32,19 @@ query-others :
     null ∷ plus 0 ∷ plus 1 ∷ text [] ∷ text (codes "true") ∷ items [] ∷ items (boolean true ∷ []) ∷ fields [] ∷ [])
     ≡ replicate 8 (Err (EvalFault.WrongType Fun.Query 1))
 query-others = refl
+
+-- ---- null is an item as any other, and a value as any other
+
+abbrev nulls : List ValueTree
+nulls = null ∷ plus 1 ∷ null ∷ []
+
+select-nulls : made_select nowhere (listed nulls) (that item) 7
+    ≡ makes (one_member (codes "from") (items nulls)) (one_member (codes "body") (items nulls))
+select-nulls = refl
+
+query-nulls : made_query nowhere (listed nulls) (whole (literal (boolean true))) 7
+    ≡ makes (one_member (codes "from") (items nulls)) (one_member (codes "body") (items nulls))
+query-nulls = refl
 
 -- ---- a text alone stands between the items of a Join
 
@@ -57,6 +75,12 @@ status-others :
     ∷ Some (fields ((codes "runStatus", text (codes "Failed")) ∷ [])) ∷ [])
     ≡ replicate 6 None
 status-others = refl
+
+-- however the run ends, a Terminate gives out nothing
+terminated-each :
+    map (λ s. terminated (plus 7) (Some s)) (RunStatus.Succeeded ∷ RunStatus.Failed ∷ RunStatus.Cancelled ∷ [])
+    ≡ replicate 3 (Ok (record { inputs = plus 7; outputs = null }))
+terminated-each = refl
 
 status-no_names :
     map run_status_named (

@@ -1,15 +1,18 @@
--- What the schema of a ParseJson judges: the value that is given out, and that alone, once there is one.
+-- What the schema of a ParseJson judges: the value that is given out, and that alone, once there is one. And what a fault comes to.
 use Rattle.std.proofs.Common.{◌≡◌, refl, [], ◌∷◌, Some, None, Err}
 use Rattle.std.specs.Prelude.{codes}
 use Rattle.wf_val.specs.ValueTree.{ValueTree, null, text}
 use Rattle.wf_val.specs.declared.fault.EvalFault.{EvalFault}
+use Rattle.wf_json.specs.FaultText.{fault_text}
+use Rattle.wf_retry.specs.declared.policy.Policy.{Policy}
+use Rattle.wf_record.specs.declared.status.Status.{Status}
 use Rattle.wf_template.specs.DataTree.{DataTree}
 use Rattle.wf_schema.specs.Reading.{SchemaTree}
 use Rattle.wf_def.specs.ActionTree.{parse_json}
 use Rattle.wf_data.specs.Made.{MadeTree, one_member}
 use Rattle.wf_data.proofs.RowParts.{plus, fields}
 use Rattle.wf_done.specs.Done.{faulted, mismatched, succeeded}
-use Rattle.wf_done.specs.Leaf.{done_of, judged}
+use Rattle.wf_done.specs.Leaf.{acted, called_with, done_of, judged}
 
 -- a text that spells 5, and the value that was read
 abbrev five : MadeTree
@@ -42,3 +45,13 @@ fault-first content schema f = refl
 
 fault-unjudged : (content : DataTree) (f : EvalFault) → done_of (parse_json content None) (Err f) ≡ faulted f
 fault-unjudged content f = refl
+
+-- ---- whatever the fault is, it fails the action with the one code, and no attempt is made
+
+faulted-any :
+    (f : EvalFault) → faulted f
+    ≡ record { status = Status.Failed; code = codes "InvalidTemplate"; inputs = null; outputs = null; error = text (fault_text f) }
+faulted-any f = refl
+
+called-faulty : (policy : Policy) (f : EvalFault) → called_with policy (Err f) ≡ acted (faulted f)
+called-faulty policy f = refl
