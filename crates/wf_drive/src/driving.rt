@@ -88,7 +88,7 @@ fn note<M: Machine>(
 {
     if traced {
         let told = machine.tell(alloc, event)?;
-        write_line(alloc, trace, number, &told)
+        write_line(trace, number, &told)
     } else {
         Ok(())
     }

@@ -14,6 +14,8 @@ pub(crate) fn summary_line(
 ) -> Result<Vec<u8>, AllocError>
     ensures { IfOk result (λ line. line.items ≡ summary_line run.now steps peak) }
 {
-    let line = format!(in alloc; "# run {run} steps {steps} peak {peak}\n")?;
+    // Two numbers have twenty digits each at most.
+    let mut line = String::with_capacity(alloc, run.len().saturating_add(64))?;
+    writeln!(line, "# run {run} steps {steps} peak {peak}")?;
     Ok(line.into_bytes())
 }

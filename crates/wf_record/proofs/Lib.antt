@@ -2,3 +2,4 @@ pub mod CostLemmas
 pub mod FoundLemmas
 pub mod LineLemmas
 mod Rows
+pub mod ShortLemmas

@@ -1,26 +1,63 @@
-//! Values whose JSON text is written where it goes. A writer has a buffer of its own, which for the many small values of a record is most
-//! of the work.
-ghost use Rattle.std.specs.Prelude.{◌≡◌, ◌++◌, ◌∷◌, [], IfSome, OnOk, flat_map, true};
+//! The JSON text of a value, written where it goes. A writer of JSON has a buffer of its own, which for the many small values of a record is
+//! most of the work.
+ghost use Rattle.std.specs.Prelude.{◌≡◌, ◌++◌, ◌∷◌, [], OnOk, flat_map, true};
 ghost use Rattle.wf_json.specs.Json.{escaped, json};
 ghost use Rattle.wf_val.specs.Seen.{tree};
 ghost use Rattle.wf_val.specs.ValueTree as value;
 
 use itoa::Buffer;
 use std::alloc::AllocError;
-use wf_val::Val;
+use wf_val::{Fields, Val, Vals};
 
 /// Writes the JSON text of a value behind what there is.
+#[cycle(put)]
 pub(crate) fn put_value(bytes: &mut Vec<u8>, value: &Val) -> Result<(), AllocError>
     ensures { OnOk result (bytes.new.items ≡ bytes.old.items ++ json (tree value.now)) }
 {
-    if let Some(text) = empty_text(value) {
-        return bytes.extend_from_slice(text.as_bytes());
-    }
     match value {
+        Val::Null => bytes.extend_from_slice(b"null"),
+        Val::Bool(true) => bytes.extend_from_slice(b"true"),
+        Val::Bool(false) => bytes.extend_from_slice(b"false"),
         Val::Int(number) => put_number(bytes, *number),
         Val::Text(text) => put_text(bytes, text.as_str()),
-        _ => wf_json::write_to(bytes, value),
+        Val::List(items) => put_items(bytes, items),
+        Val::Obj(fields) => put_fields(bytes, fields),
     }
+}
+
+/// Writes the JSON text of a list behind what there is.
+#[cycle(put)]
+#[tactic(auto, using(crate::proofs::ShortLemmas::no_values_left, std::proofs::Common::append_assoc))]
+fn put_items(bytes: &mut Vec<u8>, items: &Vals) -> Result<(), AllocError>
+    ensures { OnOk result (bytes.new.items ≡ bytes.old.items ++ json (value.list (value.trees items.now))) }
+{
+    bytes.extend_from_slice(b"[")?;
+    for (place, item) in items.as_slice().iter().enumerate() {
+        if place > 0 {
+            bytes.extend_from_slice(b",")?;
+        }
+        put_value(bytes, item)?;
+    }
+    bytes.extend_from_slice(b"]")
+}
+
+/// Writes the JSON text of an object that has these members behind what there is.
+#[cycle(put)]
+#[tactic(auto, using(crate::proofs::ShortLemmas::no_members_left, std::proofs::Common::append_assoc))]
+pub(crate) fn put_fields(bytes: &mut Vec<u8>, fields: &Fields) -> Result<(), AllocError>
+    ensures { OnOk result (bytes.new.items ≡ bytes.old.items ++ json (value.object (value.members fields.now))) }
+{
+    bytes.extend_from_slice(b"{")?;
+    for (place, member) in fields.as_slice().iter().enumerate() {
+        if place > 0 {
+            bytes.extend_from_slice(b",")?;
+        }
+        let (name, value) = member;
+        put_text(bytes, name.as_str())?;
+        bytes.extend_from_slice(b":")?;
+        put_value(bytes, value)?;
+    }
+    bytes.extend_from_slice(b"}")
 }
 
 /// Writes a text, in quotation marks, behind what there is.
@@ -40,18 +77,6 @@ fn put_number(bytes: &mut Vec<u8>, number: i64) -> Result<(), AllocError>
 {
     let mut buffer = Buffer::new();
     bytes.extend_from_slice(buffer.format(number).as_bytes())
-}
-
-// What is written of null and of what is empty.
-fn empty_text(value: &Val) -> Option<&'static str>
-    ensures { IfSome result (λ s. s.now ≡ json (tree value.now)) }
-{
-    match value {
-        Val::Null => Some("null"),
-        Val::List(items) if items.len() == 0 => Some("[]"),
-        Val::Obj(fields) if fields.len() == 0 => Some("{}"),
-        _ => None,
-    }
 }
 
 // Whether each character of a text stands for itself.

@@ -1,28 +1,36 @@
 //! The front of a line.
-ghost use Rattle.std.specs.Prelude.{◌≡◌, ◌∷◌, ◌++◌, [], codes, IfOk, OnOk};
-ghost use Rattle.wf_val.specs.Address.{address_text};
+ghost use Rattle.std.specs.Prelude.{◌≡◌, ◌∷◌, ◌++◌, [], codes, decimal, flat_map, IfOk, OnOk};
+ghost use Rattle.wf_val.specs.Address.{address_text, index_text};
 ghost use Rattle.wf_trace.specs.Told.{line_at};
 
+use itoa::Buffer;
 use std::alloc::{AllocError, Global};
-use wf_lists::TryCopy;
-use wf_val::{Address, Indexes, Name, Text};
-
-// The text of an instance.
-fn place(alloc: Global, name: &Name, at: &Indexes) -> Result<Text, AllocError>
-    ensures { IfOk result (λ t. t ≡ address_text (record { name = name.now; at = at.now })) }
-{
-    let address = Address {
-        name: name.copy(alloc)?,
-        at: at.copy(alloc)?,
-    };
-    address.text(alloc)
-}
+use wf_val::{Indexes, Name};
 
 // Adds a text as it is.
 pub(crate) fn add(line: &mut Vec<u8>, text: &str) -> Result<(), AllocError>
     ensures { OnOk result (line.new.items ≡ line.old.items ++ text.now) }
 {
     line.extend_from_slice(text.as_bytes())?;
+    Ok(())
+}
+
+// Adds a number in decimal.
+pub(crate) fn add_number(line: &mut Vec<u8>, number: u64) -> Result<(), AllocError>
+    ensures { OnOk result (line.new.items ≡ line.old.items ++ decimal number) }
+{
+    let mut buffer = Buffer::new();
+    add(line, buffer.format(number))
+}
+
+// Adds the numbers of iterations, each behind a slash.
+fn add_indexes(line: &mut Vec<u8>, at: &Indexes) -> Result<(), AllocError>
+    ensures { OnOk result (line.new.items ≡ line.old.items ++ flat_map index_text at.now) }
+{
+    for index in at.as_slice() {
+        line.extend_from_slice(b"/")?;
+        add_number(line, *index)?;
+    }
     Ok(())
 }
 
@@ -36,10 +44,12 @@ pub(crate) fn front(
 ) -> Result<Vec<u8>, AllocError>
     ensures { IfOk result (λ line. line.items ≡ kind.now ++ 32 ∷ address_text (record { name = name.now; at = at.now })) }
 {
-    let place = place(alloc, name, at)?;
-    let mut line = Vec::from_slice(alloc, kind.as_bytes())?;
+    // Most lines are shorter.
+    let mut line = Vec::with_capacity(alloc, 64)?;
+    line.extend_from_slice(kind.as_bytes())?;
     line.push(b' ')?;
-    line.extend_from_slice(place.as_str().as_bytes())?;
+    line.extend_from_slice(name.as_str().as_bytes())?;
+    add_indexes(&mut line, at)?;
     Ok(line)
 }
 

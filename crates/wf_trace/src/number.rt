@@ -5,26 +5,18 @@ ghost use Rattle.wf_trace.specs.Texts.{try_text, verdict_text};
 ghost use Rattle.wf_trace.specs.Told.{attempt_text, line_at, of_attempt, test_text};
 
 use crate::fault::add_fault;
-use crate::line::{add, front};
+use crate::line::{add, add_number, front};
 use std::alloc::{AllocError, Global};
 use wf_opening::Verdict;
 use wf_record::Try;
 use wf_val::{Indexes, Name};
 
-// Adds a number in decimal.
-pub(crate) fn add_number(alloc: Global, line: &mut Vec<u8>, number: u64) -> Result<(), AllocError>
-    ensures { OnOk result (line.new.items ≡ line.old.items ++ decimal number) }
-{
-    let text = format!(in alloc; "{}", number)?;
-    add(line, text.as_str())
-}
-
 // Adds what an attempt came to.
-fn add_try(alloc: Global, line: &mut Vec<u8>, attempt: Try) -> Result<(), AllocError>
+fn add_try(line: &mut Vec<u8>, attempt: Try) -> Result<(), AllocError>
     ensures { OnOk result (line.new.items ≡ line.old.items ++ try_text attempt) }
 {
     match attempt {
-        Try::Code(code) => add_number(alloc, line, code as u64),
+        Try::Code(code) => add_number(line, code as u64),
         Try::NoConnection => add(line, "noConnection"),
         Try::TimedOut => add(line, "timedOut"),
         Try::NoAnswer => add(line, "noAnswer"),
@@ -34,23 +26,17 @@ fn add_try(alloc: Global, line: &mut Vec<u8>, attempt: Try) -> Result<(), AllocE
 
 // Adds a blank, the number of an attempt, and what it came to.
 #[tactic(auto, using(std::proofs::Common::append_assoc))]
-fn add_attempt(
-    alloc: Global,
-    line: &mut Vec<u8>,
-    number: u64,
-    attempt: Try,
-) -> Result<(), AllocError>
+fn add_attempt(line: &mut Vec<u8>, number: u64, attempt: Try) -> Result<(), AllocError>
     ensures { OnOk result (line.new.items ≡ line.old.items ++ 32 ∷ attempt_text number attempt) }
 {
     line.push(b' ')?;
-    add_number(alloc, line, number)?;
+    add_number(line, number)?;
     line.push(b' ')?;
-    add_try(alloc, line, attempt)
+    add_try(line, attempt)
 }
 
 // The same, and nothing where it isn't known what the attempt came to.
 fn add_known_attempt(
-    alloc: Global,
     line: &mut Vec<u8>,
     number: u64,
     attempt: Option<Try>,
@@ -58,7 +44,7 @@ fn add_known_attempt(
     ensures { OnOk result (line.new.items ≡ line.old.items ++ of_attempt number attempt) }
 {
     match attempt {
-        Some(attempt) => add_attempt(alloc, line, number, attempt),
+        Some(attempt) => add_attempt(line, number, attempt),
         None => add(line, ""),
     }
 }
@@ -75,7 +61,7 @@ pub fn try_line(
     ensures { IfOk result (λ line. line.items ≡ line_at (codes "Try") name.now at.now (of_attempt number attempt)) }
 {
     let mut line = front(alloc, "Try", name, at)?;
-    add_known_attempt(alloc, &mut line, number, attempt)?;
+    add_known_attempt(&mut line, number, attempt)?;
     Ok(line)
 }
 
@@ -91,7 +77,7 @@ pub fn begin_line(
 {
     let mut line = front(alloc, "Begin", name, at)?;
     line.push(b' ')?;
-    add_number(alloc, &mut line, index)?;
+    add_number(&mut line, index)?;
     Ok(line)
 }
 
@@ -116,7 +102,7 @@ fn add_test(
 ) -> Result<(), AllocError>
     ensures { OnOk result (line.new.items ≡ line.old.items ++ test_text index (verdict_tree verdict.now)) }
 {
-    add_number(alloc, line, index)?;
+    add_number(line, index)?;
     line.push(b' ')?;
     add_verdict(alloc, line, verdict)
 }

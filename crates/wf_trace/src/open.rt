@@ -8,8 +8,7 @@ ghost use Rattle.wf_trace.specs.Texts.{case_at, case_text, cases_of, open_text};
 ghost use Rattle.wf_trace.specs.Told.{line_at};
 
 use crate::fault::add_fault;
-use crate::line::{add, front};
-use crate::number::add_number;
+use crate::line::{add, add_number, front};
 use std::alloc::{AllocError, Global};
 use wf_def::{Case, Cases, Kind};
 use wf_json::quote_to;
@@ -65,11 +64,11 @@ fn add_spaced_branch(line: &mut Vec<u8>, kind: &Kind, branch: u64) -> Result<(),
 }
 
 #[tactic(auto, using(std::proofs::Common::append_assoc))]
-fn add_spaced_number(alloc: Global, line: &mut Vec<u8>, number: u64) -> Result<(), AllocError>
+fn add_spaced_number(line: &mut Vec<u8>, number: u64) -> Result<(), AllocError>
     ensures { OnOk result (line.new.items ≡ line.old.items ++ 32 ∷ decimal number) }
 {
     line.push(b' ')?;
-    add_number(alloc, line, number)
+    add_number(line, number)
 }
 
 #[tactic(auto, using(std::proofs::Common::append_assoc))]
@@ -94,7 +93,7 @@ fn add_decision(
         Decision::Held(true) => add(line, " true"),
         Decision::Held(false) => add(line, " false"),
         Decision::Chosen { value: _, branch } => add_spaced_branch(line, kind, *branch),
-        Decision::Each(items) => add_spaced_number(alloc, line, items.len()),
+        Decision::Each(items) => add_spaced_number(line, items.len()),
         Decision::TooMany => add(line, " !LimitExceeded"),
         Decision::Faulty(fault) => add_spaced_fault(alloc, line, fault),
     }

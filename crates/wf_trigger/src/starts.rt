@@ -111,9 +111,11 @@ fn with_body(alloc: Global, outputs: &Val, item: &Val) -> Result<Val, AllocError
     Ok(Val::Obj(fields))
 }
 
+// A text with a number, which has twenty digits at most.
 fn numbered(alloc: Global, text: &str, k: u64) -> Result<Text, AllocError>
     ensures { IfOk result (λ t. t ≡ numbered text.now k) }
 {
-    let text = format!(in alloc; "{text}-{k}")?;
-    Ok(Text::from_string(text))
+    let mut numbered = String::with_capacity(alloc, text.len().saturating_add(21))?;
+    write!(numbered, "{text}-{k}")?;
+    Ok(Text::from_string(numbered))
 }
