@@ -11,8 +11,6 @@ TOP = os.path.dirname(os.path.dirname(os.path.abspath(__file__)))
 ROOM = tempfile.TemporaryDirectory()
 FOLDER = ROOM.name
 RUNS, ENOUGH = 5, 12
-# As bin/launch starts a program.
-os.environ.setdefault("MALLOC_MMAP_THRESHOLD_", "65536")
 # Whether times are those of the processor, and no wall clock; bench.py sets it.
 BY_PROCESSOR = False
 

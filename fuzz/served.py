@@ -10,8 +10,6 @@ import subprocess
 import tempfile
 
 TOP = os.path.dirname(os.path.dirname(os.path.abspath(__file__)))
-# What bin/launch hands to the C library.
-LAUNCHED = {"MALLOC_MMAP_THRESHOLD_": "65536"}
 PROGRAM = os.path.join(TOP, "bin", "x86_64-linux", "wflow")
 KINDS = ("allocation", "open", "read", "write")
 REQUESTS, ANSWERS = 198, 199
@@ -60,7 +58,7 @@ class Served:
             if memory:
                 resource.setrlimit(resource.RLIMIT_AS, (memory, memory))
         self.process = subprocess.Popen([program], cwd=folder, stdin=subprocess.DEVNULL, stdout=subprocess.DEVNULL, stderr=self.errors,
-                                        env={"LD_PRELOAD": built} | LAUNCHED, preexec_fn=limits, close_fds=False)
+                                        env={"LD_PRELOAD": built}, preexec_fn=limits, close_fds=False)
         os.close(asks)
         os.close(says)
 
