@@ -26,21 +26,21 @@ pub(crate) struct Table {
 
 // The object under a name of the data, taken out of it.
 fn object_in(alloc: Global, data: &mut Fields, name: &str) -> Result<Fields, AllocError> {
-    match data.remove(&Text::of(alloc, name)?) {
+    match data.remove(&Text::of(alloc, name)?)? {
         Some(Val::Obj(fields)) => Ok(fields),
         _ => Ok(Fields::new(alloc)),
     }
 }
 
 fn list_in(alloc: Global, data: &mut Fields, name: &str) -> Result<Vals, AllocError> {
-    match data.remove(&Text::of(alloc, name)?) {
+    match data.remove(&Text::of(alloc, name)?)? {
         Some(Val::List(items)) => Ok(items),
         _ => Ok(Vals::new(alloc)),
     }
 }
 
 fn number_in(alloc: Global, data: &mut Fields, name: &str) -> Result<i64, AllocError> {
-    match data.remove(&Text::of(alloc, name)?) {
+    match data.remove(&Text::of(alloc, name)?)? {
         Some(Val::Int(number)) => Ok(number),
         _ => Ok(0),
     }

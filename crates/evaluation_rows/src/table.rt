@@ -28,28 +28,28 @@ pub(crate) struct Table {
 
 // The object under a name of the data, taken out of it.
 fn object_in(alloc: Global, data: &mut Fields, name: &str) -> Result<Fields, AllocError> {
-    match data.remove(&Text::of(alloc, name)?) {
+    match data.remove(&Text::of(alloc, name)?)? {
         Some(Val::Obj(fields)) => Ok(fields),
         _ => Ok(Fields::new(alloc)),
     }
 }
 
 fn list_in(alloc: Global, data: &mut Fields, name: &str) -> Result<Vals, AllocError> {
-    match data.remove(&Text::of(alloc, name)?) {
+    match data.remove(&Text::of(alloc, name)?)? {
         Some(Val::List(items)) => Ok(items),
         _ => Ok(Vals::new(alloc)),
     }
 }
 
 fn text_in(alloc: Global, data: &mut Fields, name: &str) -> Result<Text, AllocError> {
-    match data.remove(&Text::of(alloc, name)?) {
+    match data.remove(&Text::of(alloc, name)?)? {
         Some(Val::Text(text)) => Ok(text),
         _ => Text::of(alloc, ""),
     }
 }
 
 fn number_in(alloc: Global, data: &mut Fields, name: &str) -> Result<i64, AllocError> {
-    match data.remove(&Text::of(alloc, name)?) {
+    match data.remove(&Text::of(alloc, name)?)? {
         Some(Val::Int(number)) => Ok(number),
         _ => Ok(0),
     }
@@ -98,7 +98,7 @@ impl Table {
     // Takes what is there once.
     fn take_single(&mut self, alloc: Global, data: &mut Fields) -> Result<(), AllocError> {
         self.items = list_in(alloc, data, "items")?;
-        self.own = data.remove(&Text::of(alloc, "own")?);
+        self.own = data.remove(&Text::of(alloc, "own")?)?;
         self.moment = number_in(alloc, data, "moment")?;
         self.run = text_in(alloc, data, "run")?;
         self.seed = text_in(alloc, data, "seed")?;
@@ -109,7 +109,7 @@ impl Table {
     // Takes the trigger's value.
     fn take_trigger(&mut self, alloc: Global, data: &mut Fields) -> Result<(), AllocError> {
         let name = Text::of(alloc, "trigger")?;
-        match data.remove(&name) {
+        match data.remove(&name)? {
             Some(trigger) => self.trigger = trigger,
             None => self.trigger = no_trigger(alloc)?,
         }

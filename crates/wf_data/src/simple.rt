@@ -20,7 +20,7 @@ pub fn compose<L: Look>(alloc: Global, inputs: &Tree, look: &mut L) -> Result<Ma
     ensures same { L.told look.new ≡ L.told look.old }
     ensures held { L.held look.new ≡ L.held look.old }
 {
-    let inputs = eval_tree(alloc, inputs, look)?;
+    let inputs = eval_tree(alloc, inputs, look)?.shared(alloc)?;
     let outputs = inputs.copy(alloc)?;
     fitting(inputs, outputs)
 }

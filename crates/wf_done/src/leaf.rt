@@ -73,6 +73,16 @@ fn done_of(alloc: Global, kind: &Kind, made: Made) -> Result<Done, AllocError>
     }
 }
 
+// The same, made to be copied and measured at each use.
+fn shared(alloc: Global, made: Made) -> Result<Made, AllocError>
+    ensures { IfOk result (λ m. made_tree m ≡ made_tree made) }
+{
+    Ok(Made {
+        inputs: made.inputs.shared(alloc)?,
+        outputs: made.outputs.shared(alloc)?,
+    })
+}
+
 // What it comes to, where it calls nothing.
 fn acted<L: Look>(alloc: Global, kind: &Kind, look: &mut L) -> Result<Done, AllocError>
     ensures done { IfOk result (λ d. done_tree d
@@ -81,7 +91,7 @@ fn acted<L: Look>(alloc: Global, kind: &Kind, look: &mut L) -> Result<Done, Allo
     ensures held { L.held look.new ≡ L.held look.old }
 {
     match made_by(alloc, kind, look) {
-        Ok(made) => done_of(alloc, kind, made),
+        Ok(made) => done_of(alloc, kind, shared(alloc, made)?),
         Err(EvalFault::Memory) => Err(AllocError),
         Err(fault) => faulted(alloc, &fault),
     }
@@ -100,7 +110,10 @@ fn called_with<L: Look>(
     ensures held { L.held look.new ≡ L.held look.old }
 {
     match eval_tree(alloc, inputs, look) {
-        Ok(inputs) => Ok(Begun::Calling { inputs, policy }),
+        Ok(inputs) => {
+            let inputs = inputs.shared(alloc)?;
+            Ok(Begun::Calling { inputs, policy })
+        }
         Err(EvalFault::Memory) => Err(AllocError),
         Err(fault) => Ok(Begun::Acted(faulted(alloc, &fault)?)),
     }
@@ -132,7 +145,7 @@ pub fn ended_by(alloc: Global, inputs: Val, tried: Tried) -> Result<Done, AllocE
             status,
             code,
             inputs,
-            outputs,
+            outputs: outputs.shared(alloc)?,
             error: Val::Null,
         }),
         Tried::Again => skipped(alloc),

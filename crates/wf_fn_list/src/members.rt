@@ -45,6 +45,6 @@ pub fn f_remove_property(alloc: Global, args: &Vals) -> Result<Val, EvalFault>
     let fields = object_at(Fun::RemoveProperty, args, 0)?;
     let name = text_at(Fun::RemoveProperty, args, 1)?;
     let mut object = fields.copy(alloc)?;
-    let _removed = object.remove(name);
+    let _removed = object.remove(name)?;
     bounded(Val::Obj(object))
 }

@@ -30,7 +30,7 @@ fn without_policy(alloc: Global, value: &Val) -> Result<Val, AllocError>
 {
     let name = Text::of(alloc, "retryPolicy")?;
     let mut rest = value.copy(alloc)?;
-    let _policy = rest.remove(&name);
+    let _policy = rest.remove(&name)?;
     Ok(rest)
 }
 

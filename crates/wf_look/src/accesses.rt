@@ -1,18 +1,17 @@
 //! Accesses to members and items.
-ghost use Rattle.std.specs.Prelude.{◌≡◌, option_map};
+ghost use Rattle.std.specs.Prelude.{◌≡◌, IfOk, option_map};
 ghost use Rattle.wf_val.specs.Arguments.{Gives, seen};
 ghost use Rattle.wf_val.specs.Seen.{tree};
 ghost use Rattle.wf_look.specs.Accesses.{member_row, item_at, index_row};
 
-use std::alloc::Global;
+use std::alloc::{AllocError, Global};
 use wf_val::{EvalFault, Fun, Text, Val, wrong_type};
 
-/// The member of a name, moved out of the value.
+/// The member of a name.
 pub fn member_of(alloc: Global, value: Val, name: &Text, soft: bool) -> Result<Val, EvalFault>
     ensures { Gives (seen result) (member_row name.now soft (tree value)) }
 {
-    let mut value = value;
-    match value.remove(name) {
+    match value.into_member(alloc, name)? {
         Some(member) => Ok(member),
         None => {
             if soft {
@@ -26,17 +25,14 @@ pub fn member_of(alloc: Global, value: Val, name: &Text, soft: bool) -> Result<V
     }
 }
 
-// The item at a place, which may be below 0, moved out of the value.
-#[tactic(auto, using(wf_val::proofs::ValueTreeLemmas::listed))]
-fn item_at(value: Val, place: i64) -> Option<Val>
-    ensures { option_map tree result ≡ item_at place (tree value) }
+// The item at a place, which may be below 0.
+fn item_at(alloc: Global, value: Val, place: i64) -> Result<Option<Val>, AllocError>
+    ensures { IfOk result (λ found. option_map tree found ≡ item_at place (tree value)) }
 {
-    match value {
-        Val::List(items) if place >= 0 => {
-            let mut items = items;
-            items.take(place as u64)
-        }
-        _ => None,
+    if place >= 0 {
+        value.into_item(alloc, place as u64)
+    } else {
+        Ok(None)
     }
 }
 
@@ -46,7 +42,7 @@ pub fn index_of(alloc: Global, value: Val, key: &Val, soft: bool) -> Result<Val,
 {
     match key {
         Val::Text(name) => member_of(alloc, value, name, soft),
-        Val::Int(place) => match item_at(value, *place) {
+        Val::Int(place) => match item_at(alloc, value, *place)? {
             Some(item) => Ok(item),
             None => {
                 if soft {

@@ -117,7 +117,7 @@ fn each<L: Look>(alloc: Global, list: &Tree, look: &mut L) -> Result<Decision, A
     ensures held { L.held look.new ≡ L.held look.old }
 {
     match eval_tree(alloc, list, look) {
-        Ok(value) => Ok(each_as(value)),
+        Ok(value) => Ok(each_as(value.shared(alloc)?)),
         Err(EvalFault::Memory) => Err(AllocError),
         Err(fault) => Ok(Decision::Faulty(fault)),
     }

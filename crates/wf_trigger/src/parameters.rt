@@ -47,7 +47,7 @@ pub(crate) fn parameters_of(
         let name = name.copy(alloc)?;
         return Err(TriggerFault::NotAllowed { name });
     }
-    let values = values_of(alloc, handed, given, params)?;
+    let values = values_of(alloc, handed, given, params)?.shared(alloc)?;
     Ok(values)
 }
 

@@ -83,7 +83,7 @@ fn kept_outputs(alloc: Global, outputs: &Val, is_split: bool) -> Result<Val, All
 {
     let mut kept = outputs.copy(alloc)?;
     if is_split {
-        let _body = kept.remove(&Text::of(alloc, "body")?);
+        let _body = kept.remove(&Text::of(alloc, "body")?)?;
     }
     Ok(kept)
 }

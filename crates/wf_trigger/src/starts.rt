@@ -96,7 +96,7 @@ pub(crate) fn trigger_value(alloc: Global, name: Val, outputs: Val) -> Result<Va
     let mut fields = Fields::new(alloc);
     fields.put(Text::of(alloc, "name")?, name)?;
     fields.put(Text::of(alloc, "outputs")?, outputs)?;
-    Ok(Val::Obj(fields))
+    Val::Obj(fields).shared(alloc)
 }
 
 #[tactic(auto, using(wf_val::proofs::ValueTreeLemmas::listed))]

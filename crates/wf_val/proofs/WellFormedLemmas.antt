@@ -1,9 +1,9 @@
 -- Items and members that are well formed stay so when one is put, added behind the others or taken out.
-use Rattle.std.proofs.Common.{ℕ, zero, suc, set, List, [], ◌∷◌, ◌++◌, map, IsUtf8}
+use Rattle.std.proofs.Common.{ℕ, List, [], ◌∷◌, ◌++◌, map, IsUtf8}
 use Rattle.std.specs.List.{AllByRecursion}
 use Rattle.wf_val.specs.Get.{name_of}
 use Rattle.wf_val.specs.NameOrder.{IsAboveAll, put_named, without_named}
-use Rattle.wf_val.specs.ValueTree.{Member, members}
+use Rattle.wf_val.specs.ValueTree.{ValueTree, Member, members}
 use Rattle.wf_val.specs.WellFormed.{IsWellFormed, AllMembersWellFormed, AreValues, AreMembers}
 use Rattle.wf_val.specs.Seen.{tree}
 use Rattle.wf_val.specs.declared.val.Val.{Val}
@@ -38,11 +38,10 @@ AreMembers-without k ms are = record {
   well_formed = all_members _ (all-without name_of MemberIsWellFormed k ms (each_member ms are.well_formed));
 }
 
+pub AreValues-append : (t : ValueTree) (ts : List ValueTree) → IsWellFormed t → AreValues ts → AreValues (ts ++ t ∷ [])
+AreValues-append t [] value are = (value, tt)
+AreValues-append t (x ∷ ts) value are = (are.0, AreValues-append t ts value are.1)
+
 pub AreValues-push : (v : Val) (vs : List Val) → IsWellFormed (tree v) → AreValues (map tree vs) → AreValues (map tree (vs ++ v ∷ []))
 AreValues-push v [] value are = (value, tt)
 AreValues-push v (x ∷ vs) value are = (are.0, AreValues-push v vs value are.1)
-
-pub AreValues-set : (v : Val) (vs : List Val) (i : ℕ) → IsWellFormed (tree v) → AreValues (map tree vs) → AreValues (map tree (set vs i v))
-AreValues-set v [] i value are = are
-AreValues-set v (x ∷ vs) zero value are = (value, are.1)
-AreValues-set v (x ∷ vs) (suc i) value are = (are.0, AreValues-set v vs i value are.1)

@@ -1,5 +1,6 @@
 pub mod ValueTree
 pub mod Seen
+pub mod Held
 pub mod NameOrder
 pub mod Get
 pub mod WellFormed

@@ -27,6 +27,13 @@ pub enum Val {
     Obj(Fields),
 }
 
+// What a copy may well take along: a list or an object that weighs more is shared (`Val::shared`).
+pub(crate) const LIGHT: u64 = 256;
+
+// Where fewer values stand in one, a copy takes those along, each of which may be shared (`Vals::settled`). So a reader
+// that settles each list as it ends doesn't weigh the inside of a chain of lists at each of its levels.
+pub(crate) const FEW: u64 = 8;
+
 /// The depth and the weight of a value (`Val::depth`, `Val::weight`), each cut to the greatest of its type.
 #[derive(Clone, Copy, PartialEq, Eq, Debug)]
 pub struct Size {
@@ -136,13 +143,36 @@ impl Val {
 
     /// Takes a member out, and answers its value; none where this is no object.
     #[tactic(auto, using(crate::proofs::ValueTreeLemmas::listed))]
-    pub fn remove(&mut self, name: &Text) -> Option<Val>
-        ensures value { option_map tree result ≡ get name.now (tree self.old) }
-        ensures rest { tree self.new ≡ without name.now (tree self.old) }
+    pub fn remove(&mut self, name: &Text) -> Result<Option<Val>, AllocError>
+        ensures value { IfOk result (λ found. option_map tree found ≡ get name.now (tree self.old)) }
+        ensures ok { OnOk result (tree self.new ≡ without name.now (tree self.old)) }
+        ensures err { OnErr result (tree self.new ≡ tree self.old) }
     {
         match self {
             Val::Obj(fields) => fields.remove(name),
-            _ => None,
+            _ => Ok(None),
+        }
+    }
+
+    /// The value of a member; none where this is no object.
+    #[tactic(auto, using(crate::proofs::ValueTreeLemmas::listed))]
+    pub fn into_member(self, alloc: Global, name: &Text) -> Result<Option<Val>, AllocError>
+        ensures { IfOk result (λ found. option_map tree found ≡ get name.now (tree self)) }
+    {
+        match self {
+            Val::Obj(fields) => fields.into_member(alloc, name),
+            _ => Ok(None),
+        }
+    }
+
+    /// The item at a place, counted from 0; none where this is no list.
+    #[tactic(auto, using(crate::proofs::ValueTreeLemmas::listed))]
+    pub fn into_item(self, alloc: Global, place: u64) -> Result<Option<Val>, AllocError>
+        ensures { IfOk result (λ found. option_map tree found ≡ item place (tree self)) }
+    {
+        match self {
+            Val::List(items) => items.into_item(alloc, place),
+            _ => Ok(None),
         }
     }
 
@@ -211,6 +241,20 @@ impl Val {
             Val::Text(text) => Ok(Val::Text(text.copy(alloc)?)),
             Val::List(items) => Ok(Val::List(items.copy(alloc)?)),
             Val::Obj(fields) => Ok(Val::Obj(fields.copy(alloc)?)),
+        }
+    }
+
+    /// The same value, made so that to copy it and to measure it take no walk, but of texts and of what is small: lists
+    /// and objects that weigh much are shared by copies from now on. It's for a value that has a name, which is copied
+    /// and measured at each use.
+    #[cycle(share)]
+    pub fn shared(self, alloc: Global) -> Result<Val, AllocError>
+        ensures { IfOk result (λ v. v ≡ self) }
+    {
+        match self {
+            Val::List(items) => Ok(Val::List(items.shared(alloc)?)),
+            Val::Obj(fields) => Ok(Val::Obj(fields.shared(alloc)?)),
+            scalar => Ok(scalar),
         }
     }
 }

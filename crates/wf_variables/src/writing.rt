@@ -47,6 +47,7 @@ fn set_to(alloc: Global, name: &Text, now: &Val, value: Val) -> Result<Made, Eva
     ensures { Gives (made_seen result) (set_to name.now (tree now.now) (tree value)) }
 {
     if are_alike(now, &value) {
+        let value = value.shared(alloc)?;
         let new = value.copy(alloc)?;
         written(alloc, name, value, new)
     } else {

@@ -7,10 +7,10 @@ use Rattle.wf_val.proofs.+order.Given as goal
 -- what is left decides
 abbrev pub invariant-fields::Fields::order-loop-place : goal.invariant-fields::Fields::order-loop-place
 invariant-fields::Fields::order-loop-place l =
-    members_order (members (map member (drop l.place l.self-inside.members.items))) (members (map member (drop l.place l.other-inside.members.items)))
+    members_order (members (map member (drop l.place l.members))) (members (map member (drop l.place l.others)))
     ≡ members_order (members l.self) (members l.other)
 
 abbrev pub invariant-vals::Vals::order-loop-place : goal.invariant-vals::Vals::order-loop-place
 invariant-vals::Vals::order-loop-place l =
-    trees_order (trees (map tree (drop l.place l.self-inside.items.items))) (trees (map tree (drop l.place l.other-inside.items.items)))
+    trees_order (trees (map tree (drop l.place l.items))) (trees (map tree (drop l.place l.others)))
     ≡ trees_order (trees l.self) (trees l.other)
