@@ -1,8 +1,9 @@
 pub mod PointerLemmas
 mod FlawLemmas
+mod FoundLemmas
 mod FollowLemmas
 mod ShallowLemmas
-mod ConvertLemmas
+mod EntryLemmas
 mod GrammarLemmas
 mod ReadLemmas
 mod SentLemmas

@@ -1,5 +1,5 @@
 -- When bytes have no reading.
-use Rattle.std.proofs.Common.{◌≡◌, ◌↔◌, ℕ, List, Bool, true, false, Option, None, IsTrue, IsUtf8, cond, refl}
+use Rattle.std.proofs.Common.{◌≡◌, ℕ, List, true, false, Option, None, IsUtf8, cond, refl}
 use Rattle.std.specs.Str.{is_utf8}
 use Rattle.std.proofs.lemmas.Str.{IsUtf8-from_is_utf8}
 
@@ -10,8 +10,3 @@ none_unless_utf8 bytes reading none =
       | true ↦ λ is. none (IsUtf8-from_is_utf8 bytes is)
       | false ↦ λ is. refl
     ] refl
-
--- what a test stands for doesn't hold where the test is false
-pub refuted : {P : Type 0} {b : Bool} → IsTrue b ↔ P → b ≡ false → ¬ P
-refuted {b = true} tested is = cc
-refuted {b = false} tested is = λ holds. cc (tested.1 holds)

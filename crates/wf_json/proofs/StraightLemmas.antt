@@ -6,7 +6,7 @@ use Rattle.std.specs.Ordering.{match_ordering}
 use Rattle.json.specs.Json.{parse_map}
 use Rattle.json.specs.Json as grammar
 use Rattle.json.specs.Token.{Token}
-use Rattle.json.proofs.Grammar.{value-begin_array, value-begin_object}
+use Rattle.json.proofs.Grammar.{value_is, value-begin_array, value-begin_object}
 use Rattle.serde_json.specs.Data as json
 use Rattle.serde_json.specs.Read.{of_json, of_items, of_members, converted}
 use Rattle.wf_json.proofs.GrammarLemmas.{converted-array, converted-object}
@@ -76,13 +76,39 @@ insert_entry-nests (e ∷ es) k v room within this =
 
 -- ---- what an opening bracket begins
 
+pub begun_array : (levels : ℕ) (ts rest : List Token) → ts ≡ Token.begin_array ∷ rest → 0 < levels
+    → converted of_json (grammar.value levels ts)
+    ≡ parse_map json.array (converted of_items (grammar.items (grammar.value (levels - 1)) (length rest) rest))
+begun_array levels ts rest begun some =
+    ap (converted of_json) (ap (grammar.value levels) begun ∙ value-begin_array levels rest some)
+    ∙ converted-array (grammar.items (grammar.value (levels - 1)) (length rest) rest)
+
+pub begun_object : (levels : ℕ) (ts rest : List Token) → ts ≡ Token.begin_object ∷ rest → 0 < levels
+    → converted of_json (grammar.value levels ts)
+    ≡ parse_map json.object
+    (converted (λ ms. of_members ms json.no_members) (grammar.members (grammar.value (levels - 1)) (length rest) rest))
+begun_object levels ts rest begun some =
+    ap (converted of_json) (ap (grammar.value levels) begun ∙ value-begin_object levels rest some)
+    ∙ converted-object (grammar.members (grammar.value (levels - 1)) (length rest) rest)
+
+pub no_room_array : (levels : ℕ) (ts rest : List Token) → ts ≡ Token.begin_array ∷ rest → levels ≡ 0
+    → converted of_json (grammar.value levels ts) ≡ None
+no_room_array levels ts rest begun none =
+    ap (λ n. converted of_json (grammar.value n ts)) none
+    ∙ ap (converted of_json) (ap (grammar.value 0) begun ∙ value_is 0 (Token.begin_array ∷ rest))
+
+pub no_room_object : (levels : ℕ) (ts rest : List Token) → ts ≡ Token.begin_object ∷ rest → levels ≡ 0
+    → converted of_json (grammar.value levels ts) ≡ None
+no_room_object levels ts rest begun none =
+    ap (λ n. converted of_json (grammar.value n ts)) none
+    ∙ ap (converted of_json) (ap (grammar.value 0) begun ∙ value_is 0 (Token.begin_object ∷ rest))
+
 pub opened_array : (room : ℕ) (ts rest : List Token) → ts ≡ Token.begin_array ∷ rest → 0 < room
     → converted of_json (grammar.value (room + 7) ts)
     ≡ parse_map json.array (converted of_items (grammar.items (grammar.value (room - 1 + 7)) (length rest) rest))
 opened_array room ts rest begun some =
     let inner : room + 7 - 1 ≡ room - 1 + 7 = omega arith in
-    ap (converted of_json) (ap (grammar.value (room + 7)) begun ∙ value-begin_array (room + 7) rest (omega arith))
-    ∙ converted-array (grammar.items (grammar.value (room + 7 - 1)) (length rest) rest)
+    begun_array (room + 7) ts rest begun (omega arith)
     ∙ ap (λ d. parse_map json.array (converted of_items (grammar.items (grammar.value d) (length rest) rest))) inner
 
 pub opened_object : (room : ℕ) (ts rest : List Token) → ts ≡ Token.begin_object ∷ rest → 0 < room
@@ -91,7 +117,6 @@ pub opened_object : (room : ℕ) (ts rest : List Token) → ts ≡ Token.begin_o
     (converted (λ ms. of_members ms json.no_members) (grammar.members (grammar.value (room - 1 + 7)) (length rest) rest))
 opened_object room ts rest begun some =
     let inner : room + 7 - 1 ≡ room - 1 + 7 = omega arith in
-    ap (converted of_json) (ap (grammar.value (room + 7)) begun ∙ value-begin_object (room + 7) rest (omega arith))
-    ∙ converted-object (grammar.members (grammar.value (room + 7 - 1)) (length rest) rest)
+    begun_object (room + 7) ts rest begun (omega arith)
     ∙ ap (λ d. parse_map json.object
     (converted (λ ms. of_members ms json.no_members) (grammar.members (grammar.value d) (length rest) rest))) inner

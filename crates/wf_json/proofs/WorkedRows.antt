@@ -264,6 +264,40 @@ read-exponent : read_value (codes "1e2") ≡ Err (JsonFault.NotWhole [])
 unfolding on_literals
 read-exponent = refl
 
+read-past_floats : read_value (codes "1e999") ≡ Err JsonFault.NotJson
+unfolding on_literals
+read-past_floats = refl
+
+read-replaced_flaw : read_value (codes "{\"a\":[1.5],\"b\":null,\"a\":true}")
+    ≡ Ok (members (codes "a") (value.boolean true) (codes "b") value.null)
+unfolding on_literals
+read-replaced_flaw = refl
+
+read-flaw_that_replaces : read_value (codes "{\"a\":true,\"b\":1.5,\"a\":-0}") ≡ Err (JsonFault.NotWhole (codes "/a"))
+unfolding on_literals
+read-flaw_that_replaces = refl
+
+read-replaced_not_json : read_value (codes "{\"a\":1e999,\"a\":1}") ≡ Err JsonFault.NotJson
+unfolding on_literals
+read-replaced_not_json = refl
+
+read-least_of_names : read_value (codes "{\"b\":1.5,\"a/b\":1.5,\"a~\":1.5,\"a!\":[1,1.5]}") ≡ Err (JsonFault.NotWhole (codes "/a!/1"))
+unfolding on_literals
+read-least_of_names = refl
+
+read-escaped_names : read_value (codes "{\"a~\":1.5,\"a/\":1.5}") ≡ Err (JsonFault.NotWhole (codes "/a~0"))
+unfolding on_literals
+read-escaped_names = refl
+
+read-least_of_items : read_value (codes "[0,1,1.5,3,4,5,6,7,8,9,{\"a\":1.5}]") ≡ Err (JsonFault.NotWhole (codes "/10/a"))
+unfolding on_literals
+read-least_of_items = refl
+
+-- a number that isn't whole is named where it stands, also inside what is too deep
+too_deep_and_not_whole : least_flaw Flaw.NotWhole (in_lists 121 (json.number (json.unsigned (2 ^ 63)))) ≡ Some (times 121 (codes "/0"))
+unfolding on_literals
+too_deep_and_not_whole = refl
+
 -- ---- the tree of a value
 
 data_of-scalars : items_of (value.trees (value.null ∷ value.boolean true ∷ value.number (pos 0) ∷ value.text (codes "a") ∷ []))

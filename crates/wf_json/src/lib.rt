@@ -7,7 +7,9 @@
 //! the order of a walk.
 //!
 //! A value is made straight from the tokens of its text. Only a text in which something is refused is
-//! read a second time, into a tree, which tells the place.
+//! read again, for the least place that has the flaw. Such a reading keeps no value: of each list that is
+//! open it keeps the least pointer so far, and of each object the least pointers by name, since a later
+//! member of one name stands in place of an earlier one.
 //!
 //! A value is written without white space, with the members of objects in the byte order of their
 //! names: equal values have equal texts.
@@ -18,7 +20,6 @@
 //! nothing out.
 #![tactic(auto)]
 
-mod convert;
 mod eval_fault;
 mod fault;
 mod flaws;

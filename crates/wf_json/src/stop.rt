@@ -1,7 +1,7 @@
 use json::Invalid;
 use std::alloc::AllocError;
 
-/// Why a reading with no tree stopped.
+/// Why a reading stopped.
 #[derive(Drop)]
 pub(crate) enum Stop {
     /// The text is no JSON, whatever else is wrong with it.

@@ -1,5 +1,5 @@
-//! Values straight from the tokens of a JSON text, with no tree between. A flaw stops the reading:
-//! only a tree tells the least pointer of one.
+//! Values straight from the tokens of a JSON text, with no tree between. A flaw stops the reading,
+//! since the least pointer of one is told only by what follows, and by further readings (`flaws`).
 
 ghost use Rattle.std.specs.Prelude.{◌≡◌, ◌+◌, ◌<◌, ◌≤◌, length, map, Some, None, Ok, Err, IfOk, OnOk};
 ghost use Rattle.std.specs.BTreeMap.{insert_entry};
@@ -88,8 +88,8 @@ fn items_in(alloc: Global, reader: &mut Reader<'_>, room: u32) -> Result<Vals, S
         let item = value_in(alloc, reader, room)?;
         found.push(item)?;
     }
-    found.shrink_to_fit();
-    Ok(found)
+    let list = found.settled()?;
+    Ok(list)
 }
 
 // The members up to the end of their object. A text has them in any order, and the last of a name
@@ -133,5 +133,5 @@ fn in_order(alloc: Global, found: BTreeMap<String, Val>) -> Result<Fields, Alloc
     for (name, value) in found {
         fields.append(Text::from_string(name), value)?;
     }
-    Ok(fields)
+    fields.settled()
 }

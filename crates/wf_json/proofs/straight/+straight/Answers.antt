@@ -119,7 +119,7 @@ items_in-returns-clause-ok t c =
     let r = c.take_end_array.new.self in
     l.invariant.2 ∙ ap (parse_map (items_before l.found)) (items_over p n l.reader r l.invariant.1 (grind arith))
     ∙ ap (λ ds. Some (ds, r)) (items_before-no_items l.found)
-    ∙ ap (λ (vs : List ValueTree). Some (items_of (trees vs), r)) (sym c.shrink_to_fit.ensures)
+    ∙ ap (λ (vs : List ValueTree). Some (items_of (trees vs), r)) (sym c.in_ok-list.ensures)
 
 pub members_in-returns-in_err-name-clause-not_json : goal.members_in-returns-in_err-name-clause-not_json
 members_in-returns-in_err-name-clause-not_json t c _ =

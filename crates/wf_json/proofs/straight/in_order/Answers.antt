@@ -4,7 +4,7 @@ use Rattle.std.specs.Map.{keys_of}
 use Rattle.std.specs.String.{string_cmp}
 use Rattle.wf_val.specs.Seen.{tree}
 use Rattle.wf_json.specs.Sent.{named}
-use Rattle.wf_json.proofs.ConvertLemmas.{above_done, map-one_more}
+use Rattle.wf_json.proofs.EntryLemmas.{above_done, map-one_more}
 use Rattle.wf_json.proofs.StraightLemmas.{MapEntry}
 use Rattle.wf_json.proofs.straight.in_order.Goals as goal
 

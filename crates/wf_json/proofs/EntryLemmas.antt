@@ -1,31 +1,11 @@
--- The items and members of a JSON tree, beside those of the value that they become.
+-- The entries of a map of members, one after another.
 use Rattle.std.proofs.Common.{◌≡◌, List, [], ◌∷◌, ◌++◌, map, Less, refl, ap, string_bytes, string_cmp, String, Global}
 use Rattle.std.specs.List.{AllByRecursion}
 use Rattle.std.specs.List.Sorted.{IsStrictlySortedBy}
 use Rattle.std.specs.Map.{keys_of}
-use Rattle.serde_json.specs.View.{view, items_view, members_view}
-use Rattle.serde_json.specs.declared.value.Value.{Value}
 use Rattle.wf_val.specs.Get.{name_of}
 use Rattle.wf_val.specs.NameOrder.{IsAboveAll}
-use Rattle.wf_val.specs.ValueTree.{ValueTree, Member, trees, members}
-use Rattle.wf_json.specs.Read.{value_of, values_of, members_of}
-
-abbrev pub Entry : Type 0
-Entry = String Global × Value
-
-abbrev pub tree_of_item : Value → ValueTree
-tree_of_item v = value_of (view v)
-
-abbrev pub member_of_entry : Entry → Member
-member_of_entry e = (string_bytes e.0, value_of (view e.1))
-
-pub trees-map : (vs : List Value) → trees (map tree_of_item vs) ≡ values_of (items_view vs)
-trees-map [] = refl
-trees-map (v ∷ vs) = rw (trees-map vs) refl
-
-pub members-map : (es : List Entry) → members (map member_of_entry es) ≡ members_of (members_view es)
-members-map [] = refl
-members-map (e ∷ es) = rw (members-map es) refl
+use Rattle.wf_val.specs.ValueTree.{ValueTree}
 
 module _ {V : Type 0} where
   below_middle : (first : String Global × V) (es : List (String Global × V)) (e : String Global × V) (more : List (String Global × V))
