@@ -1,6 +1,6 @@
 -- THE VALUE OF AN EXPRESSION in a look (Workflow Definition Language, "Expressions"): its value, or the first fault from left to
 -- right, and the number of words drawn. Each value fits, or is `TooBig`.
-use Rattle.std.specs.Prelude.{ℕ, suc, true, false, List, [], ◌∷◌, length, Option, Some, None, Ok, Err}
+use Rattle.std.specs.Prelude.{ℕ, suc, Bool, true, false, List, [], ◌∷◌, length, Option, Some, None, Ok, Err}
 use Rattle.wf_val.specs.Arguments.{Answer, given, wrong_type, bounded}
 use Rattle.wf_val.specs.Function.{function_of}
 use Rattle.wf_val.specs.ValueTree.{ValueTree, boolean}
@@ -22,11 +22,19 @@ use Rattle.wf_eval_expr.specs.Ways.{way_of}
 
 -- ---- functions that leave an argument without a value
 
+-- the truth that a value is; none where it is no Boolean
+abbrev pub truth_in : ValueTree → Option Bool
+truth_in (boolean b) = Some b
+truth_in t = None
+
 -- only the chosen arm
+abbrev pub arm : Run → Run → Option Bool → Run
+arm first second (Some true) n = first n
+arm first second (Some false) n = second n
+arm first second None n = (Err (wrong_type Fun.If 0), n)
+
 abbrev pub chosen : Run → Run → ValueTree → Run
-chosen first second (boolean true) n = first n
-chosen first second (boolean false) n = second n
-chosen first second t n = (Err (wrong_type Fun.If 0), n)
+chosen first second t = arm first second (truth_in t)
 
 abbrev pub if_run : List Run → Run
 if_run (test ∷ first ∷ second ∷ rs) n = then_run (test n) (chosen first second)

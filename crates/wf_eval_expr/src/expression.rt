@@ -12,7 +12,7 @@ ghost use Rattle.wf_functions.specs.Rows.{fitted, strict_row, joined_row};
 ghost use Rattle.wf_val.specs.declared.function.Fun.{Fun};
 ghost use Rattle.wf_look.specs.Args.{args_tree};
 ghost use Rattle.wf_eval_expr.specs.Seen.{accessed_run};
-ghost use Rattle.wf_eval_expr.specs.Value.{value, runs, called, called_by, if_run, early, drawn_run};
+ghost use Rattle.wf_eval_expr.specs.Value.{value, runs, called, called_by, if_run, early, drawn_run, truth_in};
 ghost use Rattle.wf_eval_expr.specs.Ways.{way_of};
 
 use crate::way::{Way, way_of};
@@ -267,6 +267,17 @@ fn eval_united<L: Look>(alloc: Global, args: &[Expr], look: &mut L) -> Result<Va
     fitted(united.answer(alloc))
 }
 
+// The truth that a value is; none where it is no Boolean.
+#[tactic(auto, using(wf_val::proofs::ValueTreeLemmas::listed))]
+fn truth_in(value: Val) -> Option<bool>
+    ensures { result ≡ truth_in (tree value) }
+{
+    match value {
+        Val::Bool(truth) => Some(truth),
+        _ => None,
+    }
+}
+
 // Only the chosen arm.
 #[cycle(eval)]
 fn eval_if<L: Look>(alloc: Global, args: &[Expr], look: &mut L) -> Result<Val, EvalFault>
@@ -277,10 +288,10 @@ fn eval_if<L: Look>(alloc: Global, args: &[Expr], look: &mut L) -> Result<Val, E
     ensures held { L.held look.new ≡ L.held look.old }
 {
     match args {
-        [test, first, second, ..] => match eval_expr(alloc, test, look)? {
-            Val::Bool(true) => eval_expr(alloc, first, look),
-            Val::Bool(false) => eval_expr(alloc, second, look),
-            _ => Err(wrong_type(Fun::If, 0)),
+        [test, first, second, ..] => match truth_in(eval_expr(alloc, test, look)?) {
+            Some(true) => eval_expr(alloc, first, look),
+            Some(false) => eval_expr(alloc, second, look),
+            None => Err(wrong_type(Fun::If, 0)),
         },
         _ => Err(wrong_type(Fun::If, args.len() as u64)),
     }

@@ -1,7 +1,7 @@
 //! What is said of all records.
-ghost use Rattle.std.specs.Prelude.{◌≡◌, ◌≢◌, Err, IfErr, IfOk, Ok, OnOk, map};
-ghost use Rattle.wf_history.specs.History.{list_of, listed, scan_of};
-ghost use Rattle.wf_history.specs.Seen.{IsJudged, listed_tree, listed_with};
+ghost use Rattle.std.specs.Prelude.{◌≡◌, ◌≢◌, Err, IfErr, IfOk, Ok, OnOk, Option, map};
+ghost use Rattle.wf_history.specs.History.{bad, list_of, listed, on_line, scan_of};
+ghost use Rattle.wf_history.specs.Seen.{IsJudged, listed_tree, listed_with, on_value};
 ghost use Rattle.wf_history.specs.declared.fault.HistoryFault.{HistoryFault};
 ghost use Rattle.wf_record_form.specs.Reading.{record_of};
 ghost use Rattle.wf_val.specs.Seen.{tree};
@@ -77,9 +77,18 @@ pub fn scan(alloc: Global, bytes: &[u8]) -> Result<(), HistoryFault>
     let mut line: u64 = 1;
     while !rest.is_empty() {
         let (first, more) = split_line(rest);
-        let _value = value_on(alloc, line, without_return(first))?;
+        judge_line(alloc, line, without_return(first))?;
         rest = more;
         line += 1;
     }
+    Ok(())
+}
+
+// Whether a line of this number is a record, where it says something. The value on it isn't kept.
+fn judge_line(alloc: Global, number: u64, line: &[u8]) -> Result<(), HistoryFault>
+    ensures value { OnOk result ((o : Option Val) × (on_line line.now ≡ on_value o)) }
+    ensures fault { IfErr result (λ f. f ≢ HistoryFault.Memory → (on_line line.now ≡ bad) × (f ≡ HistoryFault.Line number)) }
+{
+    let _value = value_on(alloc, number, line)?;
     Ok(())
 }
