@@ -31,6 +31,16 @@ def handed_in(_):
     return {"triggers": {"Asked": {"type": "Request"}}, "actions": made}
 
 
+def named(value):
+    """A Foreach over what the trigger put out, in which an expression names a value as large as that."""
+    def made(count):
+        each_item = {"type": "Foreach", "foreach": "@triggerBody()?['items']", "actions": {"Item": {"type": "Compose", "inputs": value}},
+                     "runAfter": {"C": ["Succeeded"]}}
+        return {"parameters": {"p": {"type": "array"}}, "triggers": {"Asked": {"type": "Request"}}, "actions": {
+            "C": {"type": "Compose", "inputs": "@range(0,%d)" % count}, "Each": each_item}}
+    return made
+
+
 def in_one_another(count):
     return {"actions": {"Each": each(count, {"Inner": each(count, {"Item": {"type": "Compose", "inputs": "@item()"}})})}}
 
@@ -63,6 +73,11 @@ def items(count):
     return handed(outputs={"body": list(range(count))})
 
 
+def rows(count):
+    made = [{"id": k, "name": "n%d" % k} for k in range(count)]
+    return handed(outputs={"body": {"name": "n", "items": made}}, parameters={"p": made})
+
+
 def answers(count):
     return handed(answers=[{"action": "Call", "at": [k], "status": 200, "body": {"id": k}} for k in range(count)])
 
@@ -70,6 +85,9 @@ def answers(count):
 LOOPS = [
     ("a Foreach", side_by_side, nothing_handed, (10000, 100000), "loop"),
     ("a Foreach over what its trigger put out", handed_in, items, (10000, 100000), "jq"),
+    ("one that names its trigger's body", named("@triggerBody()?['name']"), rows, (5000, 50000), "jq"),
+    ("one that names a parameter", named("@parameters('p')[0]"), rows, (5000, 50000), "jq"),
+    ("one that names outputs", named("@outputs('C')[0]"), rows, (5000, 50000), "jq"),
     ("two in one another, N by N", in_one_another, nothing_handed, (95, 300), "nested"),
     ("a sequential one, counting", counting, nothing_handed, (10000, 100000), None),
     ("a sequential one, appending", appending, nothing_handed, (1000, 10000), "appends"),

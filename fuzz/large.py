@@ -213,6 +213,17 @@ def long():
     yield "a list made by 10,000 items", run, {"definition": definition(
         {**lists, "L": {**foreach("@range(0,10000)", P=push), "operationOptions": "Sequential", "runAfter": {"V": ["Succeeded"]}}}),
         "inputs": PLAIN}
+    rows = [{"name": "%d" % number} for number in range(20000)]
+    for name, value in (
+            ("a trigger's body", "@triggerBody()?['name']"), ("a parameter", "@parameters('p')[0]"),
+            ("outputs", "@outputs('C')[0]"), ("a length", "@length(triggerBody()?['items'])"),
+            ("a variable", "@variables('v')[0]")):
+        yield "%s named in 20,000 iterations" % name, run, {"definition": definition(
+            {"V": {"type": "InitializeVariable", "inputs": {"variables": [{"name": "v", "type": "array", "value": "@parameters('p')"}]}},
+             "C": {**compose("@range(0,20000)"), "runAfter": {"V": ["Succeeded"]}},
+             "L": {**foreach("@triggerBody()?['items']", N=compose(value)), "runAfter": {"C": ["Succeeded"]}}},
+            parameters={"p": {"type": "array"}}, triggers={"t": {"type": "Request"}}),
+            "inputs": text(json.loads(PLAIN) | {"outputs": {"body": {"name": "n", "items": rows}}, "parameters": {"p": rows}})}
     doubled = {"A0": compose("@createArray(" + ",".join(["1"] * 1000) + ")")}
     for number in range(1, 30):
         before = "A%d" % (number - 1)
@@ -251,6 +262,17 @@ def long():
             ("parameters", numbered(front + b',"parameters":{', b'"p%d":[]', b"}}", FILE_SIZE)),
             ("answers", numbered(front + b',"answers":[', b'{"action":"A","at":[%d],"status":200}', b"]}", FILE_SIZE)),
             ("one answer", filled(front + b',"answers":[{"action":"A","status":200,"body":"', b"a", b"", b'"}]}', FILE_SIZE)),
+            ("lists of one", filled(front + b',"outputs":[', b"[1]", b",", b"]}", FILE_SIZE)),
+            ("lists of two", filled(front + b',"x":[', b"[1,2]", b",", b"]}", FILE_SIZE)),
+            ("lists of five", filled(front + b',"x":[', b"[1,2,3,4,5]", b",", b"]}", FILE_SIZE)),
+            ("objects of one", filled(front + b',"x":[', b'{"a":1}', b",", b"]}", FILE_SIZE)),
+            ("lists 100 deep", filled(front + b',"x":[', nested(100), b",", b"]}", FILE_SIZE)),
+            ("objects 100 deep", filled(front + b',"x":[', b'{"":' * 100 + b"1" + b"}" * 100, b",", b"]}", FILE_SIZE)),
+            ("lists of eight 20 deep", filled(front + b',"x":[', b"[1,1,1,1,1,1,1," * 20 + b"1" + b"]" * 20, b",", b"]}", FILE_SIZE)),
+            ("lists of one, and a half", filled(front + b',"x":[', b"[1]", b",", b",0.5]}", FILE_SIZE)),
+            ("lists 100 deep, and a half", filled(front + b',"x":[', nested(100), b",", b",0.5]}", FILE_SIZE)),
+            ("lists 120 deep, too deep", filled(front + b',"x":[', nested(120), b",", b"]}", FILE_SIZE)),
+            ("a half that is replaced", filled(front + b',"x":0.5,"x":[', b"[1]", b",", b"]}", FILE_SIZE)),
             ("brackets", b"[" * FILE_SIZE), ("escapes", filled(front + b',"outputs":"', b"\\u00e4", b"", b'"}', FILE_SIZE)),
             ("a byte more", PLAIN.ljust(FILE_SIZE + 1))):
         yield "INPUTS of 64 MiB, %s" % name, run, {"definition": ASKING, "inputs": inputs}
