@@ -6,6 +6,7 @@ pub mod ValueTreeLemmas
 pub mod ValueOrderLemmas
 pub mod ValueOrderLaws
 pub mod NodeCountLemmas
+mod LetGoLemmas
 pub mod CharacterLemmas
 pub mod ArityRows
 pub mod NameRows

@@ -21,10 +21,20 @@ use std::rc::Rc;
 /// The members of an object (RFC 8259, section 4), with distinct names in byte order; seen as the list of their
 /// names and trees.
 #[cycle(val)]
-#[derive(Drop)]
 pub struct Fields {
     members: Members,
     alloc: Global,
+}
+
+// By hand, so that to let members go is one call for a check above, whatever they stand in.
+impl Drop for Fields {
+    #[cycle(let_go)]
+    fn drop(self) {
+        let Fields {
+            members: _,
+            alloc: _,
+        } = self;
+    }
 }
 
 // What an object holds, in a word and a tag, so that a value takes no more than a text does.
@@ -208,7 +218,8 @@ impl Fields {
     pub fn into_member(self, alloc: Global, name: &Text) -> Result<Option<Val>, AllocError>
         ensures { IfOk result (λ found. option_map tree found ≡ value_of name.now self) }
     {
-        match self.members {
+        let Fields { members, alloc: _ } = self;
+        match members {
             Members::Own(members) => {
                 let mut members = Box::into_inner(members);
                 Ok(remove_from(&mut members, name))
@@ -272,7 +283,11 @@ impl Fields {
     pub fn shared(self, alloc: Global) -> Result<Fields, AllocError>
         ensures { IfOk result (λ f. f ≡ self) }
     {
-        match self.members {
+        if self.spare(LIGHT).is_some() {
+            return Ok(self);
+        }
+        let Fields { members, alloc: _ } = self;
+        match members {
             Members::Empty => Ok(Fields::new(alloc)),
             Members::Own(members) => {
                 let mut parts = Vec::with_capacity(alloc, members.len())?;
@@ -308,12 +323,12 @@ impl Fields {
     fn weighed(self) -> Result<Fields, AllocError>
         ensures { IfOk result (λ f. f ≡ self) }
     {
-        let alloc = self.alloc;
         let size = self.size();
         if size.weight <= LIGHT {
             return Ok(self);
         }
-        let members = match self.members {
+        let Fields { members, alloc } = self;
+        let members = match members {
             Members::Empty => Members::Empty,
             Members::Own(members) => {
                 let members = Box::into_inner(members);
@@ -355,6 +370,23 @@ impl Fields {
                 Size { depth, weight }
             }
             Members::Shared(shared) => shared.as_ref().size,
+        }
+    }
+
+    // What is left of a weight once the members have taken theirs (`Val::spare`).
+    #[cycle(spare)]
+    pub(crate) fn spare(&self, room: u64) -> Option<u64> {
+        match &self.members {
+            Members::Empty => Some(room),
+            Members::Own(members) => {
+                let mut left = room;
+                for (name, value) in members.as_ref() {
+                    let named = (name.as_str().len() as u64).saturating_add(1);
+                    left = value.spare(left.checked_sub(named)?)?;
+                }
+                Some(left)
+            }
+            Members::Shared(shared) => room.checked_sub(shared.as_ref().size.weight),
         }
     }
 

@@ -257,6 +257,19 @@ impl Val {
             scalar => Ok(scalar),
         }
     }
+
+    // What is left of a weight once the value has taken its own; none where that is more. Unlike `weight`, it looks at no
+    // more of a large value than it has to.
+    #[cycle(spare)]
+    pub(crate) fn spare(&self, room: u64) -> Option<u64> {
+        let left = room.checked_sub(1)?;
+        match self {
+            Val::Null | Val::Bool(_) | Val::Int(_) => Some(left),
+            Val::Text(text) => left.checked_sub(text.as_str().len() as u64),
+            Val::List(items) => items.spare(left),
+            Val::Obj(fields) => fields.spare(left),
+        }
+    }
 }
 
 impl TryCopy for Val {

@@ -16,10 +16,17 @@ use std::slice::from_ref;
 
 /// Values, as a list holds them (RFC 8259, section 5); seen as the list of their trees.
 #[cycle(val)]
-#[derive(Drop)]
 pub struct Vals {
     items: Items,
     alloc: Global,
+}
+
+// By hand, so that to let values go is one call for a check above, whatever they stand in.
+impl Drop for Vals {
+    #[cycle(let_go)]
+    fn drop(self) {
+        let Vals { items: _, alloc: _ } = self;
+    }
 }
 
 // What a list holds, in a word and a tag, so that a value takes no more than a text does.
@@ -143,7 +150,8 @@ impl Vals {
         if place >= self.len() {
             return Ok(None);
         }
-        match self.items {
+        let Vals { items, alloc: _ } = self;
+        match items {
             Items::Empty => Ok(None),
             Items::One(item) => Ok(Some(Box::into_inner(item))),
             Items::Many(items) => {
@@ -221,7 +229,11 @@ impl Vals {
     pub fn shared(self, alloc: Global) -> Result<Vals, AllocError>
         ensures { IfOk result (λ v. v ≡ self) }
     {
-        match self.items {
+        if self.spare(LIGHT).is_some() {
+            return Ok(self);
+        }
+        let Vals { items, alloc: _ } = self;
+        match items {
             Items::Empty => Ok(Vals::new(alloc)),
             Items::One(item) => {
                 let item = Box::into_inner(item).shared(alloc)?;
@@ -253,12 +265,12 @@ impl Vals {
     fn weighed(self) -> Result<Vals, AllocError>
         ensures { IfOk result (λ v. v ≡ self) }
     {
-        let alloc = self.alloc;
         let size = self.size();
         if size.weight <= LIGHT {
             return Ok(self);
         }
-        let items = match self.items {
+        let Vals { items, alloc } = self;
+        let items = match items {
             Items::Empty => Items::Empty,
             Items::One(item) => {
                 let mut items = Vec::with_capacity(alloc, 1)?;
@@ -292,8 +304,8 @@ impl Vals {
     fn fitted(self) -> Result<Vals, AllocError>
         ensures { IfOk result (λ v. v ≡ self) }
     {
-        let alloc = self.alloc;
-        let items = match self.items {
+        let Vals { items, alloc } = self;
+        let items = match items {
             Items::Empty => Items::Empty,
             Items::One(item) => Items::One(item),
             Items::Many(items) => fitted(alloc, Box::into_inner(items))?,
@@ -326,6 +338,23 @@ impl Vals {
                 Size { depth, weight }
             }
             Items::Shared(shared) => shared.as_ref().size,
+        }
+    }
+
+    // What is left of a weight once the values have taken theirs (`Val::spare`).
+    #[cycle(spare)]
+    pub(crate) fn spare(&self, room: u64) -> Option<u64> {
+        match &self.items {
+            Items::Empty => Some(room),
+            Items::One(item) => item.as_ref().spare(room),
+            Items::Many(items) => {
+                let mut left = room;
+                for item in items.as_ref() {
+                    left = item.spare(left)?;
+                }
+                Some(left)
+            }
+            Items::Shared(shared) => room.checked_sub(shared.as_ref().size.weight),
         }
     }
 
