@@ -1,12 +1,12 @@
 -- The actions that the rules look at, in the order of the tree.
 use Rattle.std.proofs.Common.{◌≡◌, ℕ, List, [], ◌∷◌, ◌++◌, map, refl, ap, ◌∙◌}
 use Rattle.std.proofs.lemmas.List.{map-append}
-use Rattle.wf_def.specs.ActionTree.{ActionTree, action, action_number, KindTree, scope, branch, switch, switch_else, foreach, until}
-use Rattle.wf_def.specs.ActionTree.{ActionTrees, no_actions, action_then, CaseTrees, no_cases, case_then}
-use Rattle.wf_reading.specs.Facts.{graph_numbers}
-use Rattle.wf_refs.proofs.NumberLemmas.{numbers_are}
-use Rattle.wf_def.specs.AllActions.{all_actions, cases_actions, kind_actions}
-use Rattle.wf_standing.specs.Standing.{StandingTree, case_standings, graph_standings, kind_standings, number_at, standings_of}
+use Rattle.wf_known_laws.specs.ActionTree.{ActionTree, action, action_number, KindTree, scope, branch, switch, switch_else, foreach, until}
+use Rattle.wf_known_laws.specs.ActionTree.{ActionTrees, no_actions, action_then, CaseTrees, no_cases, case_then}
+use Rattle.wf_known_laws.specs.Facts.{graph_numbers}
+use Rattle.wf_rules.proofs.NumberLemmas.{numbers_are}
+use Rattle.wf_known_laws.specs.AllActions.{all_actions, cases_actions, kind_actions}
+use Rattle.wf_rules.specs.Standing.{StandingTree, case_standings, graph_standings, kind_standings, number_at, standings_of}
 
 abbrev action_of : StandingTree → ActionTree
 action_of s = s.action

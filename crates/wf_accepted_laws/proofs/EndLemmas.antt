@@ -5,20 +5,20 @@ use Rattle.std.specs.List.{AllByRecursion, list_any}
 use Rattle.wf_layers.specs.Address.{Address, address}
 use Rattle.wf_layers.specs.Definition.{Graph, Kind, has, kind_of}
 use Rattle.wf_layers.specs.Variables.{HasOrder, IsOrdered}
-use Rattle.wf_def.specs.ActionTree.{action_kind}
-use Rattle.wf_def.specs.DefTree.{DefTree}
-use Rattle.wf_def.specs.Layered.{layered}
-use Rattle.wf_order.specs.Indexes.{loops_round}
-use Rattle.wf_order.specs.Turns.{AreSettled, IsInNoLoop, IsInstance, IsInTurn, IsReadWith}
+use Rattle.wf_known_laws.specs.ActionTree.{action_kind}
+use Rattle.wf_known_laws.specs.DefTree.{DefTree}
+use Rattle.wf_known_laws.specs.Layered.{layered}
+use Rattle.wf_known_laws.specs.Indexes.{loops_round}
+use Rattle.wf_known_laws.specs.Turns.{AreSettled, IsInNoLoop, IsInstance, IsInTurn, IsReadWith}
 use Rattle.wf_paths.proofs.PathLemmas.{or_left, or_right}
-use Rattle.wf_reading.proofs.RunAfterLemmas.{append-first}
+use Rattle.wf_known_laws.proofs.RunAfterLemmas.{append-first}
 use Rattle.wf_rules.specs.Broken.{offences, told}
 use Rattle.wf_rules.specs.Rules.{action_breaks, breaks_itself}
 use Rattle.wf_rules.specs.Rule.{Rule}
-use Rattle.wf_standing.specs.Kinds.{ends_or_responds, is_loop, is_response, is_terminate}
-use Rattle.wf_standing.specs.Standing.{StandingTree, kind_at, number_at, pointer_at, standings_of}
-use Rattle.wf_standing.specs.Whole.{whole_of}
-use Rattle.wf_varorder.specs.Settled.{ResponsesAreInOrder, TerminatesAreInOrder}
+use Rattle.wf_rules.specs.Kinds.{ends_or_responds, is_loop, is_response, is_terminate}
+use Rattle.wf_rules.specs.Standing.{StandingTree, kind_at, number_at, pointer_at, standings_of}
+use Rattle.wf_rules.specs.Whole.{whole_of}
+use Rattle.wf_rules.specs.Settled.{ResponsesAreInOrder, TerminatesAreInOrder}
 use Rattle.wf_accepted_laws.proofs.PairLemmas.{picked}
 use Rattle.wf_accepted_laws.proofs.SeenLemmas.{none-first, none-told}
 use Rattle.wf_accepted_laws.specs.Ends.{EndsAreInOrder, EndsStandInNoLoop, ResponsesAreInOneOrder}

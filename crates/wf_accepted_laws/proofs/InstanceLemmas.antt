@@ -1,13 +1,13 @@
 -- What is before an action, and what stands inside that, is seen by its instances.
 use Rattle.std.proofs.Common.{◌≡◌, ℕ, true, List, ◌⊎◌, inl, inr}
 use Rattle.wf_layers.specs.Address.{Address, SeenIn, address}
-use Rattle.wf_def.specs.DefTree.{DefTree}
-use Rattle.wf_def.specs.Layered.{layered}
-use Rattle.wf_order.specs.Indexes.{HaveSameIndexes}
-use Rattle.wf_order.specs.Order.{Before, Contains}
-use Rattle.wf_refs.specs.declared.site.Site.{Site}
-use Rattle.wf_standing.specs.Inside.{is_test}
-use Rattle.wf_standing.specs.Standing.{StandingTree, number_at, standings_of}
+use Rattle.wf_known_laws.specs.DefTree.{DefTree}
+use Rattle.wf_known_laws.specs.Layered.{layered}
+use Rattle.wf_known_laws.specs.Indexes.{HaveSameIndexes}
+use Rattle.wf_known_laws.specs.Order.{Before, Contains}
+use Rattle.wf_rules.specs.Site.{Site}
+use Rattle.wf_rules.specs.Inside.{is_test}
+use Rattle.wf_rules.specs.Standing.{StandingTree, number_at, standings_of}
 use Rattle.wf_accepted_laws.proofs.RoundLemmas.{all-weaker}
 use Rattle.wf_accepted_laws.specs.Instances.{InstancesAreSeen, IsSeenAt, MayLookAt, Sees}
 use Rattle.wf_accepted_laws.specs.Seen.{AreSeen, IsNamedAt, IsSeenFrom, IsSiteOf}

@@ -1,3 +1,4 @@
+pub use Rattle.wf_known_laws.proofs.RelationLemmas
 mod ActionLemmas
 mod SeenLemmas
 mod RoundLemmas

@@ -6,24 +6,24 @@ use Rattle.std.specs.List.{AllByRecursion, find, list_any}
 use Rattle.std.proofs.lemmas.Bool.{eqb-true, ltb-false}
 use Rattle.std.proofs.lemmas.List.Sums.{sum_by-cons}
 use Rattle.wf_layers.specs.Definition.{Graph}
-use Rattle.wf_def.specs.ActionTree.{ActionTree, KindTree, action_kind, action_name, action_number}
-use Rattle.wf_def.specs.DefTree.{DefTree}
-use Rattle.wf_def.specs.Layered.{layered}
-use Rattle.wf_order.specs.Order.{Among, around}
+use Rattle.wf_known_laws.specs.ActionTree.{ActionTree, KindTree, action_kind, action_name, action_number}
+use Rattle.wf_known_laws.specs.DefTree.{DefTree}
+use Rattle.wf_known_laws.specs.Layered.{layered}
+use Rattle.wf_known_laws.specs.Order.{Among, around}
 use Rattle.wf_paths.proofs.PathLemmas.{and_both}
-use Rattle.wf_reading.proofs.PartLemmas.{equal_keys}
-use Rattle.wf_reading.proofs.RunAfterLemmas.{append-first}
-use Rattle.wf_refs.specs.Sites.{uses_of}
-use Rattle.wf_uses.specs.UsesTree.{UsesTree}
-use Rattle.wf_refs.specs.declared.site.Site.{Site}
+use Rattle.wf_known_laws.proofs.PartLemmas.{equal_keys}
+use Rattle.wf_known_laws.proofs.RunAfterLemmas.{append-first}
+use Rattle.wf_rules.specs.Sites.{uses_of}
+use Rattle.wf_rules.specs.UsesTree.{UsesTree}
+use Rattle.wf_rules.specs.Site.{Site}
 use Rattle.wf_rules.specs.Broken.{offences, told}
-use Rattle.wf_standing.specs.Kinds.{is_foreach, is_loop, is_until}
-use Rattle.wf_standing.specs.Inside.{has_item, is_inside, is_items, is_left, is_test}
+use Rattle.wf_rules.specs.Kinds.{is_foreach, is_loop, is_until}
+use Rattle.wf_rules.specs.Inside.{has_item, is_inside, is_items, is_left, is_test}
 use Rattle.wf_rules.specs.Rules.{action_breaks, breaks_if, breaks_with, leaves_loops}
-use Rattle.wf_standing.specs.Inside.{loops_left}
+use Rattle.wf_rules.specs.Inside.{loops_left}
 use Rattle.wf_rules.specs.Rules.{leaves_two, leaves_two_for, names_outer}
-use Rattle.wf_standing.specs.Standing.{StandingTree, kind_at, number_at, pointer_at, standings_of}
-use Rattle.wf_standing.specs.Whole.{has_name, whole_of}
+use Rattle.wf_rules.specs.Standing.{StandingTree, kind_at, number_at, pointer_at, standings_of}
+use Rattle.wf_rules.specs.Whole.{has_name, whole_of}
 use Rattle.wf_rules.specs.Rule.{Rule}
 use Rattle.wf_accepted_laws.proofs.RoundLemmas.{all-weaker}
 use Rattle.wf_accepted_laws.proofs.SeenLemmas.{at-site, both, either, none-first, none-of, none-second, none-told, two}

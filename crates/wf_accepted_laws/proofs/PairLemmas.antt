@@ -4,15 +4,15 @@ use Rattle.std.specs.Prelude.{◌||◌}
 use Rattle.std.specs.List.{AllByRecursion, list_any}
 use Rattle.std.proofs.lemmas.Bool.{eq-eqb, eqb-true}
 use Rattle.wf_layers.specs.Definition.{Graph, has}
-use Rattle.wf_def.specs.DefTree.{DefTree}
-use Rattle.wf_reading.proofs.RunAfterLemmas.{append-second, map-none}
+use Rattle.wf_known_laws.specs.DefTree.{DefTree}
+use Rattle.wf_known_laws.proofs.RunAfterLemmas.{append-second, map-none}
 use Rattle.wf_rules.specs.Broken.{first_pointer, offences, pairs_told, parameter_pointer, told, told_in}
 use Rattle.wf_rules.specs.Rules.{action_breaks, output_breaks, parameter_breaks, trigger_breaks}
 use Rattle.wf_rules.specs.Rule.{Rule}
-use Rattle.wf_standing.specs.Standing.{StandingTree, number_at, pointer_at, standings_of}
-use Rattle.wf_standing.specs.Whole.{Whole, whole_of}
-use Rattle.wf_varorder.specs.Pairs.{pairs_of}
-use Rattle.wf_varorder.specs.declared.rule.PairRule.{PairRule}
+use Rattle.wf_rules.specs.Standing.{StandingTree, number_at, pointer_at, standings_of}
+use Rattle.wf_rules.specs.Whole.{Whole, whole_of}
+use Rattle.wf_rules.specs.Pairs.{pairs_of}
+use Rattle.wf_rules.specs.PairRule.{PairRule}
 use Rattle.wf_accepted_laws.proofs.SeenLemmas.{either}
 
 -- where nothing breaks a rule, no pair does

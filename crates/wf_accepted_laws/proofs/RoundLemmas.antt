@@ -7,13 +7,13 @@ use Rattle.std.proofs.lemmas.Bool.{eq-eqb, eqb-true}
 use Rattle.std.proofs.lemmas.List.{map-append}
 use Rattle.wf_layers.specs.Definition.{Branches, branch, no_branch, Graph, done, add, Kind, Need, has, has_any, holds}
 use Rattle.wf_layers.specs.Seen.{Once, OnceAny, OnceIn}
-use Rattle.wf_def.specs.ActionTree as def
-use Rattle.wf_def.specs.ActionTree.{ActionTree, action_number, KindTree, ActionTrees, CaseTrees}
-use Rattle.wf_def.specs.Layered.{layered, layered_cases, layered_kind, need_of}
-use Rattle.wf_order.proofs.OrderLaws.{clash, two}
-use Rattle.wf_order.specs.Order.{around, around_any, around_in}
+use Rattle.wf_known_laws.specs.ActionTree as def
+use Rattle.wf_known_laws.specs.ActionTree.{ActionTree, action_number, KindTree, ActionTrees, CaseTrees}
+use Rattle.wf_known_laws.specs.Layered.{layered, layered_cases, layered_kind, need_of}
+use Rattle.wf_known_laws.proofs.OrderLaws.{clash, two}
+use Rattle.wf_known_laws.specs.Order.{around, around_any, around_in}
 use Rattle.wf_paths.proofs.PathLemmas.{or_left, or_right}
-use Rattle.wf_standing.specs.Standing.{StandingTree, case_standings, graph_standings, kind_standings, number_at, standings_of}
+use Rattle.wf_rules.specs.Standing.{StandingTree, case_standings, graph_standings, kind_standings, number_at, standings_of}
 use Rattle.wf_accepted_laws.proofs.SeenLemmas.{none-first, none-second}
 
 all-append : {X : Type 0} (P : X → Type 0) (xs ys : List X) → AllByRecursion P xs → AllByRecursion P ys → AllByRecursion P (xs ++ ys)

@@ -5,21 +5,21 @@ use Rattle.std.specs.Prelude.{◌||◌, ◌&&◌, ◌↔◌}
 use Rattle.std.specs.List.{AllByRecursion, find, list_any}
 use Rattle.std.proofs.lemmas.Bool.{eq-eqb}
 use Rattle.wf_layers.specs.Definition.{has}
-use Rattle.wf_def.specs.DefTree.{DefTree}
-use Rattle.wf_def.specs.Layered.{layered}
-use Rattle.wf_order.specs.Order.{Before, Contains}
+use Rattle.wf_known_laws.specs.DefTree.{DefTree}
+use Rattle.wf_known_laws.specs.Layered.{layered}
+use Rattle.wf_known_laws.specs.Order.{Before, Contains}
 use Rattle.wf_paths.proofs.PathLemmas.{or_left, or_right}
-use Rattle.wf_reading.proofs.PartLemmas.{equal_keys}
-use Rattle.wf_reading.proofs.RunAfterLemmas.{append-first, append-second}
-use Rattle.wf_uses.specs.UsesTree.{UsesTree}
-use Rattle.wf_refs.specs.declared.site.Site.{Site}
+use Rattle.wf_known_laws.proofs.PartLemmas.{equal_keys}
+use Rattle.wf_known_laws.proofs.RunAfterLemmas.{append-first, append-second}
+use Rattle.wf_rules.specs.UsesTree.{UsesTree}
+use Rattle.wf_rules.specs.Site.{Site}
 use Rattle.wf_rules.specs.Broken.{broken_of, offences, rules_in_order, told}
 use Rattle.wf_rules.specs.First.{first_broken}
-use Rattle.wf_standing.specs.Inside.{is_test}
+use Rattle.wf_rules.specs.Inside.{is_test}
 use Rattle.wf_rules.specs.Rules.{action_breaks, breaks_at, breaks_if, breaks_itself, is_found_unseen, is_unseen}
 use Rattle.wf_rules.specs.Rules.{names_unseen}
-use Rattle.wf_standing.specs.Standing.{StandingTree, number_at, pointer_at, standings_of}
-use Rattle.wf_standing.specs.Whole.{Whole, has_name, is_seen, whole_of}
+use Rattle.wf_rules.specs.Standing.{StandingTree, number_at, pointer_at, standings_of}
+use Rattle.wf_rules.specs.Whole.{Whole, has_name, is_seen, whole_of}
 use Rattle.wf_rules.specs.Rule.{Rule}
 use Rattle.wf_accepted_laws.specs.Seen.{AreSeen, IsNamedAt, IsSeenFrom, IsSiteOf, at_inputs, at_items, at_test, at_tracked}
 

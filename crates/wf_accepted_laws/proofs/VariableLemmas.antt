@@ -7,13 +7,13 @@ use Rattle.std.proofs.lemmas.Bool.{eq-eqb, eqb-true}
 use Rattle.wf_layers.specs.Address.{Address, address}
 use Rattle.wf_layers.specs.Definition.{Graph, Kind, has, kind_of}
 use Rattle.wf_layers.specs.Variables.{HasOrder, IsOrdered}
-use Rattle.wf_def.specs.DefTree.{DefTree}
-use Rattle.wf_def.specs.Layered.{layered}
-use Rattle.wf_order.specs.Turns.{AreSettled, IsInstance, IsInTurn, IsReadWith}
-use Rattle.wf_standing.specs.Standing.{StandingTree, number_at, standings_of}
-use Rattle.wf_standing.specs.Whole.{whole_of}
-use Rattle.wf_varorder.specs.Pairs.{reads, writes}
-use Rattle.wf_varorder.specs.Settled.{IsAccessedWith, IsWrittenInOrder, VariablesAreInOrder}
+use Rattle.wf_known_laws.specs.DefTree.{DefTree}
+use Rattle.wf_known_laws.specs.Layered.{layered}
+use Rattle.wf_known_laws.specs.Turns.{AreSettled, IsInstance, IsInTurn, IsReadWith}
+use Rattle.wf_rules.specs.Standing.{StandingTree, number_at, standings_of}
+use Rattle.wf_rules.specs.Whole.{whole_of}
+use Rattle.wf_rules.specs.Pairs.{reads, writes}
+use Rattle.wf_rules.specs.Settled.{IsAccessedWith, IsWrittenInOrder, VariablesAreInOrder}
 use Rattle.wf_accepted_laws.proofs.PairLemmas.{Picked, picked}
 use Rattle.wf_accepted_laws.specs.Variables.{ReadsIt, VariablesAreInOneOrder, WritesIt}
 

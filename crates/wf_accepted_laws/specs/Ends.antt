@@ -5,12 +5,12 @@ use Rattle.std.specs.List.{AllByRecursion}
 use Rattle.wf_layers.specs.Address.{address}
 use Rattle.wf_layers.specs.Definition.{Kind, kind_of}
 use Rattle.wf_layers.specs.Variables.{HasOrder, IsOrdered}
-use Rattle.wf_def.specs.DefTree.{DefTree}
-use Rattle.wf_def.specs.Layered.{layered}
-use Rattle.wf_order.specs.Indexes.{loops_round}
-use Rattle.wf_order.specs.Turns.{IsInstance}
-use Rattle.wf_standing.specs.Kinds.{ends_or_responds, is_response, is_terminate}
-use Rattle.wf_standing.specs.Standing.{kind_at, number_at, standings_of}
+use Rattle.wf_known_laws.specs.DefTree.{DefTree}
+use Rattle.wf_known_laws.specs.Layered.{layered}
+use Rattle.wf_known_laws.specs.Indexes.{loops_round}
+use Rattle.wf_known_laws.specs.Turns.{IsInstance}
+use Rattle.wf_rules.specs.Kinds.{ends_or_responds, is_response, is_terminate}
+use Rattle.wf_rules.specs.Standing.{kind_at, number_at, standings_of}
 
 -- no loop is round a Terminate or a Response and any other action
 abbrev pub EndsStandInNoLoop : DefTree → Type 0

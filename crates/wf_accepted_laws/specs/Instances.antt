@@ -3,14 +3,14 @@ use Rattle.std.specs.Prelude.{◌≡◌, ◌⊎◌, ℕ, true, List, Some}
 use Rattle.std.specs.List.{AllByRecursion, find}
 use Rattle.wf_layers.specs.Address.{SeenIn, address}
 use Rattle.wf_layers.specs.Definition.{Graph}
-use Rattle.wf_def.specs.DefTree.{DefTree}
-use Rattle.wf_def.specs.Layered.{layered}
-use Rattle.wf_order.specs.Indexes.{HaveSameIndexes}
-use Rattle.wf_order.specs.Order.{Contains}
-use Rattle.wf_refs.specs.declared.site.Site.{Site}
-use Rattle.wf_standing.specs.Inside.{is_test}
-use Rattle.wf_standing.specs.Standing.{StandingTree, number_at, standings_of}
-use Rattle.wf_standing.specs.Whole.{has_name}
+use Rattle.wf_known_laws.specs.DefTree.{DefTree}
+use Rattle.wf_known_laws.specs.Layered.{layered}
+use Rattle.wf_known_laws.specs.Indexes.{HaveSameIndexes}
+use Rattle.wf_known_laws.specs.Order.{Contains}
+use Rattle.wf_rules.specs.Site.{Site}
+use Rattle.wf_rules.specs.Inside.{is_test}
+use Rattle.wf_rules.specs.Standing.{StandingTree, number_at, standings_of}
+use Rattle.wf_rules.specs.Whole.{has_name}
 use Rattle.wf_accepted_laws.specs.Seen.{IsNamedAt, IsSiteOf}
 
 -- each instance of y sees those of x that have the same indexes in the loops round both

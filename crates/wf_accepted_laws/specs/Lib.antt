@@ -1,5 +1,16 @@
+pub use Rattle.wf_known_laws.specs.Indexes
+pub use Rattle.wf_known_laws.specs.Order
+pub use Rattle.wf_known_laws.specs.Read
+pub use Rattle.wf_known_laws.specs.Table
+pub use Rattle.wf_rules.specs.declared.checked.Checked
+pub use Rattle.wf_rules.specs.Inside
+pub use Rattle.wf_rules.specs.Kinds
+pub use Rattle.wf_rules.specs.Rule
+pub use Rattle.wf_rules.specs.Rules
+pub use Rattle.wf_rules.specs.Standing
+pub use Rattle.wf_rules.specs.Whole
 pub use Rattle.wf_rules.specs.Broken
-pub use Rattle.wf_varorder.specs.Pairs
+pub use Rattle.wf_rules.specs.Pairs
 pub mod Seen
 pub mod Instances
 pub mod Loops

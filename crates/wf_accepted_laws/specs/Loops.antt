@@ -2,17 +2,17 @@
 use Rattle.std.specs.Prelude.{◌≡◌, ◌⊎◌, ℕ, Bool, true, ◌||◌, List, [], ◌∷◌, Some, bytes_eq}
 use Rattle.std.specs.List.{AllByRecursion, find, list_any}
 use Rattle.wf_layers.specs.Definition.{Graph}
-use Rattle.wf_def.specs.ActionTree.{ActionTree, KindTree, action_kind, action_name, action_number}
-use Rattle.wf_def.specs.DefTree.{DefTree}
-use Rattle.wf_def.specs.Layered.{layered}
-use Rattle.wf_order.specs.Order.{Contains}
-use Rattle.wf_refs.specs.Sites.{uses_of}
-use Rattle.wf_uses.specs.UsesTree.{UsesTree}
-use Rattle.wf_refs.specs.declared.site.Site.{Site}
-use Rattle.wf_standing.specs.Kinds.{is_foreach, is_loop, is_until}
-use Rattle.wf_standing.specs.Inside.{is_items, is_test}
-use Rattle.wf_standing.specs.Standing.{StandingTree, kind_at, number_at, standings_of}
-use Rattle.wf_standing.specs.Whole.{has_name}
+use Rattle.wf_known_laws.specs.ActionTree.{ActionTree, KindTree, action_kind, action_name, action_number}
+use Rattle.wf_known_laws.specs.DefTree.{DefTree}
+use Rattle.wf_known_laws.specs.Layered.{layered}
+use Rattle.wf_known_laws.specs.Order.{Contains}
+use Rattle.wf_rules.specs.Sites.{uses_of}
+use Rattle.wf_rules.specs.UsesTree.{UsesTree}
+use Rattle.wf_rules.specs.Site.{Site}
+use Rattle.wf_rules.specs.Kinds.{is_foreach, is_loop, is_until}
+use Rattle.wf_rules.specs.Inside.{is_items, is_test}
+use Rattle.wf_rules.specs.Standing.{StandingTree, kind_at, number_at, standings_of}
+use Rattle.wf_rules.specs.Whole.{has_name}
 use Rattle.wf_accepted_laws.specs.Seen.{IsSiteOf}
 
 abbrev pub IsOneOf : List ActionTree → ActionTree → Type 0

@@ -1,15 +1,15 @@
 -- What an accepted definition names in the expressions of its actions, and where that stands.
 use Rattle.std.specs.Prelude.{◌≡◌, ◌⊎◌, ℕ, true, ◌||◌, List, Some, bytes_eq}
 use Rattle.std.specs.List.{AllByRecursion, find, list_any}
-use Rattle.wf_def.specs.DefTree.{DefTree}
-use Rattle.wf_def.specs.Layered.{layered}
-use Rattle.wf_order.specs.Order.{Before, Contains}
-use Rattle.wf_refs.specs.Sites.{uses_of}
-use Rattle.wf_uses.specs.UsesTree.{UsesTree}
-use Rattle.wf_refs.specs.declared.site.Site.{Site}
-use Rattle.wf_standing.specs.Inside.{is_test}
-use Rattle.wf_standing.specs.Standing.{StandingTree, number_at, standings_of}
-use Rattle.wf_standing.specs.Whole.{has_name}
+use Rattle.wf_known_laws.specs.DefTree.{DefTree}
+use Rattle.wf_known_laws.specs.Layered.{layered}
+use Rattle.wf_known_laws.specs.Order.{Before, Contains}
+use Rattle.wf_rules.specs.Sites.{uses_of}
+use Rattle.wf_rules.specs.UsesTree.{UsesTree}
+use Rattle.wf_rules.specs.Site.{Site}
+use Rattle.wf_rules.specs.Inside.{is_test}
+use Rattle.wf_rules.specs.Standing.{StandingTree, number_at, standings_of}
+use Rattle.wf_rules.specs.Whole.{has_name}
 
 -- the sites of an action
 pub data IsSiteOf (s : StandingTree) : Site → Type 0 where

@@ -17,19 +17,24 @@ ghost use Rattle.wf_accepted_laws.specs.Loops.{AllAskLoopsRound, AllLeaveFew};
 ghost use Rattle.wf_accepted_laws.specs.Ends.{EndsAreInOrder, EndsStandInNoLoop, ResponsesAreInOneOrder};
 ghost use Rattle.wf_accepted_laws.specs.Seen.{AreSeen};
 ghost use Rattle.wf_accepted_laws.specs.Variables.{VariablesAreInOneOrder};
-ghost use Rattle.wf_def.specs.ActionTree.{ActionTrees, action_number};
-ghost use Rattle.wf_def.specs.DefTree.{DefTree};
-ghost use Rattle.wf_def.specs.Layered.{layered};
+ghost use Rattle.wf_known_laws.specs.ActionTree.{ActionTrees, action_number};
+ghost use Rattle.wf_known_laws.specs.DefTree.{DefTree};
+ghost use Rattle.wf_known_laws.specs.Layered.{layered};
 ghost use Rattle.wf_layers.specs.Address.{address, is_within, starts};
 ghost use Rattle.wf_layers.specs.Definition.{Graph, Kind, Until, holds, kind_of};
 ghost use Rattle.wf_layers.specs.Seen.{Once};
-ghost use Rattle.wf_order.specs.Order.{Contains, around};
-ghost use Rattle.wf_reading.specs.Read.{IsRead};
-ghost use Rattle.wf_def.specs.AllActions.{all_actions};
+ghost use Rattle.wf_known_laws.specs.Order.{Contains, around};
+ghost use Rattle.wf_known_laws.specs.Read.{IsRead};
+ghost use Rattle.wf_known_laws.specs.AllActions.{all_actions};
 ghost use Rattle.wf_rules.specs.Broken.{broken_of};
-ghost use Rattle.wf_standing.specs.Standing.{number_at, standings_of};
+ghost use Rattle.wf_rules.specs.Standing.{number_at, standings_of};
 
-pub use wf_rules::the_first_broken_rule;
+pub use wf_known_laws::{
+    actions_have_depths, before_is_an_order, entries_stay_in_their_graph, loops_may_turn,
+    numbers_are_below, numbers_are_had, numbers_stand_once, order_is_exact,
+    what_a_container_sees_is_seen_inside, what_is_before_is_seen,
+};
+pub use wf_rules::{Checked, the_first_broken_rule};
 
 /// The rules look at all actions of a graph, at any depth, and at no others.
 pub fn standings_are_the_actions()
@@ -48,7 +53,7 @@ pub fn references_are_seen()
     ensures { (d : DefTree) → IsRead d → broken_of d ≡ None → AreSeen d }
 {
     wf_rules::the_first_broken_rule();
-    wf_order::order_is_exact();
+    wf_known_laws::order_is_exact();
     wf_known_laws::numbers_are_had();
     wf_known_laws::numbers_are_below();
     wf_known_laws::entries_stay_in_their_graph();
@@ -61,8 +66,8 @@ pub fn what_is_named_is_seen()
     ensures { (d : DefTree) → IsRead d → broken_of d ≡ None → InstancesAreSeen d }
 {
     references_are_seen();
-    wf_order::what_is_before_is_seen();
-    wf_order::what_stands_inside_goes_along();
+    wf_known_laws::what_is_before_is_seen();
+    wf_known_laws::what_stands_inside_goes_along();
     wf_known_laws::numbers_stand_once();
     wf_known_laws::entries_stay_in_their_graph();
 }
@@ -101,8 +106,8 @@ pub fn variables_are_in_one_order()
     ensures { (d : DefTree) → IsRead d → broken_of d ≡ None → VariablesAreInOneOrder d }
 {
     wf_rules::the_first_broken_rule();
-    wf_varorder::no_pair_is_in_order();
-    wf_order::accesses_are_in_order();
+    wf_rules::no_pair_is_in_order();
+    wf_known_laws::accesses_are_in_order();
     wf_known_laws::numbers_are_had();
     wf_known_laws::numbers_are_below();
     wf_known_laws::numbers_stand_once();
@@ -114,7 +119,7 @@ pub fn ends_stand_in_no_loop()
     ensures { (d : DefTree) → IsRead d → broken_of d ≡ None → EndsStandInNoLoop d }
 {
     wf_rules::the_first_broken_rule();
-    wf_order::no_loop_is_round_two();
+    wf_known_laws::no_loop_is_round_two();
     wf_known_laws::numbers_stand_once();
 }
 
@@ -123,9 +128,9 @@ pub fn ends_are_in_order()
     ensures { (d : DefTree) → IsRead d → broken_of d ≡ None → EndsAreInOrder d }
 {
     wf_rules::the_first_broken_rule();
-    wf_varorder::no_pair_is_in_order();
-    wf_order::accesses_are_in_order();
-    wf_order::no_loop_is_round_two();
+    wf_rules::no_pair_is_in_order();
+    wf_known_laws::accesses_are_in_order();
+    wf_known_laws::no_loop_is_round_two();
     wf_known_laws::numbers_are_had();
     wf_known_laws::numbers_are_below();
     wf_known_laws::numbers_stand_once();
@@ -137,9 +142,9 @@ pub fn responses_are_in_order()
     ensures { (d : DefTree) → IsRead d → broken_of d ≡ None → ResponsesAreInOneOrder d }
 {
     wf_rules::the_first_broken_rule();
-    wf_varorder::no_pair_is_in_order();
-    wf_order::accesses_are_in_order();
-    wf_order::no_loop_is_round_two();
+    wf_rules::no_pair_is_in_order();
+    wf_known_laws::accesses_are_in_order();
+    wf_known_laws::no_loop_is_round_two();
     wf_known_laws::numbers_are_had();
     wf_known_laws::numbers_are_below();
     wf_known_laws::numbers_stand_once();

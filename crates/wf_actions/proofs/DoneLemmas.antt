@@ -3,25 +3,25 @@ use Rattle.std.proofs.Common.{◌≡◌, ℕ, Bool, List, [], Option, Some, None
 use Rattle.wf_answers.specs.AnswerTree.{AnswerTree}
 use Rattle.wf_def.specs.ActionTree.{ActionTree, ActionTrees, KindTree, action_kind, action_name, compose, connector, wait, response, terminate, select, query, join, parse_json, initialize, set_to, increment, decrement, append_array, append_string, scope, branch, switch, switch_else, foreach, until}
 use Rattle.wf_def.specs.DefTree.{DefTree}
-use Rattle.wf_done.specs.Done.{DoneTree}
-use Rattle.wf_done.specs.Leaf as leaf
-use Rattle.wf_done.specs.Leaf.{BegunTree, tries_in}
-use Rattle.wf_done.specs.Tracked.{tracked_value, with_own}
+use Rattle.wf_catalog.specs.Done.{DoneTree}
+use Rattle.wf_catalog.specs.Leaf as leaf
+use Rattle.wf_catalog.specs.Leaf.{BegunTree, tries_in}
+use Rattle.wf_catalog.specs.Tracked.{tracked_value, with_own}
 use Rattle.wf_layers.specs.Address.{Address, Table}
 use Rattle.wf_look.specs.Told.{Told}
-use Rattle.wf_environment.specs.Environment.{Environment}
-use Rattle.wf_meant.specs.Containers.{closed, tested}
-use Rattle.wf_meant.specs.Look.{decided_by}
-use Rattle.wf_meant.specs.Rows.{row_of, view_of}
-use Rattle.wf_meant.specs.Source.{begun, tracked_of}
+use Rattle.wf_catalog.specs.Environment.{Environment}
+use Rattle.wf_catalog.specs.Containers.{closed, tested}
+use Rattle.wf_catalog.specs.Look.{decided_by}
+use Rattle.wf_catalog.specs.Rows.{row_of, view_of}
+use Rattle.wf_catalog.specs.Source.{begun, tracked_of}
 use Rattle.wf_opening.specs.Decisions.{DecisionTree, decided}
 use Rattle.wf_opening.specs.Verdicts.{VerdictTree}
 use Rattle.wf_record.specs.Record.{Row}
 use Rattle.wf_record.specs.declared.attempt.Try.{Try}
 use Rattle.wf_template.specs.CondTree.{CondTree}
 use Rattle.wf_val.specs.ValueTree.{ValueTree, object, no_members}
-use Rattle.wf_doing.specs.Acting.{begun_by, closed_by, finished_by, tested_by, tracked_row}
-use Rattle.wf_doing.specs.Places.{named}
+use Rattle.wf_paying.specs.Acting.{begun_by, closed_by, finished_by, tested_by, tracked_row}
+use Rattle.wf_paying.specs.Places.{named}
 
 pub starts_by : (d : DefTree) (e : Environment) (x : Address) (known : Table Row) (l : Told) (o : Option ActionTree)
     → ((a : ActionTree) → o ≡ Some a → leaf.begun l (action_kind a) ≡ begun d e o x known) → begun_by o l ≡ begun d e o x known

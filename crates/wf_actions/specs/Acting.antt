@@ -3,17 +3,17 @@ use Rattle.std.specs.Prelude.{◌≡◌, ℕ, List}
 use Rattle.wf_answers.specs.InputsSeen.{inputs_tree}
 use Rattle.wf_answers.specs.declared.inputs.Inputs.{Inputs}
 use Rattle.wf_def.specs.DefTree.{DefTree}
-use Rattle.wf_environment.specs.Environment.{Environment, fresh}
+use Rattle.wf_catalog.specs.Environment.{Environment, fresh}
 use Rattle.wf_layers.specs.Laws.{IsInstance}
-use Rattle.wf_meant.specs.Answering.{RowSource}
-use Rattle.wf_meant.specs.Resubmitted.{pinned_source}
-use Rattle.wf_meant.specs.Source as meant
+use Rattle.wf_catalog.specs.Answering.{RowSource}
+use Rattle.wf_catalog.specs.Resubmitted.{pinned_source}
+use Rattle.wf_catalog.specs.Source as meant
 use Rattle.wf_sight_laws.specs.Answered.{IsAnswered}
-use Rattle.wf_reading.specs.ReadSeen.{def_tree}
+use Rattle.wf_catalog.specs.ReadSeen.{def_tree}
 use Rattle.wf_record.specs.Seen.{record_tree}
 use Rattle.wf_record.specs.declared.record.Record.{Record}
-use Rattle.wf_trigger.specs.StartsSeen.{start_tree}
-use Rattle.wf_trigger.specs.declared.starts.Start.{Start}
+use Rattle.wf_catalog.specs.StartsSeen.{start_tree}
+use Rattle.wf_catalog.specs.Start.{Start}
 use Rattle.wf_actions.specs.Meant.{definition_of, depth, environment_of, graph, source}
 use Rattle.wf_actions.specs.declared.actions.Actions.{Actions}
 use Rattle.wf_actions.specs.declared.actions.Ready.{Ready}

@@ -6,7 +6,7 @@ use Rattle.wf_asks.specs.declared.instance.Instance.{Instance}
 use Rattle.wf_asks.specs.declared.known.OpenAt.{OpenAt}
 use Rattle.wf_asks.specs.declared.known.RowAt.{RowAt}
 use Rattle.wf_asks.specs.declared.known.WriterAt.{WriterAt}
-use Rattle.wf_done.specs.Leaf.{BegunTree}
+use Rattle.wf_catalog.specs.Leaf.{BegunTree}
 use Rattle.wf_layers.specs.Address.{Table}
 use Rattle.wf_layers.specs.Definition.{Kind, Leaf, Graph, Until, kind_of}
 use Rattle.wf_layers.specs.Machine.{IsContainer}
@@ -17,7 +17,7 @@ use Rattle.wf_opening.specs.declared.decide.Decision.{Decision}
 use Rattle.wf_opening.specs.declared.verdict.Verdict.{Verdict}
 use Rattle.wf_record.specs.Record as recorded
 use Rattle.wf_record.specs.declared.row.Row.{Row}
-use Rattle.wf_views.specs.Seen.{row_content}
+use Rattle.wf_sight_laws.specs.Seen.{row_content}
 use Rattle.wf_actions.specs.Meant.{depth, graph, source, writes}
 use Rattle.wf_actions.specs.declared.actions.Actions.{Actions}
 

@@ -1,25 +1,25 @@
 -- WHAT THE ACTIONS OF A RUN MEAN: the definition, the environment of the run, and the source of its rows.
 use Rattle.std.specs.Prelude.{ℕ, Bool, List, [], Option, Some, None}
 use Rattle.wf_answers.specs.InputsSeen.{inputs_tree}
-use Rattle.wf_closing.specs.Inside.{InsideTree, inside_of}
+use Rattle.wf_paying.specs.Inside.{InsideTree, inside_of}
 use Rattle.wf_def.specs.ActionTree.{ActionTree, action_kind}
 use Rattle.wf_def.specs.DefTree.{DefTree}
-use Rattle.wf_done.specs.Leaf.{BegunTree}
+use Rattle.wf_catalog.specs.Leaf.{BegunTree}
 use Rattle.wf_layers.specs.Address.{Address}
 use Rattle.wf_layers.specs.Definition.{Graph}
 use Rattle.wf_layers.specs.Machine.{Event}
 use Rattle.wf_layers.specs.Source.{Source}
-use Rattle.wf_environment.specs.Environment.{Environment, fresh}
-use Rattle.wf_meant.specs.Points.{graph_of}
-use Rattle.wf_meant.specs.Record.{depth_of}
-use Rattle.wf_meant.specs.Answering.{table_by}
+use Rattle.wf_catalog.specs.Environment.{Environment, fresh}
+use Rattle.wf_catalog.specs.Points.{graph_of}
+use Rattle.wf_catalog.specs.Record.{depth_of}
+use Rattle.wf_catalog.specs.Answering.{table_by}
 use Rattle.wf_opening.specs.Decisions.{DecisionTree}
 use Rattle.wf_opening.specs.Verdicts.{VerdictTree}
-use Rattle.wf_reading.specs.ReadSeen.{def_tree}
+use Rattle.wf_catalog.specs.ReadSeen.{def_tree}
 use Rattle.wf_record.specs.Record.{Row}
 use Rattle.wf_sight_laws.specs.Writes as numbered
-use Rattle.wf_trace.specs.Told as trace
-use Rattle.wf_trigger.specs.StartsSeen.{start_tree}
+use Rattle.wf_telling.specs.Told as trace
+use Rattle.wf_catalog.specs.StartsSeen.{start_tree}
 use Rattle.wf_paying.specs.Paying as paying
 use Rattle.wf_paying.specs.Paying.{first_cost}
 use Rattle.wf_actions.specs.declared.actions.Actions.{Actions}

@@ -1,17 +1,17 @@
 -- What holds of the actions of a run, whatever it was made from.
 use Rattle.std.specs.Prelude.{◌≡◌, ◌<◌, ◌≤◌, ◌+◌, ◌*◌, ◌^◌, ℕ, suc}
 use Rattle.wf_asks.specs.Known.{writer}
-use Rattle.wf_done.specs.Leaf.{BegunTree}
+use Rattle.wf_catalog.specs.Leaf.{BegunTree}
 use Rattle.wf_layers.specs.Address.{Address}
 use Rattle.wf_layers.specs.Bound.{TellsTurns}
 use Rattle.wf_layers.specs.Definition.{Turns}
 use Rattle.wf_layers.specs.Meaning.{meaning}
 use Rattle.wf_layers.specs.Variables.{OneOrder}
-use Rattle.wf_meant.specs.Answering.{table_by}
-use Rattle.wf_meant.specs.Record.{record_of_table}
+use Rattle.wf_catalog.specs.Answering.{table_by}
+use Rattle.wf_catalog.specs.Record.{record_of_table}
 use Rattle.wf_record.specs.Cost.{cost}
 use Rattle.wf_record.specs.Record.{Row}
-use Rattle.wf_turns.specs.Turns.{turns}
+use Rattle.wf_paying.specs.Turns.{turns}
 use Rattle.wf_paying.specs.Paying.{cost_of_row}
 use Rattle.wf_actions.specs.Meant.{definition_of, depth, environment_of, fee, graph, rows_meant, source, writes}
 use Rattle.wf_actions.specs.declared.actions.Actions.{Actions}

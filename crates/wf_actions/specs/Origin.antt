@@ -3,16 +3,16 @@
 use Rattle.std.specs.Prelude.{Option, None, Some}
 use Rattle.wf_answers.specs.Inputs.{InputsTree}
 use Rattle.wf_def.specs.DefTree.{DefTree}
-use Rattle.wf_done.specs.Leaf.{BegunTree}
-use Rattle.wf_environment.specs.Environment.{fresh}
+use Rattle.wf_catalog.specs.Leaf.{BegunTree}
+use Rattle.wf_catalog.specs.Environment.{fresh}
 use Rattle.wf_layers.specs.Source.{Source}
-use Rattle.wf_meant.specs.Resubmitted.{pinned_source}
-use Rattle.wf_meant.specs.Source.{source}
+use Rattle.wf_catalog.specs.Resubmitted.{pinned_source}
+use Rattle.wf_catalog.specs.Source.{source}
 use Rattle.wf_opening.specs.Decisions.{DecisionTree}
 use Rattle.wf_opening.specs.Verdicts.{VerdictTree}
 use Rattle.wf_record.specs.Record.{Row}
 use Rattle.wf_record.specs.Seen.{record_tree}
-use Rattle.wf_trigger.specs.Starts.{StartTree}
+use Rattle.wf_catalog.specs.Starts.{StartTree}
 use Rattle.wf_actions.specs.declared.actions.Old.{Old}
 
 abbrev pub source_by : DefTree → StartTree → InputsTree → Option Old → Source Row BegunTree DecisionTree VerdictTree

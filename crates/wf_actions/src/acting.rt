@@ -4,19 +4,19 @@ ghost use Rattle.wf_val.specs.Cut.{cut_u64};
 ghost use Rattle.wf_asks.specs.Instances.{address_of};
 ghost use Rattle.wf_asks.specs.Known.{is_among};
 ghost use Rattle.wf_asks.specs.Statuses.{status_tree};
-ghost use Rattle.wf_closing.specs.Inside.{inside_of};
-ghost use Rattle.wf_closing.specs.InsideSeen.{inside_tree};
+ghost use Rattle.wf_paying.specs.Inside.{inside_of};
+ghost use Rattle.wf_paying.specs.InsideSeen.{inside_tree};
 ghost use Rattle.wf_def.specs.ActionSeen.{action_tree};
 ghost use Rattle.wf_def.specs.ActionTree.{action_kind};
 ghost use Rattle.wf_def.specs.AllActions.{numbered};
-ghost use Rattle.wf_doing.specs.Seen as setting;
-ghost use Rattle.wf_done.specs.DoneSeen.{begun_tree};
+ghost use Rattle.wf_paying.specs.Seen as setting;
+ghost use Rattle.wf_catalog.specs.DoneSeen.{begun_tree};
 ghost use Rattle.wf_layers.specs.Definition.{Leaf};
-ghost use Rattle.wf_meant.specs.Rows as rows;
+ghost use Rattle.wf_catalog.specs.Rows as rows;
 ghost use Rattle.wf_opening.specs.DecisionSeen.{decision_tree, verdict_tree};
 ghost use Rattle.wf_paying.specs.Paying.{cost_of_row};
-ghost use Rattle.wf_reading.specs.ReadSeen.{def_tree};
-ghost use Rattle.wf_views.specs.Seen.{row_content};
+ghost use Rattle.wf_catalog.specs.ReadSeen.{def_tree};
+ghost use Rattle.wf_sight_laws.specs.Seen.{row_content};
 ghost use Rattle.wf_actions.specs.Asked.{Informed, InformedInside, InformedToOpen, InformedToTest, IsAnew, Last, close_of, decision_of};
 ghost use Rattle.wf_actions.specs.Asked.{finish_of, halt_of, start_of, test_of, tries_another};
 ghost use Rattle.wf_actions.specs.Meant.{definition_of, environment_of, inside_by, source, writes};
@@ -25,12 +25,10 @@ use crate::actions::Actions;
 use crate::opened::{are_answered, was_read};
 use std::alloc::{AllocError, Global};
 use wf_asks::{Instance, Known};
-use wf_catalog::Places;
-use wf_closing::Inside;
+use wf_catalog::{Begun, Places};
 use wf_def::Action;
-use wf_doing::Setting;
-use wf_done::Begun;
 use wf_opening::{Decision, Verdict};
+use wf_paying::{Inside, Setting};
 use wf_record::{Row, Status};
 use wf_val::Text;
 
@@ -61,7 +59,7 @@ pub(crate) fn start(
     was_read(&actions.ready.checked.def);
     actions.ready.checked.always_checked();
     wf_sight_laws::what_is_done_in_a_sight_is_meant();
-    wf_doing::start(alloc, &setting(actions), place, known)
+    wf_paying::start(alloc, &setting(actions), place, known)
 }
 
 /// Whether a running leaf that made so many attempts makes another.
@@ -69,8 +67,8 @@ pub(crate) fn has_try(actions: &Actions<'_>, place: &Instance, begun: &Begun, ma
     ensures { result ≡ tries_another actions.now place.now (begun_tree begun.now) made }
 {
     are_answered(actions);
-    wf_doing::what_is_done_is_the_source();
-    wf_doing::makes_another(&setting(actions), place, begun, made)
+    wf_paying::what_is_done_is_the_source();
+    wf_paying::makes_another(&setting(actions), place, begun, made)
 }
 
 /// The row with which a leaf ends.
@@ -88,8 +86,8 @@ pub(crate) fn finish(
     was_read(&actions.ready.checked.def);
     actions.ready.checked.always_checked();
     wf_sight_laws::what_is_done_in_a_sight_is_meant();
-    wf_doing::what_is_done_is_the_source();
-    wf_doing::finish(alloc, &setting(actions), place, begun, known)
+    wf_paying::what_is_done_is_the_source();
+    wf_paying::finish(alloc, &setting(actions), place, begun, known)
 }
 
 // The row of an action of a number that doesn't run.
@@ -97,8 +95,8 @@ fn skipped_row(alloc: Global, places: &Places<'_>, place: &Instance) -> Result<R
     ensures { IfOk result (λ r. row_content r ≡ rows.skipped) }
 {
     match places.action(place.action) {
-        Some(action) => wf_doing::skipped(alloc, &action.name, &place.at),
-        None => wf_doing::skipped(alloc, &Text::of(alloc, "")?, &place.at),
+        Some(action) => wf_paying::skipped(alloc, &action.name, &place.at),
+        None => wf_paying::skipped(alloc, &Text::of(alloc, "")?, &place.at),
     }
 }
 
@@ -128,9 +126,9 @@ pub(crate) fn decide(
     are_answered(actions);
     was_read(&actions.ready.checked.def);
     actions.ready.checked.always_checked();
-    wf_known_laws::numbers_stand_once();
+    wf_catalog::numbers_stand_once();
     wf_sight_laws::what_is_done_in_a_sight_is_meant();
-    wf_doing::decide(alloc, &setting(actions), place, known)
+    wf_paying::decide(alloc, &setting(actions), place, known)
 }
 
 /// What the test of an Until gives after the iteration of an index.
@@ -147,10 +145,10 @@ pub(crate) fn test(
     are_answered(actions);
     was_read(&actions.ready.checked.def);
     actions.ready.checked.always_checked();
-    wf_known_laws::numbers_stand_once();
+    wf_catalog::numbers_stand_once();
     wf_sight_laws::what_is_done_in_a_sight_is_meant();
-    wf_doing::what_is_done_is_the_source();
-    wf_doing::test_until(alloc, &setting(actions), place, index, known)
+    wf_paying::what_is_done_is_the_source();
+    wf_paying::test_until(alloc, &setting(actions), place, index, known)
 }
 
 // What closing asks of a container.
@@ -191,12 +189,12 @@ pub(crate) fn close(
     are_answered(actions);
     was_read(&actions.ready.checked.def);
     actions.ready.checked.always_checked();
-    wf_known_laws::numbers_stand_once();
+    wf_catalog::numbers_stand_once();
     wf_sight_laws::what_is_done_in_a_sight_is_meant();
-    wf_doing::what_is_done_is_the_source();
-    wf_doing::containers_are_judged();
+    wf_paying::what_is_done_is_the_source();
+    wf_paying::containers_are_judged();
     let inside = inside(alloc, &actions.ready.places, place.action)?;
-    wf_doing::close(
+    wf_paying::close(
         alloc,
         &setting(actions),
         &inside,
@@ -256,9 +254,9 @@ pub(crate) fn halts(
     ensures { result ≡ halt_of actions.now place.now known.entry.rows.now.0 }
 {
     are_answered(actions);
-    wf_doing::terminates_halt();
+    wf_paying::terminates_halt();
     actions.ready.checked.always_checked();
-    wf_doing::halts(
+    wf_paying::halts(
         &actions.ready.checked.order,
         &actions.ready.terminates,
         place.action,

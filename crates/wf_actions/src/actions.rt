@@ -3,21 +3,20 @@ ghost use Rattle.std.specs.Prelude.{◌≡◌, map};
 ghost use Rattle.wf_answers.specs.InputsSeen.{inputs_tree};
 ghost use Rattle.wf_asks.specs.Instances.{address_of};
 ghost use Rattle.wf_def.specs.AllActions.{all_actions};
-ghost use Rattle.wf_doing.specs.Halting.{terminates_in};
-ghost use Rattle.wf_environment.specs.Environment.{fresh};
+ghost use Rattle.wf_paying.specs.Halting.{terminates_in};
+ghost use Rattle.wf_catalog.specs.Environment.{fresh};
 ghost use Rattle.wf_sight_laws.specs.Answered.{IsAnswered};
-ghost use Rattle.wf_reading.specs.ReadSeen.{def_tree};
-ghost use Rattle.wf_trigger.specs.StartsSeen.{start_tree};
+ghost use Rattle.wf_catalog.specs.ReadSeen.{def_tree};
+ghost use Rattle.wf_catalog.specs.StartsSeen.{start_tree};
 ghost use Rattle.wf_val.specs.Cut.{cut_u64};
 ghost use Rattle.wf_paying.specs.Paying.{first_cost};
 ghost use Rattle.wf_actions.specs.Origin.{source_by};
 
 use wf_answers::Inputs;
 use wf_asks::Instance;
-use wf_catalog::Places;
+use wf_catalog::{Places, Start};
 use wf_record::Record;
-use wf_rules::Checked;
-use wf_trigger::Start;
+use wf_sight_laws::Checked;
 use wf_val::Schedule;
 
 /// A definition that breaks no rule, made ready for its runs.

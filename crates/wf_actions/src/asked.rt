@@ -4,7 +4,7 @@ use crate::actions::Actions;
 use crate::laws::keep_order;
 use std::alloc::{AllocError, Global};
 use wf_asks::{Acts, Instance, Known};
-use wf_done::Begun;
+use wf_catalog::Begun;
 use wf_opening::{Decision, Verdict};
 use wf_record::{Row, Status};
 
@@ -15,16 +15,16 @@ impl<'a> Acts for Actions<'a> {
     ghost use Rattle.wf_layers.specs.Definition.{Kind, Leaf, Until, kind_of};
     ghost use Rattle.wf_layers.specs.Definition as layers;
     ghost use Rattle.wf_layers.specs.Machine.{IsContainer};
-    ghost use Rattle.wf_done.specs.DoneSeen.{begun_tree};
-    ghost use Rattle.wf_done.specs.Leaf.{BegunTree};
-    ghost use Rattle.wf_doing.specs.Weights as weights;
+    ghost use Rattle.wf_catalog.specs.DoneSeen.{begun_tree};
+    ghost use Rattle.wf_catalog.specs.Leaf.{BegunTree};
+    ghost use Rattle.wf_paying.specs.Weights as weights;
     ghost use Rattle.wf_opening.specs.DecisionSeen.{decision_tree, verdict_tree};
     ghost use Rattle.wf_opening.specs.Decisions.{DecisionTree};
     ghost use Rattle.wf_opening.specs.Verdicts.{VerdictTree};
     ghost use Rattle.wf_paying.specs.Paying as paying;
     ghost use Rattle.wf_record.specs.Record as recorded;
-    ghost use Rattle.wf_views.specs.Seen.{row_content};
-    ghost use Rattle.wf_turns.specs.Turns as told;
+    ghost use Rattle.wf_sight_laws.specs.Seen.{row_content};
+    ghost use Rattle.wf_paying.specs.Turns as told;
     ghost use Rattle.wf_actions.specs.Meant as meant;
 
     type Row = Row;
@@ -203,10 +203,10 @@ impl<'a> Acts for Actions<'a> {
     }
 
     fn begun_weight(&self, begun: &Begun) -> u64 {
-        wf_doing::begun_weight(begun)
+        wf_paying::begun_weight(begun)
     }
 
     fn decision_weight(&self, decision: &Decision) -> u64 {
-        wf_doing::decision_weight(decision)
+        wf_paying::decision_weight(decision)
     }
 }

@@ -14,11 +14,11 @@ pub(crate) fn keep_order(actions: &Actions<'_>)
     was_read(&actions.ready.checked.def);
     actions.ready.checked.always_checked();
     let _count = actions.inputs.answers.len();
-    wf_reading::loops_may_turn();
+    wf_catalog::loops_may_turn();
     wf_sight_laws::numbered_writers_are_in_one_order();
-    wf_turns::rows_tell_their_turns();
-    wf_turns::a_row_costs_its_turns();
-    wf_turns::attempts_are_answered();
+    wf_paying::rows_tell_their_turns();
+    wf_paying::a_row_costs_its_turns();
+    wf_paying::attempts_are_answered();
 }
 
 /// What a run costs by its start and its rows is at most what the record costs that has these rows.

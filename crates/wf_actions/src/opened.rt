@@ -1,11 +1,11 @@
 //! That a definition was read, and that the actions of a run answer.
 ghost use Rattle.wf_sight_laws.specs.Answered.{IsAnswered};
-ghost use Rattle.wf_reading.specs.Read.{IsRead};
-ghost use Rattle.wf_reading.specs.ReadSeen.{def_tree};
+ghost use Rattle.wf_catalog.specs.Read.{IsRead};
+ghost use Rattle.wf_catalog.specs.ReadSeen.{def_tree};
 ghost use Rattle.wf_actions.specs.Meant.{definition_of, environment_of, source};
 
 use crate::actions::Actions;
-use wf_reading::Def;
+use wf_catalog::Def;
 
 /// Tells a caller that the definition was read, and does nothing.
 pub(crate) fn was_read(def: &Def)

@@ -5,8 +5,8 @@ use crate::actions::{Actions, Old, Ready};
 use crate::opened::was_read;
 use crate::pays::first_cost;
 use wf_answers::Inputs;
+use wf_catalog::Start;
 use wf_record::Record;
-use wf_trigger::Start;
 use wf_val::Schedule;
 
 impl<'a> Actions<'a> {
@@ -16,7 +16,7 @@ impl<'a> Actions<'a> {
     {
         was_read(&ready.checked.def);
         ready.checked.always_checked();
-        wf_instance::a_definition_is_an_instance();
+        wf_sight_laws::a_definition_is_an_instance();
         wf_sight_laws::a_definition_is_answered();
         Actions {
             ready,

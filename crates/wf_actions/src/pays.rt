@@ -1,19 +1,19 @@
 //! What a run costs.
 ghost use Rattle.std.specs.Prelude.{◌≡◌, ◌≤◌};
 ghost use Rattle.wf_val.specs.Cut.{cut_u64};
-ghost use Rattle.wf_done.specs.DoneSeen.{begun_tree};
-ghost use Rattle.wf_doing.specs.Weights.{begun_weight, decision_weight};
-ghost use Rattle.wf_making.specs.Priced.{IsPriced};
+ghost use Rattle.wf_catalog.specs.DoneSeen.{begun_tree};
+ghost use Rattle.wf_paying.specs.Weights.{begun_weight, decision_weight};
+ghost use Rattle.wf_paying.specs.Priced.{IsPriced};
 ghost use Rattle.wf_opening.specs.DecisionSeen.{decision_tree, verdict_tree};
 ghost use Rattle.wf_paying.specs.Paying.{cost_of_row, first_cost};
-ghost use Rattle.wf_trigger.specs.StartsSeen.{start_tree};
-ghost use Rattle.wf_views.specs.Seen.{row_content};
+ghost use Rattle.wf_catalog.specs.StartsSeen.{start_tree};
+ghost use Rattle.wf_sight_laws.specs.Seen.{row_content};
 ghost use Rattle.wf_actions.specs.Meant.{depth, fee, graph, rows_meant, source};
 
 use crate::actions::Actions;
 use crate::opened::{are_answered, was_read};
-use wf_making::Pays;
-use wf_trigger::Start;
+use wf_catalog::Start;
+use wf_paying::Pays;
 
 // What the run that starts so costs before its first event: 64, its trigger and its parameters.
 pub(crate) fn first_cost(start: &Start) -> u64

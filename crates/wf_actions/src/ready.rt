@@ -4,8 +4,8 @@ ghost use Rattle.std.specs.Prelude.{◌≡◌, IfOk};
 use crate::actions::Ready;
 use std::alloc::{AllocError, Global};
 use wf_catalog::Places;
-use wf_doing::terminates;
-use wf_rules::Checked;
+use wf_paying::terminates;
+use wf_sight_laws::Checked;
 
 impl<'a> Ready<'a> {
     /// Makes a definition ready. It walks its graphs a few times.

@@ -4,9 +4,9 @@ use crate::actions::Actions;
 use crate::opened::are_answered;
 use std::alloc::{AllocError, Global};
 use wf_asks::OpenAt;
-use wf_done::Begun;
-use wf_making::Tells;
+use wf_catalog::Begun;
 use wf_opening::{Decision, Verdict};
+use wf_paying::Tells;
 use wf_record::Row;
 use wf_tables::{EventAt, LeafAt};
 

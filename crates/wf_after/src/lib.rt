@@ -14,3 +14,4 @@ mod laws;
 
 pub use graph::bad_run_after;
 pub use laws::who_waits_for_itself;
+pub use wf_json::{pointer, write};

@@ -20,18 +20,18 @@ use Rattle.wf_opening.specs.Decisions.{DecisionTree, nothing, held, chosen, each
 use Rattle.wf_opening.specs.Verdicts.{VerdictTree}
 use Rattle.wf_environment.specs.Environment.{Facts}
 use Rattle.wf_loops.specs.Loops.{loops_of}
-use Rattle.wf_meant.specs.Containers.{any_iteration_failed, any_terminated, case_status, close_branch, close_foreach, close_until, closed}
-use Rattle.wf_meant.specs.Containers.{closed_as, cut_short, has_succeeded, is_failed, is_succeeded, is_terminate, iterations_value}
-use Rattle.wf_meant.specs.Containers.{last_status, status_of, unless_cut}
-use Rattle.wf_meant.specs.Look.{Item, told_by}
-use Rattle.wf_meant.specs.Points.{Point, action_named, graph_of, sees}
-use Rattle.wf_meant.specs.References.{Spots, by_name, every, first_level, latest, one, own_loop, places_in, result_at, result_by, result_in}
-use Rattle.wf_meant.specs.References.{shared, spots_by, spots_in, upto, view_at, view_by, view_in, view_there}
-use Rattle.wf_meant.specs.Rows.{iterations_of, turns_at, turns_said, view_of}
-use Rattle.wf_meant.specs.Status.{fails, graph_status, is_named, judge, judge_found, judge_row}
-use Rattle.wf_meant.specs.Variables.{given_by, indexes_from, instances_at, last_from, seen_by, variable_at, writes, written_at}
-use Rattle.wf_meant.specs.Variables.{written_before}
-use Rattle.wf_meant.specs.Variables.{Written}
+use Rattle.wf_turns.specs.Containers.{any_iteration_failed, any_terminated, case_status, close_branch, close_foreach, close_until, closed}
+use Rattle.wf_turns.specs.Containers.{closed_as, cut_short, has_succeeded, is_failed, is_succeeded, is_terminate, iterations_value}
+use Rattle.wf_turns.specs.Containers.{last_status, status_of, unless_cut}
+use Rattle.wf_turns.specs.Look.{Item, told_by}
+use Rattle.wf_turns.specs.Points.{Point, action_named, graph_of, sees}
+use Rattle.wf_turns.specs.References.{Spots, by_name, every, first_level, latest, one, own_loop, places_in, result_at, result_by, result_in}
+use Rattle.wf_turns.specs.References.{shared, spots_by, spots_in, upto, view_at, view_by, view_in, view_there}
+use Rattle.wf_turns.specs.Rows.{iterations_of, turns_at, turns_said, view_of}
+use Rattle.wf_turns.specs.Status.{fails, graph_status, is_named, judge, judge_found, judge_row}
+use Rattle.wf_turns.specs.Variables.{given_by, indexes_from, instances_at, last_from, seen_by, variable_at, writes, written_at}
+use Rattle.wf_turns.specs.Variables.{written_before}
+use Rattle.wf_turns.specs.Variables.{Written}
 
 -- a row without its attempts
 abbrev pub plain : Row → Row

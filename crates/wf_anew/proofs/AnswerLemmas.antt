@@ -18,10 +18,10 @@ use Rattle.wf_done.specs.Leaf as leaf
 use Rattle.wf_done.specs.Leaf.{BegunTree, acted, calling, done_by, ended, tries_in}
 use Rattle.wf_done.specs.Tracked.{tracked_value}
 use Rattle.wf_environment.specs.Environment.{Environment, facts_of}
-use Rattle.wf_meant.specs.Containers.{closed, tested}
-use Rattle.wf_meant.specs.Look.{decided_by, instance, name_in, told_at}
-use Rattle.wf_meant.specs.Rows.{row_of, view_of}
-use Rattle.wf_meant.specs.Source.{begun, close_of, finished, source, test_of, tracked_of, tries_of, with_tracked}
+use Rattle.wf_turns.specs.Containers.{closed, tested}
+use Rattle.wf_turns.specs.Look.{decided_by, instance, name_in, told_at}
+use Rattle.wf_turns.specs.Rows.{row_of, view_of}
+use Rattle.wf_turns.specs.Source.{begun, close_of, finished, source, test_of, tracked_of, tries_of, with_tracked}
 use Rattle.wf_anew.specs.Same.{SameAnswers}
 use Rattle.wf_anew.proofs.ToldLemmas.{SameStart, WordsAt, WordsRound, told_at_same, told_ending_same, told_in_test_same}
 

@@ -10,8 +10,8 @@ use Rattle.wf_def.specs.DefTree.{DefTree}
 use Rattle.wf_def.specs.Names.{find_in}
 use Rattle.wf_record.specs.Record.{RecordTree, RowTree, find_row}
 use Rattle.wf_standing.specs.Whole.{order_in}
-use Rattle.wf_meant.specs.Look.{instance, name_in, name_of}
-use Rattle.wf_meant.specs.Resubmitted.{is_chosen}
+use Rattle.wf_turns.specs.Look.{instance, name_in, name_of}
+use Rattle.wf_turns.specs.Resubmitted.{is_chosen}
 use Rattle.wf_resubmit.specs.Chosen.{MayBeRedone}
 use Rattle.wf_resubmit.specs.Least.{IsLeastOf, NoneHolds, least_of}
 use Rattle.wf_resubmit.specs.Refused as refusals
@@ -20,7 +20,7 @@ use Rattle.wf_resubmit.specs.Refused.{refused_by_loops, refused_by_rows}
 use Rattle.wf_resubmit.specs.declared.fault.ResubmitFault.{ResubmitFault}
 use Rattle.wf_resubmit.proofs.LeastLemmas.{least_is}
 use Rattle.wf_order.specs.Table.{OrderTree}
-use Rattle.wf_meant.specs.Points.{graph_of}
+use Rattle.wf_turns.specs.Points.{graph_of}
 use Rattle.wf_anew.specs.Asked.{IsAccepted, IsAskedOf}
 use Rattle.wf_anew.specs.Known.{AreNamed}
 use Rattle.wf_anew.proofs.NameLemmas.{found_in}

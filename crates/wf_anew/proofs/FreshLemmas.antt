@@ -26,12 +26,12 @@ use Rattle.wf_opening.specs.Decisions.{DecisionTree}
 use Rattle.wf_opening.specs.Verdicts.{VerdictTree}
 use Rattle.wf_done.specs.Leaf.{BegunTree}
 use Rattle.wf_environment.specs.Environment.{Environment, last_facts, layer_facts}
-use Rattle.wf_meant.specs.Look.{instance}
-use Rattle.wf_meant.specs.Points.{graph_of}
-use Rattle.wf_meant.specs.Record.{depth_of, record_of_table, rows_of}
-use Rattle.wf_meant.specs.Resubmitted.{is_chosen, pinned_source, pinned_table, recalled, resubmitted, rows_by, said_by}
-use Rattle.wf_meant.specs.Rows.{skipped}
-use Rattle.wf_meant.specs.Source.{source, table_of}
+use Rattle.wf_turns.specs.Look.{instance}
+use Rattle.wf_turns.specs.Points.{graph_of}
+use Rattle.wf_turns.specs.Record.{depth_of, record_of_table, rows_of}
+use Rattle.wf_turns.specs.Resubmitted.{is_chosen, pinned_source, pinned_table, recalled, resubmitted, rows_by, said_by}
+use Rattle.wf_turns.specs.Rows.{skipped}
+use Rattle.wf_turns.specs.Source.{source, table_of}
 use Rattle.wf_resubmit.specs.Refused.{has_run, ran_as}
 use Rattle.wf_anew.specs.Asked.{IsAskedOf}
 use Rattle.wf_anew.specs.Known.{IsKnown}

@@ -2,7 +2,7 @@
 use Rattle.std.proofs.Common.{◌≡◌, Option, None, Some, option_map, refl}
 use Rattle.wf_first.specs.First.{first_broken}
 use Rattle.wf_def.specs.DefTree.{DefTree}
-use Rattle.wf_rules.specs.Broken.{broken_of, offences, rules_in_order}
+use Rattle.wf_meant_laws.specs.Broken.{broken_of, offences, rules_in_order}
 
 none_mapped : {X Y : Type 0} (f : X → Y) (o : Option X) → option_map f o ≡ None → o ≡ None
 none_mapped f None is = refl

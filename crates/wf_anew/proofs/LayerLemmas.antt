@@ -10,8 +10,8 @@ use Rattle.wf_def.specs.DefTree.{DefTree}
 use Rattle.wf_environment.specs.Environment.{Environment, Facts, Layer, facts_of, facts_over, first_facts, last_facts, last_over}
 use Rattle.wf_environment.specs.Environment.{layer_facts}
 use Rattle.wf_loops.specs.Loops.{loops_of}
-use Rattle.wf_meant.specs.Points.{graph_of}
-use Rattle.wf_meant.specs.Source.{source}
+use Rattle.wf_turns.specs.Points.{graph_of}
+use Rattle.wf_turns.specs.Source.{source}
 use Rattle.wf_anew.specs.Layer.{with_layer}
 use Rattle.wf_anew.specs.Same.{SameAnswers, SameWords}
 use Rattle.wf_anew.proofs.AnswerLemmas.{SameAt, close_same, decide_same, finish_same, start_same, test_same, tries_same}

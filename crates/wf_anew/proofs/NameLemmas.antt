@@ -13,8 +13,8 @@ use Rattle.wf_def.specs.DefTree.{DefTree}
 use Rattle.wf_def.specs.Names.{find_cases, find_in, find_inside, first_of}
 use Rattle.wf_reading.specs.Facts.{AreOnce}
 use Rattle.wf_refs.proofs.NumberLemmas.{names_are, numbers_are}
-use Rattle.wf_meant.specs.Look.{name_in, name_of}
-use Rattle.wf_meant.specs.Points.{action_named, graph_of, has_action_name}
+use Rattle.wf_turns.specs.Look.{name_in, name_of}
+use Rattle.wf_turns.specs.Points.{action_named, graph_of, has_action_name}
 use Rattle.wf_anew.specs.Known.{AreNamed}
 
 neither : (p q : Bool) → (p || q) ≡ false → (p ≡ false) × (q ≡ false)

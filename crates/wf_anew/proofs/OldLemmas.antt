@@ -13,9 +13,9 @@ use Rattle.wf_opening.specs.Verdicts.{VerdictTree}
 use Rattle.wf_done.specs.Leaf.{BegunTree}
 use Rattle.wf_environment.specs.Environment.{Environment, Facts, facts_of, last_facts, layer_facts}
 use Rattle.wf_loops.specs.Loops.{loops_of}
-use Rattle.wf_meant.specs.Points.{graph_of}
-use Rattle.wf_meant.specs.Record.{depth_of, record_of_table}
-use Rattle.wf_meant.specs.Source.{table_of}
+use Rattle.wf_turns.specs.Points.{graph_of}
+use Rattle.wf_turns.specs.Record.{depth_of, record_of_table}
+use Rattle.wf_turns.specs.Source.{table_of}
 use Rattle.wf_anew.specs.Layer.{layer_of, redone_names, with_layer}
 use Rattle.wf_anew.specs.Same.{GivesTheOld, SameAnswers, SameWords}
 use Rattle.wf_anew.proofs.AnswerLemmas.{SameAt}

@@ -19,12 +19,12 @@ use Rattle.wf_done.specs.Leaf.{BegunTree, ended}
 use Rattle.wf_done.specs.Tracked.{tracked_value, with_own}
 use Rattle.wf_environment.specs.Environment.{Environment, facts_of}
 use Rattle.wf_environment.specs.Statuses.{status_tree}
-use Rattle.wf_meant.specs.Containers.{closed, is_terminate, tested}
-use Rattle.wf_meant.specs.Look.{Item, decided_by, decided_within, instance, item_in, items_at, items_from, name_of, told_at, told_by}
-use Rattle.wf_meant.specs.Look.{told_in_test, told_within}
-use Rattle.wf_meant.specs.Points.{Point, is_before, point_of, point_of_test}
-use Rattle.wf_meant.specs.Rows.{row_of, view_of}
-use Rattle.wf_meant.specs.Source.{begun, close_of, finished, is_halted, source, test_of, tracked_of, tries_of, with_tracked}
+use Rattle.wf_turns.specs.Containers.{closed, is_terminate, tested}
+use Rattle.wf_turns.specs.Look.{Item, decided_by, decided_within, instance, item_in, items_at, items_from, name_of, told_at, told_by}
+use Rattle.wf_turns.specs.Look.{told_in_test, told_within}
+use Rattle.wf_turns.specs.Points.{Point, is_before, point_of, point_of_test}
+use Rattle.wf_turns.specs.Rows.{row_of, view_of}
+use Rattle.wf_turns.specs.Source.{begun, close_of, finished, is_halted, source, test_of, tracked_of, tries_of, with_tracked}
 use Rattle.wf_anew.proofs.AlikeLemmas.{closed_same, plain, succeeded_same, told_alike}
 
 module _ (d : DefTree) (e : Environment) (t u : Table Row) (alike : AreAlike plain t u) where

@@ -7,11 +7,11 @@ use Rattle.wf_def.specs.DefTree.{DefTree}
 use Rattle.wf_record.specs.Record.{Row}
 use Rattle.wf_environment.specs.Ending.{Ending, ending, section}
 use Rattle.wf_environment.specs.Environment.{Environment, last_facts}
-use Rattle.wf_meant.specs.Containers.{is_terminate}
-use Rattle.wf_meant.specs.Look.{told_to_outputs}
-use Rattle.wf_meant.specs.Points.{point_of_outputs}
-use Rattle.wf_meant.specs.Record.{ending_by, first_succeeded, record_of_table}
-use Rattle.wf_meant.specs.Status.{graph_status}
+use Rattle.wf_turns.specs.Containers.{is_terminate}
+use Rattle.wf_turns.specs.Look.{told_to_outputs}
+use Rattle.wf_turns.specs.Points.{point_of_outputs}
+use Rattle.wf_turns.specs.Record.{ending_by, first_succeeded, record_of_table}
+use Rattle.wf_turns.specs.Status.{graph_status}
 use Rattle.wf_anew.specs.Same.{SameWords}
 use Rattle.wf_anew.proofs.ToldLemmas.{SameStart, told_same}
 

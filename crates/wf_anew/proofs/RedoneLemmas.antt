@@ -14,10 +14,10 @@ use Rattle.wf_def.specs.DefTree.{DefTree}
 use Rattle.wf_order.specs.Order.{Contains}
 use Rattle.wf_redo.specs.Redoes.{ASetRedoes, RedoesExactly, RedoneWithOne}
 use Rattle.wf_resubmit.specs.Chosen.{MayBeRedone}
-use Rattle.wf_instance.proofs.CloseLemmas.{held_all}
-use Rattle.wf_meant.specs.Points.{action_named, graph_of}
-use Rattle.wf_meant.specs.Record.{depth_of}
-use Rattle.wf_meant.specs.Resubmitted.{is_chosen}
+use Rattle.wf_meant_laws.proofs.CloseLemmas.{held_all}
+use Rattle.wf_turns.specs.Points.{action_named, graph_of}
+use Rattle.wf_turns.specs.Record.{depth_of}
+use Rattle.wf_turns.specs.Resubmitted.{is_chosen}
 use Rattle.wf_anew.specs.Layer.{NamesWhatIsRedone, if_found, kept_names, redone_names}
 use Rattle.wf_anew.specs.Known.{AreNamed}
 use Rattle.wf_anew.proofs.NameLemmas.{named_is}

@@ -36,16 +36,16 @@ use Rattle.wf_opening.specs.Decisions.{DecisionTree}
 use Rattle.wf_environment.specs.Ending.{Ending, ending, section}
 use Rattle.wf_environment.specs.Environment.{Environment, last_facts}
 use Rattle.wf_environment.specs.Statuses.{status_tree}
-use Rattle.wf_meant.specs.Containers.{has_succeeded, is_terminate}
-use Rattle.wf_meant.specs.Look.{instance, name_in, name_of, told_to_outputs}
-use Rattle.wf_meant.specs.Points.{graph_of, point_of_outputs}
-use Rattle.wf_meant.specs.Record.{depth_of, ended_by, ending_by, ending_of, first_from, first_succeeded, is_response, record_of_table}
-use Rattle.wf_meant.specs.Record.{responded}
-use Rattle.wf_meant.specs.Record.{row_at, row_found, row_outside, rows_of}
-use Rattle.wf_meant.specs.References.{upto}
-use Rattle.wf_meant.specs.Resubmitted.{pinned_source, pinned_table, recalled, resubmitted, rows_by, said, said_by}
-use Rattle.wf_meant.specs.Source.{table_of}
-use Rattle.wf_meant.specs.Variables.{instances_at}
+use Rattle.wf_turns.specs.Containers.{has_succeeded, is_terminate}
+use Rattle.wf_turns.specs.Look.{instance, name_in, name_of, told_to_outputs}
+use Rattle.wf_turns.specs.Points.{graph_of, point_of_outputs}
+use Rattle.wf_turns.specs.Record.{depth_of, ended_by, ending_by, ending_of, first_from, first_succeeded, is_response, record_of_table}
+use Rattle.wf_turns.specs.Record.{responded}
+use Rattle.wf_turns.specs.Record.{row_at, row_found, row_outside, rows_of}
+use Rattle.wf_turns.specs.References.{upto}
+use Rattle.wf_turns.specs.Resubmitted.{pinned_source, pinned_table, recalled, resubmitted, rows_by, said, said_by}
+use Rattle.wf_turns.specs.Source.{table_of}
+use Rattle.wf_turns.specs.Variables.{instances_at}
 use Rattle.wf_meant_laws.specs.Listed.{Entry, told_as}
 use Rattle.wf_resubmit.specs.Refused.{has_run, ran_as}
 use Rattle.wf_anew.specs.Asked.{IsAskedOf}

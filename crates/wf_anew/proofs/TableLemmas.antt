@@ -13,10 +13,10 @@ use Rattle.wf_layers.specs.Listed.{Among}
 use Rattle.wf_layers.proofs.Basics.{two, unless, when}
 use Rattle.wf_def.specs.DefTree.{DefTree}
 use Rattle.wf_record.specs.Record.{Row, RowTree, find_row}
-use Rattle.wf_meant.specs.Look.{instance, name_of}
-use Rattle.wf_meant.specs.Points.{graph_of}
-use Rattle.wf_meant.specs.Record.{rows_of}
-use Rattle.wf_meant.specs.Resubmitted.{rows_by}
+use Rattle.wf_turns.specs.Look.{instance, name_of}
+use Rattle.wf_turns.specs.Points.{graph_of}
+use Rattle.wf_turns.specs.Record.{rows_of}
+use Rattle.wf_turns.specs.Resubmitted.{rows_by}
 use Rattle.wf_meant_laws.specs.Listed.{Entry, StandFor, told_as}
 use Rattle.wf_meant_laws.specs.Tables.{StandAtInstances}
 

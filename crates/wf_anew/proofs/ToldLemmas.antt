@@ -16,10 +16,10 @@ use Rattle.wf_opening.specs.Decisions.{DecisionTree, decided}
 use Rattle.wf_done.specs.Tracked.{with_own}
 use Rattle.wf_environment.specs.Environment.{Environment, Facts, facts_of}
 use Rattle.wf_loops.specs.Loops.{loops_of}
-use Rattle.wf_meant.specs.Look.{Item, decided_by, decided_within, instance, item_in, items_at, items_from, name_in, name_of, told_at}
-use Rattle.wf_meant.specs.Look.{told_by}
-use Rattle.wf_meant.specs.Look.{told_ending, told_in_test, told_within}
-use Rattle.wf_meant.specs.Points.{Point, graph_of, point_of, point_of_test}
+use Rattle.wf_turns.specs.Look.{Item, decided_by, decided_within, instance, item_in, items_at, items_from, name_in, name_of, told_at}
+use Rattle.wf_turns.specs.Look.{told_by}
+use Rattle.wf_turns.specs.Look.{told_ending, told_in_test, told_within}
+use Rattle.wf_turns.specs.Points.{Point, graph_of, point_of, point_of_test}
 use Rattle.wf_anew.specs.Same.{SameWords}
 
 -- a run was started alike, but for its name and its seed

@@ -24,7 +24,7 @@ use Rattle.wf_standing.specs.Standing.{StandingTree, number_at, pointer_at, stan
 use Rattle.wf_standing.specs.Whole.{whole_of}
 use Rattle.wf_breaks.specs.Rules.{action_breaks, breaks_at, breaks_if, breaks_itself, is_any}
 use Rattle.wf_breaks.specs.declared.rule.Rule.{Rule}
-use Rattle.wf_rules.specs.Broken.{offences, told}
+use Rattle.wf_meant_laws.specs.Broken.{offences, told}
 use Rattle.wf_record.specs.Record.{Row}
 use Rattle.wf_trigger.specs.Starts.{StartTree}
 use Rattle.wf_opening.specs.Decisions.{DecisionTree}
@@ -33,11 +33,11 @@ use Rattle.wf_done.specs.Done.{DoneTree}
 use Rattle.wf_done.specs.Tracked.{tracked_from, tracked_value, with_own}
 use Rattle.wf_environment.specs.Environment.{Environment, Facts, facts_of}
 use Rattle.wf_loops.specs.Loops.{loops_of}
-use Rattle.wf_meant.specs.Containers.{closed}
-use Rattle.wf_meant.specs.Look.{Item, instance, items_at, items_from, name_of, told_by, told_ending, told_within}
-use Rattle.wf_meant.specs.Points.{Point, graph_of, point_of}
-use Rattle.wf_meant.specs.Rows.{row_of, view_of}
-use Rattle.wf_meant.specs.Source.{close_of, source, tracked_of}
+use Rattle.wf_turns.specs.Containers.{closed}
+use Rattle.wf_turns.specs.Look.{Item, instance, items_at, items_from, name_of, told_by, told_ending, told_within}
+use Rattle.wf_turns.specs.Points.{Point, graph_of, point_of}
+use Rattle.wf_turns.specs.Rows.{row_of, view_of}
+use Rattle.wf_turns.specs.Source.{close_of, source, tracked_of}
 use Rattle.wf_anew.specs.Known.{AllQuiet, IsQuiet}
 use Rattle.wf_anew.proofs.ToldLemmas.{SameStart}
 

@@ -15,10 +15,10 @@ use Rattle.wf_record.specs.declared.status.RunStatus.{RunStatus}
 use Rattle.wf_record.specs.declared.status.Status.TheVariants.{Failed, Succeeded}
 use Rattle.wf_record_form.specs.ReadBack.{untold_row}
 use Rattle.wf_environment.specs.Environment.{Environment, facts_of, last_facts, layer_facts}
-use Rattle.wf_meant.specs.Record.{meaning}
-use Rattle.wf_meant.specs.Resubmitted.{pinned}
-use Rattle.wf_meant.proofs.Terms.{act, alone, answered, as_second, called, ended, fields, inputs_again, obj, of, of_actions, ran, record_is}
-use Rattle.wf_meant.proofs.Terms.{replied, success_of, txt, value, words}
+use Rattle.wf_turns.specs.Record.{meaning}
+use Rattle.wf_turns.specs.Resubmitted.{pinned}
+use Rattle.wf_turns.proofs.Terms.{act, alone, answered, as_second, called, ended, fields, inputs_again, obj, of, of_actions, ran, record_is}
+use Rattle.wf_turns.proofs.Terms.{replied, success_of, txt, value, words}
 use Rattle.wf_anew.specs.Asked.{IsAccepted}
 use Rattle.wf_anew.specs.Layer.{kept_names, layer_of, redone_names, with_layer}
 use Rattle.wf_anew.specs.Same.{GivesTheOld}

@@ -4,9 +4,9 @@ use Rattle.wf_layers.specs.Address.{address}
 use Rattle.wf_def.specs.DefTree.{DefTree}
 use Rattle.wf_standing.specs.Whole.{order_in}
 use Rattle.wf_record.specs.Record.{RecordTree, find_row}
-use Rattle.wf_meant.specs.Look.{instance}
-use Rattle.wf_meant.specs.Points.{graph_of}
-use Rattle.wf_meant.specs.Resubmitted.{is_chosen}
+use Rattle.wf_turns.specs.Look.{instance}
+use Rattle.wf_turns.specs.Points.{graph_of}
+use Rattle.wf_turns.specs.Resubmitted.{is_chosen}
 use Rattle.wf_resubmit.specs.Chosen.{MayBeRedone}
 use Rattle.wf_resubmit.specs.Refused.{has_run, refused}
 

@@ -18,9 +18,9 @@ use Rattle.wf_reading.specs.Facts.{AreOnce, graph_numbers}
 use Rattle.wf_record.specs.Record.{Row}
 use Rattle.wf_done.specs.Tracked.{tracked_from}
 use Rattle.wf_environment.specs.Environment.{Environment}
-use Rattle.wf_meant.specs.Points.{graph_of}
-use Rattle.wf_meant.specs.Record.{depth_of}
-use Rattle.wf_meant.specs.Source.{source, table_of, tracked_of}
+use Rattle.wf_turns.specs.Points.{graph_of}
+use Rattle.wf_turns.specs.Record.{depth_of}
+use Rattle.wf_turns.specs.Source.{source, table_of, tracked_of}
 use Rattle.wf_meant_laws.specs.Listed.{StandFor}
 use Rattle.wf_meant_laws.specs.Tables.{AreWhole}
 use Rattle.wf_turns.specs.Reading.{RecallsWithin}

@@ -10,9 +10,9 @@ use Rattle.wf_order.specs.Order.{Contains}
 use Rattle.wf_redo.specs.Redoes.{RedoneWithOne}
 use Rattle.wf_answers.specs.Inputs.{InputsTree}
 use Rattle.wf_environment.specs.Environment.{Environment, Layer}
-use Rattle.wf_meant.specs.Points.{action_named, graph_of}
-use Rattle.wf_meant.specs.Record.{depth_of}
-use Rattle.wf_meant.specs.Resubmitted.{is_chosen}
+use Rattle.wf_turns.specs.Points.{action_named, graph_of}
+use Rattle.wf_turns.specs.Record.{depth_of}
+use Rattle.wf_turns.specs.Resubmitted.{is_chosen}
 
 -- the environment with one layer more, which counts before all others
 abbrev pub with_layer : Environment → Layer → Environment

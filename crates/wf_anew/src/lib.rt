@@ -17,13 +17,13 @@ ghost use Rattle.std.specs.Prelude.{◌≡◌, List, None, ℕ};
 ghost use Rattle.wf_answers.specs.Inputs.{InputsTree};
 ghost use Rattle.wf_def.specs.DefTree.{DefTree};
 ghost use Rattle.wf_environment.specs.Environment.{Environment};
-ghost use Rattle.wf_meant.specs.Record.{meaning};
-ghost use Rattle.wf_meant.specs.Resubmitted.{pinned};
+ghost use Rattle.wf_turns.specs.Record.{meaning};
+ghost use Rattle.wf_turns.specs.Resubmitted.{pinned};
 ghost use Rattle.wf_reading.specs.Read.{IsRead};
 ghost use Rattle.wf_record.specs.Record.{RecordTree};
 ghost use Rattle.wf_record_form.specs.ReadBack.{untold};
 ghost use Rattle.wf_resubmit.specs.Refused.{numbers_of};
-ghost use Rattle.wf_rules.specs.Broken.{broken_of};
+ghost use Rattle.wf_meant_laws.specs.Broken.{broken_of};
 ghost use Rattle.wf_anew.specs.Asked.{IsAccepted, IsAskedOf};
 ghost use Rattle.wf_anew.specs.Known.{AreNamed, IsKnown};
 ghost use Rattle.wf_anew.specs.Layer.{NamesWhatIsRedone, kept_names, layer_of, with_layer};
@@ -44,12 +44,12 @@ fn accepted_definitions_are_known()
     ensures { (d : DefTree) → IsRead d → broken_of d ≡ None → IsKnown d }
 {
     actions_are_named();
-    wf_rules::the_first_broken_rule();
-    wf_accepted_laws::standings_are_the_actions();
+    wf_meant_laws::the_first_broken_rule();
+    wf_meant_laws::standings_are_the_actions();
     wf_known_laws::numbers_stand_once();
     wf_known_laws::entries_stay_in_their_graph();
-    wf_instance::depths_are_how_many_are_before();
-    wf_instance::a_definition_is_an_instance();
+    wf_meant_laws::depths_are_how_many_are_before();
+    wf_meant_laws::a_definition_is_an_instance();
     wf_meant_laws::meant_rows_are_whole();
     wf_meant_laws::listed_rows_stand_for_the_table();
     wf_turns::rows_recall_what_was_decided();
@@ -79,7 +79,7 @@ pub fn the_layer_has_what_is_redone()
     wf_redo::a_set_redoes();
     wf_known_laws::numbers_stand_once();
     wf_known_laws::entries_stay_in_their_graph();
-    wf_instance::depths_are_how_many_are_before();
+    wf_meant_laws::depths_are_how_many_are_before();
 }
 
 /// A layer that gives the old answers, of whatever definition, changes nothing.

@@ -14,18 +14,18 @@ use Rattle.wf_def.specs.DefTree.{DefTree}
 use Rattle.wf_answers.specs.Added.{with_added}
 use Rattle.wf_answers.specs.AnswerTree.{AnswerTree, Key, find_answer, key_of}
 use Rattle.wf_answers.specs.Inputs.{InputsTree}
-use Rattle.wf_trigger.specs.Starts.{StartTree}
+use Rattle.wf_meant.specs.Starts.{StartTree}
 use Rattle.wf_record.specs.Record.{Row}
 use Rattle.wf_record.specs.declared.attempt.Try.{Try}
 use Rattle.wf_connect.specs.Last as attempts
 use Rattle.wf_connect.specs.Last.{Answered, IsLast, answered_at, last_attempt}
-use Rattle.wf_opening.specs.Decisions.{DecisionTree}
-use Rattle.wf_opening.specs.Verdicts.{VerdictTree}
-use Rattle.wf_done.specs.Done.{DoneTree}
-use Rattle.wf_done.specs.Leaf as leaf
-use Rattle.wf_done.specs.Leaf.{BegunTree, acted, calling, done_by}
-use Rattle.wf_done.specs.Tracked.{tracked_value, with_own}
-use Rattle.wf_environment.specs.Environment.{Environment, facts_of, fresh}
+use Rattle.wf_meant.specs.Decisions.{DecisionTree}
+use Rattle.wf_meant.specs.Verdicts.{VerdictTree}
+use Rattle.wf_meant.specs.Done.{DoneTree}
+use Rattle.wf_meant.specs.Leaf as leaf
+use Rattle.wf_meant.specs.Leaf.{BegunTree, acted, calling, done_by}
+use Rattle.wf_meant.specs.Tracked.{tracked_value, with_own}
+use Rattle.wf_meant.specs.Environment.{Environment, facts_of, fresh}
 use Rattle.wf_meant.specs.Containers.{closed, tested}
 use Rattle.wf_meant.specs.Look.{Item, decided_by, instance, item_in, items_from, name_of, told_at, told_by, told_in_test, told_within}
 use Rattle.wf_meant.specs.Points.{point_of, point_of_test}

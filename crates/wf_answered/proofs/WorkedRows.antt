@@ -14,10 +14,10 @@ use Rattle.wf_answers.specs.Inputs.{InputsTree}
 use Rattle.wf_record.specs.Record.{Row}
 use Rattle.wf_record.specs.declared.attempt.Try.{Try}
 use Rattle.wf_record.specs.declared.status.Status.{Status}
-use Rattle.wf_opening.specs.Decisions.{DecisionTree}
-use Rattle.wf_opening.specs.Verdicts.{VerdictTree}
-use Rattle.wf_done.specs.Leaf.{BegunTree, acted, calling}
-use Rattle.wf_environment.specs.Environment.{fresh}
+use Rattle.wf_meant.specs.Decisions.{DecisionTree}
+use Rattle.wf_meant.specs.Verdicts.{VerdictTree}
+use Rattle.wf_meant.specs.Leaf.{BegunTree, acted, calling}
+use Rattle.wf_meant.specs.Environment.{fresh}
 use Rattle.wf_meant.specs.Source.{source, unknown}
 use Rattle.wf_meant.proofs.Terms as terms
 use Rattle.wf_meant.proofs.Terms.{act, fields, nat, of_actions, replied, started, value}

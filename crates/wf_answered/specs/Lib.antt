@@ -1,1 +1,13 @@
+pub use Rattle.wf_meant.specs.Decisions
+pub use Rattle.wf_meant.specs.Environment
+pub use Rattle.wf_meant.specs.Leaf
+pub use Rattle.wf_meant.specs.Look
+pub use Rattle.wf_meant.specs.Points
+pub use Rattle.wf_meant.specs.ReadSeen
+pub use Rattle.wf_meant.specs.Record
+pub use Rattle.wf_meant.specs.Resubmitted
+pub use Rattle.wf_meant.specs.Source
+pub use Rattle.wf_meant.specs.Starts
+pub use Rattle.wf_meant.specs.StartsSeen
+pub use Rattle.wf_meant.specs.Verdicts
 pub mod Answered

@@ -15,12 +15,14 @@ ghost use Rattle.wf_answers.specs.Added.{with_added};
 ghost use Rattle.wf_answers.specs.AnswerTree.{AnswerTree, find_answer, key_of};
 ghost use Rattle.wf_answers.specs.Inputs.{InputsTree};
 ghost use Rattle.wf_def.specs.DefTree.{DefTree};
-ghost use Rattle.wf_environment.specs.Environment.{fresh};
+ghost use Rattle.wf_meant.specs.Environment.{fresh};
 ghost use Rattle.wf_layers.specs.Address.{Address};
 ghost use Rattle.wf_meant.specs.Look.{instance};
 ghost use Rattle.wf_meant.specs.Source.{source};
 ghost use Rattle.wf_quiet.specs.Quiet.{AreAmong, KnowsMore};
-ghost use Rattle.wf_trigger.specs.Starts.{StartTree};
+ghost use Rattle.wf_meant.specs.Starts.{StartTree};
+
+pub use wf_meant::Start;
 
 /// Once an answer is added that wasn't there, a run has the same source of rows but for what attempts come to that had no answer.
 pub fn one_more_answer_is_known()

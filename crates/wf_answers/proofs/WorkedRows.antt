@@ -5,7 +5,7 @@ use Rattle.std.specs.Fmt.{digits}
 use Rattle.std.specs.Prelude.{codes, ◌-◌, ◌^◌, ⊤}
 use Rattle.std.specs.Str.{chars, is_utf8}
 use Rattle.wf_fn_time.specs.Reading.{read_time}
-use Rattle.wf_json.specs.Pointer.{least}
+use Rattle.wf_places.specs.Pointer.{least}
 use Rattle.wf_places.specs.Form.{places}
 use Rattle.wf_retry.specs.declared.policy.Outcome.{Outcome}
 use Rattle.wf_val.specs.Get.{name_of}

@@ -1,7 +1,7 @@
 -- Which inputs a value means, or why it means none: it isn't of the form, two answers are for one attempt, the moment is no timestamp.
 use Rattle.std.specs.Prelude.{ℕ, List, map, Option, Some, None, Result, Ok, Err, codes}
 use Rattle.wf_fn_time.specs.Reading.{read_time}
-use Rattle.wf_json.specs.Pointer.{least}
+use Rattle.wf_places.specs.Pointer.{least}
 use Rattle.wf_places.specs.Form.{places}
 use Rattle.wf_val.specs.Address.{address_text}
 use Rattle.wf_val.specs.Get.{get}

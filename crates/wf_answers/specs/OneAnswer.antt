@@ -1,6 +1,6 @@
 -- Which answer a value means by itself, outside of inputs, or where it isn't of the form of one. The pointer begins at the value.
 use Rattle.std.specs.Prelude.{ℕ, List, Option, Some, None, Result, Ok, Err}
-use Rattle.wf_json.specs.Pointer.{least}
+use Rattle.wf_places.specs.Pointer.{least}
 use Rattle.wf_places.specs.Form.{places}
 use Rattle.wf_val.specs.ValueTree.{ValueTree}
 use Rattle.wf_answers.specs.AnswerTree.{AnswerTree}

@@ -30,3 +30,4 @@ pub use inputs::Inputs;
 pub use laws::{an_added_answer_is_found, the_first_answers_are_kept, the_least_double_is_told};
 pub use one_answer::answer_of;
 pub use reading::read_inputs;
+pub use wf_fn_time::Ticks;

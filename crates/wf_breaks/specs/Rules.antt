@@ -9,11 +9,11 @@ use Rattle.std.specs.Prelude.{if◌then◌else◌}
 use Rattle.std.specs.List.{list_any}
 use Rattle.wf_val.specs.ValueTree.{ValueTree, Member, fits}
 use Rattle.wf_val.specs.Get.{value_of}
-use Rattle.wf_def.specs.ActionTree.{ActionTree}
-use Rattle.wf_def.specs.DefTree.{ParamTree}
-use Rattle.wf_def.specs.Sorts.{has_sort}
-use Rattle.wf_def.specs.declared.sort.Sort.{Sort}
-use Rattle.wf_uses.specs.UsesTree.{UsesTree}
+use Rattle.wf_standing.specs.ActionTree.{ActionTree}
+use Rattle.wf_standing.specs.DefTree.{ParamTree}
+use Rattle.wf_standing.specs.Sorts.{has_sort}
+use Rattle.wf_standing.specs.Sort.{Sort}
+use Rattle.wf_standing.specs.UsesTree.{UsesTree}
 use Rattle.wf_standing.specs.Site.{Site}
 use Rattle.wf_standing.specs.Inside.{has_item, is_in_loop, is_outside, is_tracked, loops_left}
 use Rattle.wf_standing.specs.Kinds.{ends_or_responds, is_container, is_initialize, is_loop, suits}

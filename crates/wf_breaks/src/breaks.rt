@@ -1,8 +1,8 @@
 //! What breaks a rule.
 ghost use Rattle.std.specs.List.{list_any};
 ghost use Rattle.std.specs.Prelude.{◌≡◌, map, option_map};
-ghost use Rattle.wf_def.specs.DefSeen.{param_tree};
-ghost use Rattle.wf_uses.specs.Seen.{uses_seen};
+ghost use Rattle.wf_standing.specs.DefSeen.{param_tree};
+ghost use Rattle.wf_standing.specs.UsesSeen.{uses_seen};
 ghost use Rattle.wf_standing.specs.KnownSeen.{whole_seen};
 ghost use Rattle.wf_breaks.specs.Rules.{action_breaks, asks_elsewhere, asks_leaf, asks_too_soon, breaks_at, breaks_if, breaks_itself};
 ghost use Rattle.wf_breaks.specs.Rules.{breaks_with, comes_early, ends_in_loop, has_misfit, is_any, is_misdeclared, is_misfit};
@@ -13,9 +13,10 @@ ghost use Rattle.wf_val.specs.Seen.{tree};
 
 use crate::rule::Rule;
 use crate::wrong::{Wrong, any_wrong};
-use wf_def::{Param, Sort};
-use wf_standing::{Known, Site, Standing, ends_or_responds, has_item, is_in_loop, is_tracked};
-use wf_uses::{Names, Uses};
+use wf_standing::{
+    Known, Names, Param, Site, Sort, Standing, Uses, ends_or_responds, has_item, is_in_loop,
+    is_tracked,
+};
 use wf_val::{Fields, Val, Vals};
 
 // ---- at a site

@@ -8,10 +8,9 @@ ghost use Rattle.wf_standing.specs.Whole.{is_again};
 ghost use Rattle.wf_standing.specs.Seen.{initialised_in, initialised_tree, standing_tree};
 ghost use Rattle.wf_breaks.specs.Wrong.{is_wrong};
 
-use wf_def::Sort;
 use wf_standing::{
-    Initialised, Known, Loop, Site, Standing, Variable, is_again, is_container, is_initialize,
-    is_loop, is_outside, loops_left, suits,
+    Initialised, Known, Loop, Site, Sort, Standing, Variable, is_again, is_container,
+    is_initialize, is_loop, is_outside, loops_left, suits,
 };
 use wf_val::Name;
 

@@ -14,7 +14,7 @@ use Rattle.wf_def.specs.declared.graph.Action.{Action, out-Action}
 use Rattle.wf_def.specs.declared.graph.Kind.TheFolds.{fold_out-Action}
 use Rattle.wf_meant.specs.Sites.{writes_of}
 use Rattle.wf_meant.specs.Points.{graph_of, has_action_name}
-use Rattle.wf_loops.specs.Loops.{loops_of}
+use Rattle.wf_meant.specs.Loops.{loops_of}
 use Rattle.wf_catalog.specs.Keys.{all_put}
 use Rattle.wf_catalog.specs.PlacesSeen.{ArePlaces, EntryTree, entry_at, entry_of, entry_tree, loops_in, named_in, named_tree, number_in}
 use Rattle.wf_catalog.specs.PlacesSeen.{variable_tree, written_in}

@@ -16,8 +16,8 @@ use Rattle.wf_def.specs.ActionTree.{switch, switch_else, foreach, until, ActionT
 use Rattle.wf_def.specs.ActionTree.{case_then}
 use Rattle.wf_def.specs.AllActions.{all_actions, kind_actions, cases_actions}
 use Rattle.wf_def.specs.Layered.{layered, layered_cases, layered_kind}
-use Rattle.wf_loops.specs.Loops.{loops_any, loops_in, loops_of}
-use Rattle.wf_loops.proofs.RoundLemmas.{loops_none}
+use Rattle.wf_meant.specs.Loops.{loops_any, loops_in, loops_of}
+use Rattle.wf_meant.proofs.RoundLemmas.{loops_none}
 use Rattle.wf_catalog.specs.Walk.{Walked, cases_walk, graph_walk, is_at, kind_walk}
 
 -- ---- all actions, in the order of the tree

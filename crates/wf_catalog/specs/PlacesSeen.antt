@@ -8,7 +8,7 @@ use Rattle.wf_def.specs.ActionTree.{ActionTree, action_kind}
 use Rattle.wf_def.specs.AllActions.{numbered}
 use Rattle.wf_def.specs.DefTree.{DefTree}
 use Rattle.wf_def.specs.declared.graph.Action.{out-Action}
-use Rattle.wf_loops.specs.Loops.{loops_of}
+use Rattle.wf_meant.specs.Loops.{loops_of}
 use Rattle.wf_meant.specs.Sites.{writes_of}
 use Rattle.wf_meant.specs.Points.{action_named, graph_of}
 use Rattle.wf_catalog.specs.Variables.{numbers_by, variable_number, written}

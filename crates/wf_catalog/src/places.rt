@@ -3,9 +3,9 @@ ghost use Rattle.std.specs.List.{find};
 ghost use Rattle.std.specs.Prelude.{◌≡◌, ◌∷◌, ◌++◌, [], ℕ, List, IfOk, map, option_map};
 ghost use Rattle.wf_def.specs.ActionSeen.{action_tree};
 ghost use Rattle.wf_def.specs.AllActions.{numbered};
-ghost use Rattle.wf_loops.specs.Loops.{loops_of};
+ghost use Rattle.wf_meant.specs.Loops.{loops_of};
 ghost use Rattle.wf_meant.specs.Points.{action_named, graph_of, has_action_name};
-ghost use Rattle.wf_reading.specs.ReadSeen.{def_tree};
+ghost use Rattle.wf_known_laws.specs.ReadSeen.{def_tree};
 ghost use Rattle.wf_catalog.specs.PlacesSeen.{entry_at, entry_of, entry_tree, named_in, named_tree, number_in};
 ghost use Rattle.wf_catalog.specs.Variables.{variable_number, written};
 ghost use Rattle.wf_catalog.specs.Walk.{is_at};
@@ -19,9 +19,8 @@ use crate::walk::{Placed, all_placed};
 use std::alloc::{AllocError, Global};
 use std::marker::Model;
 use wf_def::Action;
-use wf_known_laws::numbers_stand_once;
+use wf_known_laws::{Def, numbers_stand_once};
 use wf_lists::{Keyed, Sorted};
-use wf_reading::Def;
 use wf_val::{Name, Text};
 
 /// An action by its number, with the loops round it, and the numbers of the variables that it writes.
@@ -54,9 +53,9 @@ pub struct Places<'a> {
 
 impl<'a> Model for Places<'a> {
     ghost use Rattle.std.specs.Coded.{codes};
-    ghost use Rattle.wf_reading.specs.contracts.definition.Def as read;
-    ghost use Rattle.wf_reading.specs.declared.definition.Def.{Def};
-    ghost use Rattle.wf_reading.specs.ReadSeen.{def_tree};
+    ghost use Rattle.wf_known_laws.specs.Def as read;
+    ghost use Rattle.wf_known_laws.specs.ReadingDef.{Def};
+    ghost use Rattle.wf_known_laws.specs.ReadSeen.{def_tree};
     ghost use Rattle.wf_catalog.specs.PlacesSeen.{ArePlaces};
 
     ghost Value = { Def };

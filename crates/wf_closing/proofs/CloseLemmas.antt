@@ -9,8 +9,8 @@ use Rattle.wf_record.specs.Record.{Row}
 use Rattle.wf_val.specs.ValueTree.{null, list, trees}
 use Rattle.wf_record.specs.declared.status.Status.{Status}
 use Rattle.wf_record.specs.declared.status.Status.TheVariants.{Failed, Succeeded}
-use Rattle.wf_opening.specs.Decisions.{DecisionTree, nothing, held, chosen, each, too_many, faulty}
-use Rattle.wf_opening.specs.Verdicts.{VerdictTree}
+use Rattle.wf_meant.specs.Decisions.{DecisionTree, nothing, held, chosen, each, too_many, faulty}
+use Rattle.wf_meant.specs.Verdicts.{VerdictTree}
 use Rattle.wf_meant.specs.Containers.{any_iteration_failed, any_terminated, case_status, close_branch, close_until, closed, closed_as}
 use Rattle.wf_meant.specs.Containers.{has_succeeded, is_failed, is_terminate, iterations_value, last_status, status_of, unless_cut}
 use Rattle.wf_def.specs.ActionSeen.{cases_seen, graph_tree, kind_tree}

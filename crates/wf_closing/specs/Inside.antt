@@ -12,9 +12,9 @@ use Rattle.wf_record.specs.declared.status.Status.TheVariants.{Failed, Succeeded
 use Rattle.wf_val.specs.Arguments.{wrong_type}
 use Rattle.wf_val.specs.ValueTree.{null, list, trees}
 use Rattle.wf_val.specs.declared.function.Fun.{Fun}
-use Rattle.wf_opening.specs.Decisions.{DecisionTree, each, too_many, faulty}
-use Rattle.wf_opening.specs.Verdicts.{VerdictTree}
-use Rattle.wf_done.specs.Done.{DoneTree, faulted}
+use Rattle.wf_meant.specs.Decisions.{DecisionTree, each, too_many, faulty}
+use Rattle.wf_meant.specs.Verdicts.{VerdictTree}
+use Rattle.wf_meant.specs.Done.{DoneTree, faulted}
 use Rattle.wf_meant.specs.Containers.{close_branch, close_until, closed_as, failed_by, has_succeeded, is_failed}
 use Rattle.wf_meant.specs.Containers.{is_terminate, iterations_value, unless_cut}
 use Rattle.wf_meant.specs.Status.{graph_status}

@@ -3,11 +3,11 @@ ghost use Rattle.std.specs.Prelude.{◌≡◌, ◌<◌, ◌^◌, ◌∷◌, ◌+
 ghost use Rattle.wf_val.specs.Seen.{tree};
 ghost use Rattle.wf_asks.specs.Instances.{rows_in};
 ghost use Rattle.wf_def.specs.ActionSeen.{kind_tree};
-ghost use Rattle.wf_done.specs.Done.{faulted};
-ghost use Rattle.wf_done.specs.DoneSeen.{done_tree};
+ghost use Rattle.wf_meant.specs.Done.{faulted};
+ghost use Rattle.wf_meant.specs.DoneSeen.{done_tree};
 ghost use Rattle.wf_meant.specs.Containers.{close_branch, close_until, closed, closed_as, code_of, cut_short, failed_by, iterations_value, unless_cut};
 ghost use Rattle.wf_record.specs.declared.status.Status.TheVariants.{Failed, Succeeded};
-ghost use Rattle.wf_opening.specs.DecisionSeen.{decision_tree, verdict_tree};
+ghost use Rattle.wf_meant.specs.DecisionSeen.{decision_tree, verdict_tree};
 ghost use Rattle.wf_closing.specs.Inside.{AreJudged, any_own_failed, branch_place, case_place, closed_by, foreach_closed, graphs_in, inside_of, last_own_status, own_status};
 ghost use Rattle.wf_closing.specs.InsideSeen.{inside_tree};
 ghost use Rattle.wf_closing.specs.StepsSeen.{row_content};
@@ -16,10 +16,9 @@ use crate::inside::Inside;
 use std::alloc::{AllocError, Global};
 use wf_asks::Rows;
 use wf_def::Kind;
-use wf_done::Done;
 use wf_json::fault_text;
 use wf_lists::TryCopy;
-use wf_opening::{Decision, Verdict, taken};
+use wf_meant::{Decision, Done, Verdict, taken};
 use wf_record::{Row, Status};
 use wf_val::{EvalFault, Fields, Fun, Indexes, Text, Val, wrong_type};
 

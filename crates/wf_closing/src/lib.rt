@@ -18,3 +18,7 @@ pub use closing::close;
 pub use inside::Inside;
 pub use judged::{Judged, Step};
 pub use laws::steps_give_the_status;
+pub use wf_meant::{
+    Begun, Decision, Done, Look, Start, Verdict, begin, ended_by, open, skipped, test, tracked,
+    view, what_a_container_decides_is_local, what_an_action_does_is_local,
+};

@@ -18,3 +18,4 @@ mod tries;
 pub use attempts::{Tried, attempt};
 pub use laws::{attempts_go_on_to_the_last, the_last_attempt_is_the_least};
 pub use tries::try_of;
+pub use wf_record::Status;

@@ -9,9 +9,9 @@ use Rattle.wf_val.specs.declared.function.Fun.{Fun}
 use Rattle.wf_template.specs.DataTree as inputs
 use Rattle.wf_template.specs.ExprTree.{literal}
 use Rattle.wf_template.specs.TemplateTree.{plain, whole}
-use Rattle.wf_look.proofs.WorkedLook.{nested, nowhere}
-use Rattle.wf_look.specs.Told.{Told}
-use Rattle.wf_eval_expr.proofs.WorkedExpressions.{int, word, truth, untruth, nothing, by_zero, rest_by_zero, of}
+use Rattle.wf_eval.proofs.WorkedLook.{nested, nowhere}
+use Rattle.wf_eval.specs.Told.{Told}
+use Rattle.wf_eval.proofs.WorkedExpressions.{int, word, truth, untruth, nothing, by_zero, rest_by_zero, of}
 use Rattle.wf_data.specs.Lists.{join_inputs, join_of, joined, made_join, made_query, made_select}
 use Rattle.wf_data.specs.Made.{fitting, one_member}
 use Rattle.wf_data.proofs.RowParts.{plus, items, fields, that, listed, tree_items, tree_fields, item, random, Outcome, makes, faults}

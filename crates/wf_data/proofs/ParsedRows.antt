@@ -7,8 +7,8 @@ use Rattle.wf_val.specs.declared.fault.EvalFault.{EvalFault}
 use Rattle.wf_val.specs.declared.function.Fun.{Fun}
 use Rattle.wf_json.specs.declared.fault.JsonFault.{JsonFault}
 use Rattle.wf_template.specs.ExprTree.{literal}
-use Rattle.wf_look.proofs.WorkedLook.{nested, nowhere}
-use Rattle.wf_eval_expr.proofs.WorkedExpressions.{int, nothing, by_zero}
+use Rattle.wf_eval.proofs.WorkedLook.{nested, nowhere}
+use Rattle.wf_eval.proofs.WorkedExpressions.{int, nothing, by_zero}
 use Rattle.wf_data.specs.Made.{fitting, one_member}
 use Rattle.wf_data.specs.Parsed.{made_of_content, made_parse_json, parsed, read_answer}
 use Rattle.wf_data.proofs.RowParts.{plus, items, that, listed, tree_fields, Outcome, makes, faults}

@@ -6,7 +6,7 @@ use Rattle.wf_val.specs.declared.fault.EvalFault.{EvalFault}
 use Rattle.wf_template.specs.DataTree as inputs
 use Rattle.wf_template.specs.ExprTree.{ExprTree, literal}
 use Rattle.wf_template.specs.TemplateTree.{whole}
-use Rattle.wf_eval_expr.proofs.WorkedExpressions as expression
+use Rattle.wf_eval.proofs.WorkedExpressions as expression
 use Rattle.wf_data.specs.Made.{MadeTree}
 
 -- ---- values

@@ -6,8 +6,8 @@ use Rattle.wf_val.specs.declared.fault.EvalFault.{EvalFault}
 use Rattle.wf_val.specs.declared.function.Fun.{Fun}
 use Rattle.wf_template.specs.DataTree as inputs
 use Rattle.wf_template.specs.ExprTree.{literal}
-use Rattle.wf_look.proofs.WorkedLook.{nested, nowhere}
-use Rattle.wf_eval_expr.proofs.WorkedExpressions.{word, truth, by_zero, rest_by_zero}
+use Rattle.wf_eval.proofs.WorkedLook.{nested, nowhere}
+use Rattle.wf_eval.proofs.WorkedExpressions.{word, truth, by_zero, rest_by_zero}
 use Rattle.wf_record.specs.declared.status.RunStatus.{RunStatus}
 use Rattle.wf_data.specs.Made.{one_member}
 use Rattle.wf_data.specs.Simple.{made_compose, made_response, made_terminate, made_wait, run_status_named, run_status_of}

@@ -4,11 +4,11 @@ use Rattle.wf_val.specs.Arguments.{Answer, given, wrong_type}
 use Rattle.wf_val.specs.ValueTree.{ValueTree, boolean, text, list, object, trees, items, members}
 use Rattle.wf_val.specs.declared.fault.EvalFault.{EvalFault}
 use Rattle.wf_val.specs.declared.function.Fun.{Fun}
-use Rattle.wf_functions.specs.Rows.{strict_row}
+use Rattle.wf_eval.specs.Rows.{strict_row}
 use Rattle.wf_template.specs.DataTree.{DataTree}
 use Rattle.wf_template.specs.TemplateTree.{TemplateTree}
-use Rattle.wf_look.specs.Outcomes.{Run, all_after}
-use Rattle.wf_look.specs.Told.{Told, over}
+use Rattle.wf_eval.specs.Outcomes.{Run, all_after}
+use Rattle.wf_eval.specs.Told.{Told, over}
 use Rattle.wf_eval.specs.TemplateValue.{template_value}
 use Rattle.wf_eval.specs.TreeValue.{tree_value}
 use Rattle.wf_data.specs.Made.{MadeTree, Making, fitting, followed, goes_on, one_member}

@@ -7,7 +7,7 @@ use Rattle.wf_val.specs.declared.function.Fun.{Fun}
 use Rattle.wf_json.specs.Read.{read_value}
 use Rattle.wf_json.specs.declared.fault.JsonFault.{JsonFault}
 use Rattle.wf_template.specs.DataTree.{DataTree}
-use Rattle.wf_look.specs.Told.{Told}
+use Rattle.wf_eval.specs.Told.{Told}
 use Rattle.wf_eval.specs.TreeValue.{tree_value}
 use Rattle.wf_data.specs.Made.{MadeTree, Making, fitting, followed, one_member}
 

@@ -7,7 +7,7 @@ use Rattle.wf_val.specs.ValueTree.{ValueTree, null, text}
 use Rattle.wf_val.specs.declared.fault.EvalFault.{EvalFault}
 use Rattle.wf_val.specs.declared.function.Fun.{Fun}
 use Rattle.wf_template.specs.DataTree.{DataTree}
-use Rattle.wf_look.specs.Told.{Told}
+use Rattle.wf_eval.specs.Told.{Told}
 use Rattle.wf_eval.specs.TreeValue.{tree_value}
 use Rattle.wf_record.specs.declared.status.RunStatus.{RunStatus}
 use Rattle.wf_data.specs.Made.{MadeTree, Making, fitting, followed}

@@ -25,4 +25,6 @@ pub use lists::{join, query, select};
 pub use made::{Made, fitting, one_member};
 pub use parsed::parse_json;
 pub use simple::{compose, response, run_status, terminate, wait};
-pub use wf_eval::eval_tree;
+pub use wf_eval::{Look, eval_tree, values_are_local, what_is_given_fits};
+pub use wf_json::text;
+pub use wf_record::{Row, Status};

@@ -2,8 +2,8 @@
 ghost use Rattle.std.specs.Prelude.{◌≡◌, [], Ok, Err, IfOk, IfErr, OnOk, map};
 ghost use Rattle.wf_val.specs.Arguments.{Gives, seen};
 ghost use Rattle.wf_val.specs.Seen.{tree};
-ghost use Rattle.wf_look.specs.Outcomes.{all_after};
-ghost use Rattle.wf_look.specs.Told.{over};
+ghost use Rattle.wf_eval.specs.Outcomes.{all_after};
+ghost use Rattle.wf_eval.specs.Told.{over};
 ghost use Rattle.wf_template.specs.DataSeen.{data_tree};
 ghost use Rattle.wf_template.specs.TemplateSeen.{template_tree};
 ghost use Rattle.wf_eval.specs.TreeValue.{tree_value};
@@ -14,9 +14,7 @@ ghost use Rattle.wf_data.specs.MadeSeen.{made_seen};
 
 use crate::made::{Made, fitting, one_member};
 use std::alloc::{AllocError, Global};
-use wf_eval::{eval, eval_tree};
-use wf_functions::strict_row;
-use wf_look::{Look, Over};
+use wf_eval::{Look, Over, eval, eval_tree, strict_row};
 use wf_template::{Template, Tree};
 use wf_val::{EvalFault, Fields, Fun, Text, Val, Vals, wrong_type};
 

@@ -9,9 +9,8 @@ ghost use Rattle.wf_data.specs.Parsed.{made_of_content, made_parse_json, parsed}
 
 use crate::made::{Made, fitting, one_member};
 use std::alloc::Global;
-use wf_eval::eval_tree;
+use wf_eval::{Look, eval_tree};
 use wf_json::JsonFault;
-use wf_look::Look;
 use wf_template::Tree;
 use wf_val::{EvalFault, Fun, Val, bounded};
 

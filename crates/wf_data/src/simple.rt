@@ -8,8 +8,7 @@ ghost use Rattle.wf_data.specs.Simple.{made_compose, made_response, made_termina
 
 use crate::made::{Made, fitting};
 use std::alloc::Global;
-use wf_eval::eval_tree;
-use wf_look::Look;
+use wf_eval::{Look, eval_tree};
 use wf_record::RunStatus;
 use wf_template::Tree;
 use wf_val::{EvalFault, Fun, Val, wrong_type};

@@ -1,3 +1,15 @@
+pub use Rattle.wf_layers.specs.Address
+pub use Rattle.wf_layers.specs.Changes
+pub use Rattle.wf_layers.specs.Definition
+pub use Rattle.wf_layers.specs.Machine
+pub use Rattle.wf_layers.specs.Meaning
+pub use Rattle.wf_layers.specs.Redo
+pub use Rattle.wf_layers.specs.Resubmission
+pub use Rattle.wf_layers.specs.Seen
+pub use Rattle.wf_layers.specs.Source
+pub use Rattle.wf_layers.specs.Variables
+pub use Rattle.wf_layers.specs.Waiting
+pub use Rattle.wf_retry.specs.declared.policy.Policy
 pub mod ActionTree
 pub mod ActionSeen
 pub mod AllActions

@@ -3,9 +3,9 @@ use Rattle.std.proofs.Common.{◌≡◌, true, List, [], ◌∷◌, refl}
 use Rattle.std.specs.Prelude.{codes, pos}
 use Rattle.wf_def.specs.ActionTree.{action, action_then, compose, no_actions, scope, terminate}
 use Rattle.wf_def.specs.AllActions.{all_actions}
-use Rattle.wf_done.specs.Leaf.{acted, calling}
+use Rattle.wf_closing.specs.Leaf.{acted, calling}
 use Rattle.wf_layers.specs.Address.{address}
-use Rattle.wf_opening.specs.Decisions.{chosen, each, held, nothing, too_many}
+use Rattle.wf_closing.specs.Decisions.{chosen, each, held, nothing, too_many}
 use Rattle.wf_record.specs.declared.status.Status.{Status}
 use Rattle.wf_retry.specs.declared.policy.Policy.{Policy}
 use Rattle.wf_template.specs.DataTree.{DataTree}

@@ -7,9 +7,9 @@ use Rattle.wf_def.specs.AllActions.{all_actions}
 use Rattle.wf_def.specs.DefTree.{DefTree}
 use Rattle.wf_def.specs.Names.{graph_names}
 use Rattle.wf_record.specs.Record.{Row}
-use Rattle.wf_meant.specs.Containers.{has_succeeded, is_terminate}
-use Rattle.wf_meant.specs.Points.{graph_of}
-use Rattle.wf_meant.specs.Source.{is_halted}
+use Rattle.wf_closing.specs.Containers.{has_succeeded, is_terminate}
+use Rattle.wf_closing.specs.Points.{graph_of}
+use Rattle.wf_closing.specs.Source.{is_halted}
 use Rattle.wf_order.specs.Table.{OrderTree, before, order_of}
 use Rattle.wf_doing.specs.Halting.{any_halts, terminates_in}
 

@@ -19,7 +19,7 @@ use Rattle.wf_def.specs.AllActions.{all_actions, cases_actions, has_number, kind
 use Rattle.wf_def.specs.Layered.{layered, layered_cases, layered_kind, need_of}
 use Rattle.wf_def.specs.declared.after.After.{After}
 use Rattle.wf_record.specs.Record.{Row}
-use Rattle.wf_meant.specs.Status.{graph_status}
+use Rattle.wf_closing.specs.Status.{graph_status}
 use Rattle.wf_closing.specs.Inside.{AreJudged, IsJudged, case_graphs}
 use Rattle.wf_closing.specs.Judged.{status_by}
 use Rattle.wf_closing.specs.Steps.{FallInside, StandApart, after_of, judged_of}

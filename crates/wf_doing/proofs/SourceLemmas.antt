@@ -4,16 +4,16 @@ use Rattle.wf_answers.specs.Inputs.{InputsTree}
 use Rattle.wf_def.specs.ActionTree.{ActionTree}
 use Rattle.wf_def.specs.AllActions.{numbered}
 use Rattle.wf_def.specs.DefTree.{DefTree}
-use Rattle.wf_done.specs.Leaf as leaf
-use Rattle.wf_done.specs.Leaf.{BegunTree, tries_in}
+use Rattle.wf_closing.specs.Leaf as leaf
+use Rattle.wf_closing.specs.Leaf.{BegunTree, tries_in}
 use Rattle.wf_layers.specs.Address.{Address, Table}
-use Rattle.wf_environment.specs.Environment.{Environment, fresh}
-use Rattle.wf_meant.specs.Look.{name_in, told_at, told_in_test}
-use Rattle.wf_meant.specs.Source.{begun, close_of, finished, test_of, tries_of}
-use Rattle.wf_opening.specs.Decisions.{DecisionTree}
-use Rattle.wf_opening.specs.Verdicts.{VerdictTree}
+use Rattle.wf_closing.specs.Environment.{Environment, fresh}
+use Rattle.wf_closing.specs.Look.{name_in, told_at, told_in_test}
+use Rattle.wf_closing.specs.Source.{begun, close_of, finished, test_of, tries_of}
+use Rattle.wf_closing.specs.Decisions.{DecisionTree}
+use Rattle.wf_closing.specs.Verdicts.{VerdictTree}
 use Rattle.wf_record.specs.Record.{Row}
-use Rattle.wf_trigger.specs.Starts.{StartTree}
+use Rattle.wf_closing.specs.Starts.{StartTree}
 use Rattle.wf_doing.specs.Acting.{attempts_by, begun_by, closed_by, finished_by, tested_by, tracked_row}
 use Rattle.wf_doing.specs.Places.{named}
 

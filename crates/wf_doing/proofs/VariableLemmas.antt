@@ -5,22 +5,22 @@ use Rattle.wf_def.specs.ActionTree.{ActionTree, KindTree, compose, connector, wa
 use Rattle.wf_def.specs.ActionTree.{initialize, set_to, increment, decrement, append_array}
 use Rattle.wf_def.specs.ActionTree.{append_string, scope, branch, switch, switch_else}
 use Rattle.wf_def.specs.ActionTree.{foreach, until, action_kind, action_name}
-use Rattle.wf_done.specs.Done.{DoneTree}
-use Rattle.wf_done.specs.Leaf as leaf
-use Rattle.wf_done.specs.Leaf.{BegunTree, begun_from, tries_in}
-use Rattle.wf_done.specs.Tracked.{tracked_from, with_own}
-use Rattle.wf_done.specs.Uses.{kind_uses}
-use Rattle.wf_eval.specs.Uses.{cond_uses, members_uses}
-use Rattle.wf_eval_expr.specs.Uses.{AgreeAt}
+use Rattle.wf_closing.specs.Done.{DoneTree}
+use Rattle.wf_closing.specs.Leaf as leaf
+use Rattle.wf_closing.specs.Leaf.{BegunTree, begun_from, tries_in}
+use Rattle.wf_closing.specs.Tracked.{tracked_from, with_own}
+use Rattle.wf_closing.specs.DoneUses.{kind_uses}
+use Rattle.wf_closing.specs.EvalUses.{cond_uses, members_uses}
+use Rattle.wf_closing.specs.Uses.{AgreeAt}
 use Rattle.wf_layers.specs.Address.{Table}
-use Rattle.wf_look.specs.Told.{Told}
-use Rattle.wf_meant.specs.Containers.{closed, tested}
-use Rattle.wf_meant.specs.Look.{decided_by}
-use Rattle.wf_meant.specs.Rows.{row_of, view_of}
-use Rattle.wf_meant.specs.Source.{tracked_of}
-use Rattle.wf_opening.specs.Decisions.{DecisionTree, decided}
-use Rattle.wf_opening.specs.Uses.{opening_uses}
-use Rattle.wf_opening.specs.Verdicts.{VerdictTree, tested_from}
+use Rattle.wf_closing.specs.Told.{Told}
+use Rattle.wf_closing.specs.Containers.{closed, tested}
+use Rattle.wf_closing.specs.Look.{decided_by}
+use Rattle.wf_closing.specs.Rows.{row_of, view_of}
+use Rattle.wf_closing.specs.Source.{tracked_of}
+use Rattle.wf_closing.specs.Decisions.{DecisionTree, decided}
+use Rattle.wf_closing.specs.OpeningUses.{opening_uses}
+use Rattle.wf_closing.specs.Verdicts.{VerdictTree, tested_from}
 use Rattle.wf_record.specs.Record.{Row}
 use Rattle.wf_record.specs.declared.attempt.Try.{Try}
 use Rattle.wf_template.specs.CondTree.{CondTree}

@@ -2,17 +2,17 @@
 use Rattle.std.specs.Prelude.{ℕ, true, List, [], length, Option, Some, None}
 use Rattle.wf_answers.specs.AnswerTree.{AnswerTree}
 use Rattle.wf_def.specs.ActionTree.{ActionTree, action_kind, action_name}
-use Rattle.wf_done.specs.Done.{DoneTree}
-use Rattle.wf_done.specs.Leaf as leaf
-use Rattle.wf_done.specs.Leaf.{BegunTree, acted, tries_in}
-use Rattle.wf_done.specs.Tracked.{tracked_value, with_own}
+use Rattle.wf_closing.specs.Done.{DoneTree}
+use Rattle.wf_closing.specs.Leaf as leaf
+use Rattle.wf_closing.specs.Leaf.{BegunTree, acted, tries_in}
+use Rattle.wf_closing.specs.Tracked.{tracked_value, with_own}
 use Rattle.wf_layers.specs.Address.{Table}
-use Rattle.wf_look.specs.Told.{Told}
-use Rattle.wf_meant.specs.Containers.{closed, tested}
-use Rattle.wf_meant.specs.Rows.{row_of, view_of}
-use Rattle.wf_meant.specs.Source.{tracked_of, unknown}
-use Rattle.wf_opening.specs.Decisions.{DecisionTree}
-use Rattle.wf_opening.specs.Verdicts.{VerdictTree, met}
+use Rattle.wf_closing.specs.Told.{Told}
+use Rattle.wf_closing.specs.Containers.{closed, tested}
+use Rattle.wf_closing.specs.Rows.{row_of, view_of}
+use Rattle.wf_closing.specs.Source.{tracked_of, unknown}
+use Rattle.wf_closing.specs.Decisions.{DecisionTree}
+use Rattle.wf_closing.specs.Verdicts.{VerdictTree, met}
 use Rattle.wf_record.specs.Record.{Row}
 use Rattle.wf_record.specs.declared.attempt.Try.{Try}
 use Rattle.wf_val.specs.ValueTree.{object, no_members}

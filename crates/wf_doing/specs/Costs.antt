@@ -3,7 +3,7 @@ use Rattle.std.specs.Prelude.{ℕ, ◌+◌, []}
 use Rattle.wf_val.specs.ValueTree.{members, object, weight}
 use Rattle.wf_record.specs.Cost.{row_cost}
 use Rattle.wf_record.specs.Record.{Row}
-use Rattle.wf_trigger.specs.Starts.{StartTree}
+use Rattle.wf_closing.specs.Starts.{StartTree}
 use Rattle.wf_doing.specs.Places.{named}
 
 -- A row costs the same whatever its address is.

@@ -3,7 +3,7 @@ use Rattle.std.specs.Prelude.{ℕ, Bool, false, ◌&&◌, ◌||◌, List, [], �
 use Rattle.wf_layers.specs.Address.{Address, Table, address}
 use Rattle.wf_def.specs.ActionTree.{ActionTree, action_kind, action_number}
 use Rattle.wf_record.specs.Record.{Row}
-use Rattle.wf_meant.specs.Containers.{has_succeeded, is_terminate}
+use Rattle.wf_closing.specs.Containers.{has_succeeded, is_terminate}
 use Rattle.wf_order.specs.Table.{OrderTree, before}
 
 -- where the Terminates among these stand: in no loop

@@ -1,3 +1,12 @@
+pub use Rattle.wf_closing.specs.Answering
+pub use Rattle.wf_closing.specs.Environment
+pub use Rattle.wf_closing.specs.Inside
+pub use Rattle.wf_closing.specs.InsideSeen
+pub use Rattle.wf_closing.specs.Look
+pub use Rattle.wf_closing.specs.Source
+pub use Rattle.wf_closing.specs.Starts
+pub use Rattle.wf_closing.specs.StartsSeen
+pub use Rattle.wf_sight.specs.ViewsSeen
 pub mod Places
 pub mod Halting
 pub mod Weights

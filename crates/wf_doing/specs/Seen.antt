@@ -3,12 +3,12 @@ use Rattle.std.specs.Prelude.{ℕ}
 use Rattle.wf_answers.specs.InputsSeen.{inputs_tree}
 use Rattle.wf_def.specs.DefTree.{DefTree}
 use Rattle.wf_layers.specs.Address.{Address}
-use Rattle.wf_look.specs.Told.{Told}
-use Rattle.wf_environment.specs.Environment.{Environment, first_facts, fresh}
-use Rattle.wf_reading.specs.ReadSeen.{def_tree}
+use Rattle.wf_closing.specs.Told.{Told}
+use Rattle.wf_closing.specs.Environment.{Environment, first_facts, fresh}
+use Rattle.wf_closing.specs.ReadSeen.{def_tree}
 use Rattle.wf_sight.specs.Laws.{run_of}
 use Rattle.wf_sight.specs.Sight.{KnownTree, seen_at, seen_in_test}
-use Rattle.wf_trigger.specs.StartsSeen.{start_tree}
+use Rattle.wf_closing.specs.StartsSeen.{start_tree}
 use Rattle.wf_doing.specs.declared.setting.Setting.{Setting}
 
 abbrev pub definition_of : Setting → DefTree

@@ -1,11 +1,11 @@
 -- What an action asks for, by its number's action.
 use Rattle.std.specs.Prelude.{List, [], Option, Some, None}
 use Rattle.wf_def.specs.ActionTree.{ActionTree, KindTree, action_kind, until}
-use Rattle.wf_done.specs.Uses.{kind_uses}
-use Rattle.wf_eval.specs.Uses.{cond_uses, members_uses}
-use Rattle.wf_eval_expr.specs.Uses.{Use}
-use Rattle.wf_meant.specs.Source.{tracked_of}
-use Rattle.wf_opening.specs.Uses.{opening_uses}
+use Rattle.wf_closing.specs.DoneUses.{kind_uses}
+use Rattle.wf_closing.specs.EvalUses.{cond_uses, members_uses}
+use Rattle.wf_closing.specs.Uses.{Use}
+use Rattle.wf_closing.specs.Source.{tracked_of}
+use Rattle.wf_closing.specs.OpeningUses.{opening_uses}
 use Rattle.wf_template.specs.DataTree.{data_members}
 
 abbrev pub starting_uses : Option ActionTree → List Use

@@ -2,8 +2,8 @@
 -- by, as the row of either will have them as its inputs.
 use Rattle.std.specs.Prelude.{ℕ}
 use Rattle.wf_val.specs.ValueTree.{ValueTree, null, boolean, list, trees, weight}
-use Rattle.wf_opening.specs.Decisions.{DecisionTree, held, chosen, each}
-use Rattle.wf_done.specs.Leaf.{BegunTree, acted, calling}
+use Rattle.wf_closing.specs.Decisions.{DecisionTree, held, chosen, each}
+use Rattle.wf_closing.specs.Leaf.{BegunTree, acted, calling}
 
 abbrev pub begun_inputs : BegunTree → ValueTree
 begun_inputs (acted d) = d.inputs

@@ -4,15 +4,15 @@ ghost use Rattle.wf_answers.specs.AnswerSeen.{answer_tree};
 ghost use Rattle.wf_connect.specs.Attempts.{tried};
 ghost use Rattle.wf_connect.specs.AttemptsSeen.{tried_tree};
 ghost use Rattle.wf_connect.specs.Last.{answered_at, ending, is_final, last_attempt, tries_from, tries_of};
-ghost use Rattle.wf_done.specs.DoneSeen.{begun_tree, done_tree};
-ghost use Rattle.wf_done.specs.Leaf.{ended, tries_in};
+ghost use Rattle.wf_closing.specs.DoneSeen.{begun_tree, done_tree};
+ghost use Rattle.wf_closing.specs.Leaf.{ended, tries_in};
 ghost use Rattle.wf_retry.specs.Again.{retries};
 ghost use Rattle.wf_doing.specs.Places.{named};
 
 use std::alloc::{AllocError, Global};
 use wf_answers::{Answer, Answers};
+use wf_closing::{Begun, Done, ended_by};
 use wf_connect::{Tried, attempt, the_last_attempt_is_the_least, try_of};
-use wf_done::{Begun, Done, ended_by};
 use wf_record::Tries;
 use wf_retry::Policy;
 use wf_val::{Indexes, Name};

@@ -7,12 +7,12 @@ ghost use Rattle.wf_closing.specs.InsideSeen.{inside_tree};
 ghost use Rattle.wf_def.specs.ActionSeen.{action_tree};
 ghost use Rattle.wf_def.specs.ActionTree.{ActionTree, action_kind, action_name};
 ghost use Rattle.wf_def.specs.AllActions.{numbered};
-ghost use Rattle.wf_done.specs.Done.{view as view_tree};
-ghost use Rattle.wf_done.specs.DoneSeen.{begun_tree, done_tree};
-ghost use Rattle.wf_done.specs.Tracked.{tracked_value, with_own};
-ghost use Rattle.wf_meant.specs.Source.{tracked_of};
-ghost use Rattle.wf_opening.specs.DecisionSeen.{decision_tree, verdict_tree};
-ghost use Rattle.wf_views.specs.Seen.{row_content};
+ghost use Rattle.wf_closing.specs.Done.{view as view_tree};
+ghost use Rattle.wf_closing.specs.DoneSeen.{begun_tree, done_tree};
+ghost use Rattle.wf_closing.specs.Tracked.{tracked_value, with_own};
+ghost use Rattle.wf_closing.specs.Source.{tracked_of};
+ghost use Rattle.wf_closing.specs.DecisionSeen.{decision_tree, verdict_tree};
+ghost use Rattle.wf_sight.specs.ViewsSeen.{row_content};
 ghost use Rattle.wf_sight.specs.Seen.{known_tree};
 ghost use Rattle.wf_val.specs.Seen.{tree};
 ghost use Rattle.wf_doing.specs.Acting.{attempts_by, closed_by, finished_by, tracked_row};
@@ -24,13 +24,11 @@ use crate::rows::{row, unknown_row};
 use crate::setting::{Setting, sight, tracked_of};
 use std::alloc::{AllocError, Global};
 use wf_asks::{Instance, Known};
-use wf_closing::Inside;
+use wf_closing::{Begun, Decision, Done, Inside, Verdict, tracked, view};
 use wf_def::Action;
-use wf_done::{Begun, Done, tracked, view};
-use wf_opening::{Decision, Verdict};
 use wf_record::{Row, Tries};
+use wf_sight::{kind_of, name_of};
 use wf_val::{Fields, Val};
-use wf_views::{kind_of, name_of};
 
 // Tracked properties, which see what their action came to.
 fn evaluated<'a>(

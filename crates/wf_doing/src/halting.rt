@@ -6,7 +6,7 @@ ghost use Rattle.wf_def.specs.ActionSeen.{action_tree, graph_tree};
 ghost use Rattle.wf_def.specs.ActionTree.{action_kind, action_number};
 ghost use Rattle.wf_def.specs.AllActions.{all_actions};
 ghost use Rattle.wf_layers.specs.Address.{address};
-ghost use Rattle.wf_meant.specs.Containers.{has_succeeded, is_terminate};
+ghost use Rattle.wf_closing.specs.Containers.{has_succeeded, is_terminate};
 ghost use Rattle.wf_order.specs.OrderSeen.{order_tree};
 ghost use Rattle.wf_order.specs.Table.{before};
 ghost use Rattle.wf_doing.specs.Halting.{any_halts, halts_by, terminates_in};

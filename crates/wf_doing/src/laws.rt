@@ -6,7 +6,7 @@ ghost use Rattle.wf_def.specs.ActionTree.{ActionTree, action_kind};
 ghost use Rattle.wf_def.specs.AllActions.{all_actions, numbered};
 ghost use Rattle.wf_def.specs.DefTree.{DefTree};
 ghost use Rattle.wf_def.specs.Names.{graph_names};
-ghost use Rattle.wf_done.specs.Leaf.{BegunTree};
+ghost use Rattle.wf_closing.specs.Leaf.{BegunTree};
 ghost use Rattle.wf_asks.specs.Known.{IsInformed, IsInformedAtTest};
 ghost use Rattle.wf_layers.specs.Address.{Address, Table};
 ghost use Rattle.wf_layers.specs.Definition.{Graph, Kind};
@@ -14,17 +14,17 @@ ghost use Rattle.wf_layers.specs.Seen.{Once};
 ghost use Rattle.wf_sight.specs.Laws.{run_of};
 ghost use Rattle.wf_sight.specs.Sight.{KnownTree, seen_at, seen_in_test};
 ghost use Rattle.wf_sight.specs.Variables.{variable_in};
-ghost use Rattle.wf_environment.specs.Environment.{Environment, facts_of, fresh};
-ghost use Rattle.wf_meant.specs.Answering.{AnswersAs, RowSource};
-ghost use Rattle.wf_meant.specs.Look.{decided_by, name_of, told_at, told_in_test};
-ghost use Rattle.wf_meant.specs.Points.{graph_of};
-ghost use Rattle.wf_meant.specs.Source.{is_halted, source};
-ghost use Rattle.wf_opening.specs.Decisions.{DecisionTree};
-ghost use Rattle.wf_opening.specs.Verdicts.{VerdictTree};
+ghost use Rattle.wf_closing.specs.Environment.{Environment, facts_of, fresh};
+ghost use Rattle.wf_closing.specs.Answering.{AnswersAs, RowSource};
+ghost use Rattle.wf_closing.specs.Look.{decided_by, name_of, told_at, told_in_test};
+ghost use Rattle.wf_closing.specs.Points.{graph_of};
+ghost use Rattle.wf_closing.specs.Source.{is_halted, source};
+ghost use Rattle.wf_closing.specs.Decisions.{DecisionTree};
+ghost use Rattle.wf_closing.specs.Verdicts.{VerdictTree};
 ghost use Rattle.wf_order.specs.Table.{order_of};
 ghost use Rattle.wf_record.specs.Record.{Row};
-ghost use Rattle.wf_reading.specs.Read.{IsRead};
-ghost use Rattle.wf_trigger.specs.Starts.{StartTree};
+ghost use Rattle.wf_closing.specs.Read.{IsRead};
+ghost use Rattle.wf_closing.specs.Starts.{StartTree};
 ghost use Rattle.wf_doing.specs.Acting.{attempts_by, begun_by, closed_by, finished_by, tested_by};
 ghost use Rattle.wf_doing.specs.Halting.{any_halts, terminates_in};
 ghost use Rattle.wf_sight.specs.Found.{FindsTold};
@@ -35,9 +35,9 @@ pub fn containers_are_judged()
     ensures { (d : DefTree) → IsRead d → (n : ℕ) (a : ActionTree) → numbered n d.top ≡ Some a → AreJudged (action_kind a) }
 {
     wf_closing::steps_give_the_status();
-    wf_known_laws::numbers_stand_once();
-    wf_known_laws::entries_stay_in_their_graph();
-    wf_known_laws::actions_have_depths();
+    wf_sight::numbers_stand_once();
+    wf_sight::entries_stay_in_their_graph();
+    wf_sight::actions_have_depths();
 }
 
 /// The Terminates of a definition halt an action where its definition says so.
@@ -107,7 +107,7 @@ pub fn what_is_done_is_meant()
         x.at decision n verdict known.rows
         ≡ (source d e).close x decision n verdict known.rows }
 {
-    wf_done::what_an_action_does_is_local();
-    wf_opening::what_a_container_decides_is_local();
+    wf_closing::what_an_action_does_is_local();
+    wf_closing::what_a_container_decides_is_local();
     wf_sight::what_is_seen_is_told();
 }

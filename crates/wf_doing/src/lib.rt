@@ -32,3 +32,5 @@ pub use opening::{decide, start, test_until};
 pub use rows::{row, skipped};
 pub use setting::Setting;
 pub use weights::{begun_weight, decision_weight};
+pub use wf_closing::Inside;
+pub use wf_sight::{kind_of, name_of};

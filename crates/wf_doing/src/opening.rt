@@ -4,12 +4,12 @@ ghost use Rattle.wf_asks.specs.Instances.{address_of};
 ghost use Rattle.wf_def.specs.ActionSeen.{action_tree, kind_tree};
 ghost use Rattle.wf_def.specs.ActionTree.{action_kind};
 ghost use Rattle.wf_def.specs.AllActions.{numbered};
-ghost use Rattle.wf_done.specs.DoneSeen.{begun_tree};
-ghost use Rattle.wf_done.specs.Leaf.{begun};
-ghost use Rattle.wf_meant.specs.Containers.{tested};
-ghost use Rattle.wf_meant.specs.Look.{decided_by};
-ghost use Rattle.wf_opening.specs.DecisionSeen.{decision_tree, verdict_tree};
-ghost use Rattle.wf_opening.specs.Decisions.{decided};
+ghost use Rattle.wf_closing.specs.DoneSeen.{begun_tree};
+ghost use Rattle.wf_closing.specs.Leaf.{begun};
+ghost use Rattle.wf_closing.specs.Containers.{tested};
+ghost use Rattle.wf_closing.specs.Look.{decided_by};
+ghost use Rattle.wf_closing.specs.DecisionSeen.{decision_tree, verdict_tree};
+ghost use Rattle.wf_closing.specs.Decisions.{decided};
 ghost use Rattle.wf_sight.specs.Seen.{known_tree};
 ghost use Rattle.wf_sight.specs.SightSeen.{sight_drawn, sight_told};
 ghost use Rattle.wf_doing.specs.Acting.{begun_by, tested_by};
@@ -19,12 +19,10 @@ use crate::rows::unknown;
 use crate::setting::{Setting, sight, sight_in_test};
 use std::alloc::{AllocError, Global};
 use wf_asks::{Instance, Known};
+use wf_closing::{Begun, Decision, Verdict, begin, open, test};
 use wf_def::{Action, Kind};
-use wf_done::{Begun, begin};
-use wf_opening::{Decision, Verdict, open, test};
 use wf_record::Row;
-use wf_sight::Sight;
-use wf_views::kind_of;
+use wf_sight::{Sight, kind_of};
 
 fn begun<'a>(
     alloc: Global,

@@ -1,11 +1,11 @@
 //! What tracked properties see.
 ghost use Rattle.std.specs.Prelude.{[]};
-ghost use Rattle.wf_done.specs.Tracked.{with_own};
+ghost use Rattle.wf_closing.specs.Tracked.{with_own};
 ghost use Rattle.wf_sight.specs.SightSeen.{sight_drawn, sight_told};
 ghost use Rattle.wf_val.specs.Seen.{tree};
 
 use std::alloc::{AllocError, Global};
-use wf_look::Look;
+use wf_closing::Look;
 use wf_sight::Sight;
 use wf_val::{Name, Text, Val};
 

@@ -1,15 +1,15 @@
 //! Rows of actions.
 ghost use Rattle.std.specs.Prelude.{◌≡◌, [], IfOk};
-ghost use Rattle.wf_done.specs.DoneSeen.{done_tree};
-ghost use Rattle.wf_meant.specs.Rows.{row_of, skipped};
-ghost use Rattle.wf_meant.specs.Source.{unknown};
+ghost use Rattle.wf_closing.specs.DoneSeen.{done_tree};
+ghost use Rattle.wf_closing.specs.Rows.{row_of, skipped};
+ghost use Rattle.wf_closing.specs.Source.{unknown};
 ghost use Rattle.wf_record.specs.Seen.{row_tree};
 ghost use Rattle.wf_val.specs.Seen.{tree};
 ghost use Rattle.wf_val.specs.ValueTree.{no_members, object};
 ghost use Rattle.wf_doing.specs.Places.{named};
 
 use std::alloc::{AllocError, Global};
-use wf_done::Done;
+use wf_closing::Done;
 use wf_json::fault_text;
 use wf_lists::TryCopy;
 use wf_record::{Row, Status, Tries};
@@ -78,7 +78,7 @@ pub(crate) fn unknown_row(alloc: Global, at: &Indexes) -> Result<Row, AllocError
 pub fn skipped(alloc: Global, name: &Name, at: &Indexes) -> Result<Row, AllocError>
     ensures { IfOk result (λ r. row_tree r ≡ record { address = named name.now at.now; row = skipped }) }
 {
-    let done = wf_done::skipped(alloc)?;
+    let done = wf_closing::skipped(alloc)?;
     row(
         alloc,
         name,

@@ -2,8 +2,8 @@
 ghost use Rattle.std.specs.Prelude.{◌≡◌, IfOk, map};
 ghost use Rattle.wf_asks.specs.Instances.{address_of};
 ghost use Rattle.wf_def.specs.ActionSeen.{action_tree};
-ghost use Rattle.wf_environment.specs.Environment.{first_facts};
-ghost use Rattle.wf_meant.specs.Source.{tracked_of};
+ghost use Rattle.wf_closing.specs.Environment.{first_facts};
+ghost use Rattle.wf_closing.specs.Source.{tracked_of};
 ghost use Rattle.wf_sight.specs.Laws.{run_of};
 ghost use Rattle.wf_sight.specs.Seen.{known_tree};
 ghost use Rattle.wf_sight.specs.SightSeen.{run_tree, sight_drawn, sight_told};
@@ -13,14 +13,12 @@ ghost use Rattle.wf_doing.specs.Seen.{environment_of, seen, seen_by_test};
 use std::alloc::{AllocError, Global};
 use wf_answers::Inputs;
 use wf_asks::{Instance, Known};
+use wf_closing::{Decision, Start, Verdict};
 use wf_def::Action;
-use wf_opening::{Decision, Verdict};
 use wf_record::Row;
-use wf_sight::{Run, Sight};
+use wf_sight::{Places, Run, Sight};
 use wf_template::Tree;
-use wf_trigger::Start;
 use wf_val::Text;
-use wf_views::Places;
 
 /// A definition, and a run of it that isn't made from another.
 #[derive(Drop)]

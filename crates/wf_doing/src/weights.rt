@@ -1,12 +1,11 @@
 //! How much a run keeps of what isn't finished.
 ghost use Rattle.std.specs.Prelude.{◌≡◌};
-ghost use Rattle.wf_done.specs.DoneSeen.{begun_tree};
-ghost use Rattle.wf_opening.specs.DecisionSeen.{decision_tree};
+ghost use Rattle.wf_closing.specs.DoneSeen.{begun_tree};
+ghost use Rattle.wf_closing.specs.DecisionSeen.{decision_tree};
 ghost use Rattle.wf_val.specs.Cut.{cut_u64};
 ghost use Rattle.wf_doing.specs.Weights.{begun_weight, decision_weight};
 
-use wf_done::Begun;
-use wf_opening::Decision;
+use wf_closing::{Begun, Decision};
 
 /// What a running leaf keeps, cut to the greatest u64.
 pub fn begun_weight(begun: &Begun) -> u64

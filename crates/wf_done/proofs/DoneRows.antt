@@ -4,8 +4,8 @@ use Rattle.std.specs.Prelude.{codes}
 use Rattle.wf_val.specs.ValueTree.{null, boolean, text}
 use Rattle.wf_val.specs.declared.fault.EvalFault.{EvalFault}
 use Rattle.wf_val.specs.declared.function.Fun.{Fun}
-use Rattle.wf_record.specs.declared.status.Status.{Status}
-use Rattle.wf_data.proofs.RowParts.{plus, fields}
+use Rattle.wf_connect.specs.Status.{Status}
+use Rattle.wf_variables.proofs.RowParts.{plus, fields}
 use Rattle.wf_done.specs.Done.{faulted, mismatched, skipped, succeeded, view}
 use Rattle.wf_done.proofs.RowParts.{done, done_well, done_wrong, in_decimal}
 

@@ -5,11 +5,11 @@ use Rattle.wf_val.specs.ValueTree.{ValueTree, null, number, object, members, no_
 use Rattle.wf_val.specs.declared.address.Address.{Address}
 use Rattle.wf_retry.specs.declared.policy.Outcome.{Outcome}
 use Rattle.wf_retry.specs.declared.policy.Policy.{Policy}
-use Rattle.wf_answers.specs.AnswerTree.{AnswerTree}
-use Rattle.wf_record.specs.declared.attempt.Try.{Try}
-use Rattle.wf_record.specs.declared.status.Status.{Status}
+use Rattle.wf_connect.specs.AnswerTree.{AnswerTree}
+use Rattle.wf_connect.specs.Try.{Try}
+use Rattle.wf_connect.specs.Status.{Status}
 use Rattle.wf_connect.specs.Attempts.{repeated}
-use Rattle.wf_data.proofs.RowParts.{plus}
+use Rattle.wf_variables.proofs.RowParts.{plus}
 use Rattle.wf_done.specs.Done.{DoneTree, skipped}
 use Rattle.wf_done.specs.Leaf.{calling, done_by, ended, tries_in}
 use Rattle.wf_done.proofs.RowParts.{acts, done, done_well, done_wrong, faults, in_decimal}

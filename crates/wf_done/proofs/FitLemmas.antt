@@ -5,22 +5,23 @@ use Rattle.wf_val.specs.Arguments.{Answer, fits_i64, given, wrong_type}
 use Rattle.wf_val.specs.ValueTree.{ValueTree, null, number, text, list, trees, items, Fits}
 use Rattle.wf_val.specs.declared.fault.EvalFault.{EvalFault}
 use Rattle.wf_val.specs.declared.function.Fun.{Fun}
-use Rattle.wf_json.specs.Json as json_text
+use Rattle.wf_schema.specs.Json as json_text
 use Rattle.wf_retry.specs.declared.policy.Policy.{Policy}
 use Rattle.wf_schema.specs.Reading.{SchemaTree}
 use Rattle.wf_template.specs.DataTree.{DataTree}
 use Rattle.wf_def.specs.ActionTree.{KindTree, compose, connector, wait, response, terminate, select, query, join, parse_json}
 use Rattle.wf_def.specs.ActionTree.{initialize, set_to, increment, decrement, append_array, append_string}
-use Rattle.wf_look.specs.Looked.{or_no_value}
-use Rattle.wf_look.specs.Outcomes.{Outcome, all_after}
-use Rattle.wf_look.specs.Told.{Told}
-use Rattle.wf_eval_expr.proofs.Fitting.{IsGood, bounded-good}
-use Rattle.wf_eval.specs.TreeValue.{tree_value}
-use Rattle.wf_record.specs.declared.status.RunStatus.{RunStatus}
-use Rattle.wf_data.specs.Lists.{items_from, join_inputs, join_of, joined, keeps, kept_after, made_of_list, over_each, queried, selected}
-use Rattle.wf_data.specs.Made.{MadeTree, fitting, followed, goes_on, one_member}
-use Rattle.wf_data.specs.Parsed.{made_of_content, parsed}
-use Rattle.wf_data.specs.Simple.{run_status_of, terminated}
+use Rattle.wf_variables.specs.Looked.{or_no_value}
+use Rattle.wf_variables.specs.Outcomes.{Outcome, all_after}
+use Rattle.wf_variables.specs.Told.{Told}
+use Rattle.wf_variables.proofs.Fitting.{IsGood, bounded-good}
+use Rattle.wf_variables.specs.TreeValue.{tree_value}
+use Rattle.wf_connect.specs.RunStatus.{RunStatus}
+use Rattle.wf_variables.specs.Lists.{items_from, join_inputs, join_of, joined, keeps, kept_after}
+use Rattle.wf_variables.specs.Lists.{made_of_list, over_each, queried, selected}
+use Rattle.wf_variables.specs.Made.{MadeTree, fitting, followed, goes_on, one_member}
+use Rattle.wf_variables.specs.Parsed.{made_of_content, parsed}
+use Rattle.wf_variables.specs.Simple.{run_status_of, terminated}
 use Rattle.wf_variables.specs.Initials.{ItemsTree, body_of, given_item, initials_after, made_of_items}
 use Rattle.wf_variables.specs.Sorts.{are_alike}
 use Rattle.wf_variables.specs.Writing as writing

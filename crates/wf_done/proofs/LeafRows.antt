@@ -3,16 +3,16 @@ use Rattle.std.proofs.Common.{◌≡◌, refl, ℕ, List, [], ◌∷◌, Option,
 use Rattle.std.specs.Prelude.{pos, codes}
 use Rattle.wf_val.specs.ValueTree.{ValueTree, null, text}
 use Rattle.wf_retry.specs.declared.policy.Policy.{Policy}
-use Rattle.wf_record.specs.declared.status.Status.{Status}
+use Rattle.wf_connect.specs.Status.{Status}
 use Rattle.wf_template.specs.DataTree as inputs
 use Rattle.wf_template.specs.ExprTree.{literal}
 use Rattle.wf_template.specs.TemplateTree.{whole}
-use Rattle.wf_look.proofs.WorkedLook.{nested, nowhere, one_member}
-use Rattle.wf_eval_expr.proofs.WorkedExpressions.{int, word, by_zero, of}
+use Rattle.wf_variables.proofs.WorkedLook.{nested, nowhere, one_member}
+use Rattle.wf_variables.proofs.WorkedExpressions.{int, word, by_zero, of}
 use Rattle.wf_def.specs.ActionTree.{compose, connector, wait, response, terminate, select, query, join, parse_json}
 use Rattle.wf_def.specs.ActionTree.{initialize, set_to, increment, decrement, append_array, append_string, scope, no_actions}
 use Rattle.wf_def.specs.declared.sort.Sort.{Sort}
-use Rattle.wf_data.proofs.RowParts.{plus, items, fields, that, listed, tree_fields, tree_items, item}
+use Rattle.wf_variables.proofs.RowParts.{plus, items, fields, that, listed, tree_fields, tree_items, item}
 use Rattle.wf_variables.specs.Initials.{given_item}
 use Rattle.wf_done.specs.Leaf.{BegunTree, acted, calling, begun, judged}
 use Rattle.wf_done.proofs.RowParts.{acts, done, done_well, faults, having, in_decimal}

@@ -9,18 +9,18 @@ use Rattle.wf_template.specs.TemplateTree.{TemplateTree}
 use Rattle.wf_def.specs.ActionTree.{InitialTree, KindTree, compose, connector, wait, response, terminate, select, query, join, parse_json}
 use Rattle.wf_def.specs.ActionTree.{initialize, set_to, increment, decrement, append_array, append_string}
 use Rattle.wf_def.specs.declared.sort.Sort.{Sort}
-use Rattle.wf_look.specs.Looked.{or_no_value}
-use Rattle.wf_look.specs.Outcomes.{Run, turned}
-use Rattle.wf_look.specs.Told.{Told, over}
-use Rattle.wf_eval_expr.specs.Uses.{Use, names, asks, asks_moment, asks_words, Agree, AgreeAt}
-use Rattle.wf_eval_expr.proofs.Local.{agree-front, agree-rest}
-use Rattle.wf_eval.specs.TemplateValue.{template_value}
-use Rattle.wf_eval.specs.TreeValue.{members_after, member_runs, tree_value}
-use Rattle.wf_eval.specs.Uses.{members_uses, template_uses, tree_uses}
-use Rattle.wf_data.specs.Lists.{items_from, joined, over_each, queried, query_truth, selected}
-use Rattle.wf_data.specs.Made.{Making, fitting, followed, goes_on}
-use Rattle.wf_data.specs.Parsed.{made_of_content}
-use Rattle.wf_data.specs.Simple.{run_status_of, terminated}
+use Rattle.wf_variables.specs.Looked.{or_no_value}
+use Rattle.wf_variables.specs.Outcomes.{Run, turned}
+use Rattle.wf_variables.specs.Told.{Told, over}
+use Rattle.wf_variables.specs.Uses.{Use, names, asks, asks_moment, asks_words, Agree, AgreeAt}
+use Rattle.wf_variables.proofs.Local.{agree-front, agree-rest}
+use Rattle.wf_variables.specs.TemplateValue.{template_value}
+use Rattle.wf_variables.specs.TreeValue.{members_after, member_runs, tree_value}
+use Rattle.wf_variables.specs.EvalUses.{members_uses, template_uses, tree_uses}
+use Rattle.wf_variables.specs.Lists.{items_from, joined, over_each, queried, query_truth, selected}
+use Rattle.wf_variables.specs.Made.{Making, fitting, followed, goes_on}
+use Rattle.wf_variables.specs.Parsed.{made_of_content}
+use Rattle.wf_variables.specs.Simple.{run_status_of, terminated}
 use Rattle.wf_variables.specs.Initials.{ItemsTree, initial_by, initial_value, initials_after, made_of_items, pushed}
 use Rattle.wf_variables.specs.Sorts.{of_sort}
 use Rattle.wf_variables.specs.Writing as writing

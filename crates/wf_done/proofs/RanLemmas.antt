@@ -8,15 +8,15 @@ use Rattle.wf_val.specs.declared.fault.EvalFault.{EvalFault}
 use Rattle.wf_retry.specs.Again.{again}
 use Rattle.wf_retry.specs.declared.policy.Outcome.{Outcome}
 use Rattle.wf_retry.specs.declared.policy.Policy.{Policy}
-use Rattle.wf_answers.specs.AnswerTree.{AnswerTree}
-use Rattle.wf_record.specs.declared.status.Status.{Status}
+use Rattle.wf_connect.specs.AnswerTree.{AnswerTree}
+use Rattle.wf_connect.specs.Status.{Status}
 use Rattle.wf_schema.specs.Reading.{SchemaTree}
 use Rattle.wf_def.specs.ActionTree.{KindTree, connector, parse_json}
-use Rattle.wf_look.specs.Told.{Told}
-use Rattle.wf_eval.specs.TreeValue.{tree_value}
+use Rattle.wf_variables.specs.Told.{Told}
+use Rattle.wf_variables.specs.TreeValue.{tree_value}
 use Rattle.wf_connect.specs.Attempts.{repeated, ends, status_by, tried}
 use Rattle.wf_connect.specs.Last.{Answered, IsLast, answered_at, ending, is_final, last_attempt}
-use Rattle.wf_data.specs.Made.{MadeTree}
+use Rattle.wf_variables.specs.Made.{MadeTree}
 use Rattle.wf_done.specs.Done.{DoneTree}
 use Rattle.wf_done.specs.Leaf.{begun_from, called_with, done_by, done_of, ended, judged, made_by, unless_at}
 

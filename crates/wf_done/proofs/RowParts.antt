@@ -3,9 +3,9 @@ use Rattle.std.proofs.Common.{ℕ, List}
 use Rattle.std.specs.Fmt.{digits}
 use Rattle.std.specs.Prelude.{codes, ⊤}
 use Rattle.wf_val.specs.ValueTree.{ValueTree, null, text}
-use Rattle.wf_record.specs.declared.status.Status.{Status}
-use Rattle.wf_look.proofs.WorkedLook.{nowhere, only}
-use Rattle.wf_look.specs.Told.{Told}
+use Rattle.wf_connect.specs.Status.{Status}
+use Rattle.wf_variables.proofs.WorkedLook.{nowhere, only}
+use Rattle.wf_variables.specs.Told.{Told}
 use Rattle.wf_done.specs.Done.{DoneTree}
 use Rattle.wf_done.specs.Leaf.{BegunTree, acted}
 

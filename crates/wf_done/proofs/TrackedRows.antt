@@ -4,10 +4,10 @@ use Rattle.std.specs.Prelude.{codes}
 use Rattle.wf_val.specs.ValueTree.{null, boolean, text}
 use Rattle.wf_template.specs.DataTree as inputs
 use Rattle.wf_template.specs.ExprTree.{ExprTree, literal, member}
-use Rattle.wf_look.proofs.WorkedLook.{nested, nowhere, one_member, somewhere}
-use Rattle.wf_look.specs.Told.{Told}
-use Rattle.wf_eval_expr.proofs.WorkedExpressions.{word, by_zero, of}
-use Rattle.wf_data.proofs.RowParts.{plus, fields, that, tree_fields, tree_items}
+use Rattle.wf_variables.proofs.WorkedLook.{nested, nowhere, one_member, somewhere}
+use Rattle.wf_variables.specs.Told.{Told}
+use Rattle.wf_variables.proofs.WorkedExpressions.{word, by_zero, of}
+use Rattle.wf_variables.proofs.RowParts.{plus, fields, that, tree_fields, tree_items}
 use Rattle.wf_done.specs.Done.{DoneTree, view}
 use Rattle.wf_done.specs.Tracked.{tracked_value, with_own}
 use Rattle.wf_done.proofs.RowParts.{done_well, done_wrong}

@@ -7,13 +7,13 @@ use Rattle.wf_retry.specs.declared.policy.Policy.{Policy}
 use Rattle.wf_template.specs.DataTree as inputs
 use Rattle.wf_template.specs.ExprTree.{ExprTree}
 use Rattle.wf_template.specs.TemplateTree.{whole}
-use Rattle.wf_look.proofs.WorkedLook.{one_member}
-use Rattle.wf_eval_expr.proofs.WorkedExpressions.{word, of}
-use Rattle.wf_eval_expr.specs.Uses.{Use, names, asks, asks_moment}
+use Rattle.wf_variables.proofs.WorkedLook.{one_member}
+use Rattle.wf_variables.proofs.WorkedExpressions.{word, of}
+use Rattle.wf_variables.specs.Uses.{Use, names, asks, asks_moment}
 use Rattle.wf_def.specs.ActionTree.{compose, connector, wait, response, terminate, select, query, join, parse_json}
 use Rattle.wf_def.specs.ActionTree.{initialize, set_to, increment, decrement, append_array, append_string, scope, no_actions}
 use Rattle.wf_def.specs.declared.sort.Sort.{Sort}
-use Rattle.wf_data.proofs.RowParts.{that, tree_items, item}
+use Rattle.wf_variables.proofs.RowParts.{that, tree_items, item}
 use Rattle.wf_done.specs.Uses.{beneath, kind_uses}
 
 -- a tree that names an action

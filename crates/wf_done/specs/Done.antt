@@ -2,11 +2,11 @@
 use Rattle.std.specs.Prelude.{ℕ, List, [], ◌∷◌, ◌++◌, codes}
 use Rattle.wf_val.specs.ValueTree.{ValueTree, null, text, object, members}
 use Rattle.wf_val.specs.declared.fault.EvalFault.{EvalFault}
-use Rattle.wf_json.specs.FaultText.{fault_text}
-use Rattle.wf_json.specs.Json.{string}
-use Rattle.wf_record.specs.Record.{status_name}
-use Rattle.wf_record.specs.declared.status.Status.{Status}
-use Rattle.wf_data.specs.Made.{MadeTree}
+use Rattle.wf_schema.specs.FaultText.{fault_text}
+use Rattle.wf_schema.specs.Json.{string}
+use Rattle.wf_connect.specs.Record.{status_name}
+use Rattle.wf_connect.specs.Status.{Status}
+use Rattle.wf_variables.specs.Made.{MadeTree}
 
 pub record DoneTree : Type 0 where
   pub status : Status

@@ -6,21 +6,21 @@ use Rattle.wf_val.specs.Get.{get}
 use Rattle.wf_val.specs.ValueTree.{ValueTree, null}
 use Rattle.wf_val.specs.declared.address.Address.{Address}
 use Rattle.wf_val.specs.declared.fault.EvalFault.{EvalFault}
-use Rattle.wf_json.specs.Pointer.{least}
+use Rattle.wf_schema.specs.Pointer.{least}
 use Rattle.wf_retry.specs.declared.policy.Policy.{Policy}
-use Rattle.wf_answers.specs.AnswerTree.{AnswerTree}
-use Rattle.wf_record.specs.declared.attempt.Try.{Try}
+use Rattle.wf_connect.specs.AnswerTree.{AnswerTree}
+use Rattle.wf_connect.specs.Try.{Try}
 use Rattle.wf_schema.specs.Fails.{fails}
 use Rattle.wf_schema.specs.Reading.{SchemaTree}
 use Rattle.wf_def.specs.ActionTree.{KindTree, compose, connector, wait, response, terminate, select, query, join, parse_json}
 use Rattle.wf_def.specs.ActionTree.{initialize, set_to, increment, decrement, append_array, append_string}
-use Rattle.wf_look.specs.Looked.{or_null}
-use Rattle.wf_look.specs.Told.{Told}
-use Rattle.wf_eval.specs.TreeValue.{tree_value}
-use Rattle.wf_data.specs.Made.{MadeTree, Making}
-use Rattle.wf_data.specs.Simple.{made_compose, made_response, made_terminate, made_wait}
-use Rattle.wf_data.specs.Lists.{made_join, made_query, made_select}
-use Rattle.wf_data.specs.Parsed.{made_parse_json}
+use Rattle.wf_variables.specs.Looked.{or_null}
+use Rattle.wf_variables.specs.Told.{Told}
+use Rattle.wf_variables.specs.TreeValue.{tree_value}
+use Rattle.wf_variables.specs.Made.{MadeTree, Making}
+use Rattle.wf_variables.specs.Simple.{made_compose, made_response, made_terminate, made_wait}
+use Rattle.wf_variables.specs.Lists.{made_join, made_query, made_select}
+use Rattle.wf_variables.specs.Parsed.{made_parse_json}
 use Rattle.wf_variables.specs.Initials.{made_initialize}
 use Rattle.wf_variables.specs.Writing.{made_append_array, made_append_string, made_decrement, made_increment, made_set}
 use Rattle.wf_connect.specs.Attempts.{TriedTree, repeated, final}

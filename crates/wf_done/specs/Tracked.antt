@@ -4,8 +4,8 @@ use Rattle.std.specs.Prelude.{ℕ, List, [], Result, Ok, Err, Some}
 use Rattle.wf_val.specs.ValueTree.{ValueTree, Member, null, object, members}
 use Rattle.wf_val.specs.declared.fault.EvalFault.{EvalFault}
 use Rattle.wf_template.specs.DataTree.{DataMember, data_members}
-use Rattle.wf_look.specs.Told.{Told}
-use Rattle.wf_eval.specs.TreeValue.{member_runs, members_after}
+use Rattle.wf_variables.specs.Told.{Told}
+use Rattle.wf_variables.specs.TreeValue.{member_runs, members_after}
 
 abbrev pub tracked_of : Result (List Member) EvalFault → ValueTree
 tracked_of (Ok ms) = object (members ms)

@@ -4,8 +4,8 @@ use Rattle.wf_val.specs.declared.function.Fun.{Fun}
 use Rattle.wf_template.specs.DataTree.{DataTree}
 use Rattle.wf_def.specs.ActionTree.{InitialTree, KindTree, compose, connector, wait, response, terminate, select, query, join, parse_json}
 use Rattle.wf_def.specs.ActionTree.{initialize, set_to, increment, decrement, append_array, append_string}
-use Rattle.wf_eval_expr.specs.Uses.{Use, names, asks}
-use Rattle.wf_eval.specs.Uses.{template_uses, tree_uses}
+use Rattle.wf_variables.specs.Uses.{Use, names, asks}
+use Rattle.wf_variables.specs.EvalUses.{template_uses, tree_uses}
 
 -- the items of a list stand above an item of the look, which isn't asked for
 abbrev pub beneath : List Use → List Use

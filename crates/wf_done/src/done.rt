@@ -4,15 +4,15 @@ ghost use Rattle.wf_val.specs.Get.{name_of};
 ghost use Rattle.wf_val.specs.NameOrder.{put_named};
 ghost use Rattle.wf_val.specs.Seen.{tree};
 ghost use Rattle.wf_val.specs.ValueTree.{text};
-ghost use Rattle.wf_data.specs.MadeSeen.{made_tree};
+ghost use Rattle.wf_variables.specs.MadeSeen.{made_tree};
 ghost use Rattle.wf_done.specs.Done.{faulted, mismatched, skipped, succeeded, view};
 ghost use Rattle.wf_done.specs.DoneSeen.{done_tree};
 
 use std::alloc::{AllocError, Global};
-use wf_data::Made;
-use wf_json::{fault_text, quoted};
-use wf_record::Status;
+use wf_connect::Status;
+use wf_schema::{fault_text, quoted};
 use wf_val::{EvalFault, Fields, Name, Text, Val};
+use wf_variables::Made;
 
 /// What an action has come to: all of its row but its address, its tracked properties and its attempts.
 #[derive(Drop)]

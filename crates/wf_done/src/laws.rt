@@ -3,18 +3,18 @@ ghost use Rattle.std.specs.Prelude.{◌≡◌, ℕ, List};
 ghost use Rattle.wf_val.specs.declared.address.Address.{Address as ActionAddress};
 ghost use Rattle.wf_template.specs.DataTree.{DataMember, data_members};
 ghost use Rattle.wf_def.specs.ActionTree.{KindTree};
-ghost use Rattle.wf_answers.specs.AnswerTree.{AnswerTree};
-ghost use Rattle.wf_record.specs.declared.status.Status.{Status};
-ghost use Rattle.wf_look.specs.Told.{Told};
-ghost use Rattle.wf_eval_expr.specs.Uses.{AgreeAt};
-ghost use Rattle.wf_eval.specs.Uses.{members_uses};
+ghost use Rattle.wf_connect.specs.AnswerTree.{AnswerTree};
+ghost use Rattle.wf_connect.specs.Status.{Status};
+ghost use Rattle.wf_variables.specs.Told.{Told};
+ghost use Rattle.wf_variables.specs.Uses.{AgreeAt};
+ghost use Rattle.wf_variables.specs.EvalUses.{members_uses};
 ghost use Rattle.wf_done.specs.Kept.{KeepsFitting};
 ghost use Rattle.wf_done.specs.Leaf.{begun_from, ended};
 ghost use Rattle.wf_done.specs.Tracked.{tracked_from};
 ghost use Rattle.wf_done.specs.Uses.{kind_uses};
 
 use wf_connect::{attempts_go_on_to_the_last, the_last_attempt_is_the_least};
-use wf_eval::{values_are_local, what_is_given_fits};
+use wf_variables::{values_are_local, what_is_given_fits};
 
 /// Two looks that tell the same where an action asks have it do the same as it starts, and where its tracked properties ask, give these
 /// the same values.

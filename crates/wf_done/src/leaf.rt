@@ -3,30 +3,30 @@ ghost use Rattle.std.specs.Prelude.{◌≡◌, IfOk, Ok, codes, option_map};
 ghost use Rattle.wf_val.specs.Seen.{tree};
 ghost use Rattle.wf_def.specs.ActionSeen.{kind_tree};
 ghost use Rattle.wf_connect.specs.AttemptsSeen.{tried_tree};
-ghost use Rattle.wf_data.specs.Made.{Comes};
-ghost use Rattle.wf_data.specs.MadeSeen.{made_seen, made_tree};
+ghost use Rattle.wf_variables.specs.Made.{Comes};
+ghost use Rattle.wf_variables.specs.MadeSeen.{made_seen, made_tree};
 ghost use Rattle.wf_schema.specs.Fails.{fails};
 ghost use Rattle.wf_schema.specs.Reading.{schema_tree};
 ghost use Rattle.wf_val.specs.Get.{get};
-ghost use Rattle.wf_json.specs.Pointer.{least};
-ghost use Rattle.wf_look.specs.Looked.{or_null};
+ghost use Rattle.wf_schema.specs.Pointer.{least};
+ghost use Rattle.wf_variables.specs.Looked.{or_null};
 ghost use Rattle.wf_template.specs.DataSeen.{data_tree};
-ghost use Rattle.wf_eval.specs.TreeValue.{tree_value};
+ghost use Rattle.wf_variables.specs.TreeValue.{tree_value};
 ghost use Rattle.wf_done.specs.DoneSeen.{begun_tree, done_tree};
 ghost use Rattle.wf_done.specs.Leaf.{begun_from, called_with, done_by, done_of, judged, made_by};
 
 use crate::done::{Done, faulted, mismatched, skipped, succeeded};
 use std::alloc::{AllocError, Global};
 use wf_connect::Tried;
-use wf_data::{Made, compose, join, parse_json, query, response, select, terminate, wait};
 use wf_def::Kind;
-use wf_eval::eval_tree;
-use wf_look::Look;
 use wf_retry::Policy;
 use wf_schema::{Schema, mismatch};
 use wf_template::Tree;
 use wf_val::{EvalFault, Text, Val};
-use wf_variables::{append_array, append_string, decrement, increment, initialize, set};
+use wf_variables::{
+    Look, Made, append_array, append_string, compose, decrement, eval_tree, increment, initialize,
+    join, parse_json, query, response, select, set, terminate, wait,
+};
 
 /// What an action has from its start on: what it came to, or the inputs with which a connector calls, and how it repeats its attempts.
 #[derive(Drop)]

@@ -24,3 +24,8 @@ pub use done::{Done, mismatched, skipped, view};
 pub use laws::{what_an_action_does_is_local, what_is_kept_fits, what_ran_is_not_skipped};
 pub use leaf::{Begun, begin, ended_by, judged};
 pub use properties::tracked;
+pub use wf_connect::the_last_attempt_is_the_least;
+pub use wf_variables::{
+    value_given, what_is_given_is_found, what_is_initialized_is_given,
+    what_is_written_keeps_its_type,
+};

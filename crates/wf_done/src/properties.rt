@@ -3,15 +3,14 @@ ghost use Rattle.std.specs.Prelude.{◌≡◌, [], IfOk, map};
 ghost use Rattle.wf_val.specs.Seen.{tree};
 ghost use Rattle.wf_template.specs.DataSeen.{data_member};
 ghost use Rattle.wf_template.specs.DataTree.{data_members};
-ghost use Rattle.wf_data.specs.Made.{Comes};
-ghost use Rattle.wf_eval.specs.TreeValue.{member_runs, members_after};
+ghost use Rattle.wf_variables.specs.Made.{Comes};
+ghost use Rattle.wf_variables.specs.TreeValue.{member_runs, members_after};
 ghost use Rattle.wf_done.specs.Tracked.{tracked_from};
 
 use std::alloc::{AllocError, Global};
-use wf_eval::eval_tree;
-use wf_look::Look;
 use wf_template::Tree;
 use wf_val::{EvalFault, Fields, Text, Val};
+use wf_variables::{Look, eval_tree};
 
 // The values of members, or the first fault in the order of their names.
 fn members_of<L: Look>(

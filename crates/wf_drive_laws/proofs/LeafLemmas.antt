@@ -10,9 +10,9 @@ use Rattle.wf_scheduled.specs.Counts.{AreRunning}
 use Rattle.wf_scheduled.specs.Turns.{address_cmp}
 use Rattle.wf_scheduled.proofs.ListLemmas.{among_found, found_among}
 use Rattle.wf_asks.specs.Instances.{address_of, instance_cmp, instance_of, instance_total}
-use Rattle.wf_tables.specs.Tables.{leaf_tree, running_in}
-use Rattle.wf_tables.specs.declared.entries.LeafAt.{LeafAt}
-use Rattle.wf_tables.proofs.OpenLemmas.{found_at}
+use Rattle.wf_steps.specs.Tables.{leaf_tree, running_in}
+use Rattle.wf_steps.specs.LeafAt.{LeafAt}
+use Rattle.wf_steps.proofs.OpenLemmas.{found_at}
 
 module _ {Begun Started : Type 0} (see : Begun → Started) (leaves : List (LeafAt Begun))
     (order : IsInKeyOrder instance_cmp (λ (l : LeafAt Begun). l.instance) leaves) where

@@ -13,10 +13,10 @@ use Rattle.wf_kept.specs.Reached.{IsReached}
 use Rattle.wf_scheduled.specs.Turns.{AreEnabled, IsPicked, address_cmp}
 use Rattle.wf_scheduled.proofs.TurnLemmas.{listed_is}
 use Rattle.wf_asks.specs.Instances.{address_of, instance_cmp, instance_of}
-use Rattle.wf_tables.specs.Tables.{event_at, event_tree}
-use Rattle.wf_tables.specs.declared.entries.EventAt.{EventAt}
-use Rattle.wf_tables.specs.declared.entries.EventKind.{EventKind}
-use Rattle.wf_tables.specs.declared.entries.EventKind.TheVariants.{Start, Try, End, Skip, Open, Begin, Test, Close}
+use Rattle.wf_steps.specs.Tables.{event_at, event_tree}
+use Rattle.wf_steps.specs.EventAt.{EventAt}
+use Rattle.wf_steps.specs.EventKind.{EventKind}
+use Rattle.wf_steps.specs.EventKind.TheVariants.{Start, Try, End, Skip, Open, Begin, Test, Close}
 use Rattle.wf_steps.specs.Kept as steps
 
 place_is : (kind : EventKind) (n : ℕ) (i : List ℕ) → place_of (event_at kind n i) ≡ record { name = n; at = i }

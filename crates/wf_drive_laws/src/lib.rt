@@ -17,9 +17,9 @@ ghost use Rattle.wf_kept.specs.Reached.{IsReached};
 ghost use Rattle.wf_scheduled.specs.Counts.{AreRunning};
 ghost use Rattle.wf_scheduled.specs.Turns.{IsPicked};
 ghost use Rattle.wf_asks.specs.Instances.{instance_cmp};
-ghost use Rattle.wf_tables.specs.Tables.{event_tree, running_in};
-ghost use Rattle.wf_tables.specs.declared.entries.EventAt.{EventAt};
-ghost use Rattle.wf_tables.specs.declared.entries.LeafAt.{LeafAt};
+ghost use Rattle.wf_steps.specs.Tables.{event_tree, running_in};
+ghost use Rattle.wf_steps.specs.EventAt.{EventAt};
+ghost use Rattle.wf_steps.specs.LeafAt.{LeafAt};
 ghost use Rattle.wf_steps.specs.Kept.{Picked};
 
 /// The event that a state has at a place is the one at that place among those that may happen.

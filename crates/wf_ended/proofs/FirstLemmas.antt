@@ -8,9 +8,9 @@ use Rattle.wf_def.specs.DefTree.{DefTree}
 use Rattle.wf_def.specs.Names.{graph_names}
 use Rattle.wf_record.specs.Record.{Row}
 use Rattle.wf_order.specs.Table.{OrderTree, order_of}
-use Rattle.wf_meant.specs.Containers.{has_succeeded}
-use Rattle.wf_meant.specs.Points.{graph_of, is_before}
-use Rattle.wf_meant.specs.Record.{first_from, first_succeeded, row_found, row_outside, sooner}
+use Rattle.wf_catalog.specs.Containers.{has_succeeded}
+use Rattle.wf_catalog.specs.Points.{graph_of, is_before}
+use Rattle.wf_catalog.specs.Record.{first_from, first_succeeded, row_found, row_outside, sooner}
 use Rattle.wf_ended.specs.First.{first_among, places_of, row_of_place, sooner_of}
 
 abbrev place : ActionTree → Address

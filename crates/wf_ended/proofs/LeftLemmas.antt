@@ -4,11 +4,11 @@ use Rattle.wf_val.specs.ValueTree.{ValueTree}
 use Rattle.wf_layers.specs.Address.{Table}
 use Rattle.wf_def.specs.DefTree.{DefTree}
 use Rattle.wf_answers.specs.Inputs.{InputsTree}
-use Rattle.wf_trigger.specs.Starts.{StartTree}
+use Rattle.wf_catalog.specs.Starts.{StartTree}
 use Rattle.wf_record.specs.Record.{Row, RowTree}
-use Rattle.wf_environment.specs.Ending.{Ending}
-use Rattle.wf_environment.specs.Environment.{Environment, fresh}
-use Rattle.wf_meant.specs.Record.{ending_of, first_succeeded, is_response, record_of_table, responded, rows_of}
+use Rattle.wf_catalog.specs.Ending.{Ending}
+use Rattle.wf_catalog.specs.Environment.{Environment, fresh}
+use Rattle.wf_catalog.specs.Record.{ending_of, first_succeeded, is_response, record_of_table, responded, rows_of}
 use Rattle.wf_ended.specs.Left.{LeftTree, left_by, recorded}
 
 abbrev left_as : Ending → ValueTree → List RowTree → LeftTree

@@ -9,18 +9,18 @@ use Rattle.wf_def.specs.AllActions.{all_actions}
 use Rattle.wf_def.specs.DefTree.{DefTree}
 use Rattle.wf_def.specs.Names.{graph_names}
 use Rattle.wf_asks.specs.declared.known.RowAt.{RowAt}
-use Rattle.wf_done.specs.Done as done
+use Rattle.wf_catalog.specs.Done as done
 use Rattle.wf_order.specs.Table.{OrderTree, order_of}
 use Rattle.wf_record.specs.Record.{Row, RowTree}
 use Rattle.wf_record.specs.declared.row.Row as rows
 use Rattle.wf_record.specs.declared.status.RunStatus.{RunStatus}
 use Rattle.wf_record.specs.declared.status.Status.{Status}
-use Rattle.wf_trigger.specs.Starts.{StartTree}
-use Rattle.wf_meant.specs.Containers.{is_terminate}
-use Rattle.wf_meant.specs.Points.{graph_of}
-use Rattle.wf_meant.specs.Record.{is_response}
-use Rattle.wf_meant.specs.Rows.{row_of}
-use Rattle.wf_meant.proofs.Terms.{act, many, nat, of_actions, obj, success_of, value, words}
+use Rattle.wf_catalog.specs.Starts.{StartTree}
+use Rattle.wf_catalog.specs.Containers.{is_terminate}
+use Rattle.wf_catalog.specs.Points.{graph_of}
+use Rattle.wf_catalog.specs.Record.{is_response}
+use Rattle.wf_catalog.specs.Rows.{row_of}
+use Rattle.wf_catalog.proofs.Terms.{act, many, nat, of_actions, obj, success_of, value, words}
 use Rattle.wf_ended.specs.First.{first_among, places_of, row_of_place}
 use Rattle.wf_ended.specs.Found.{as_row, cost_of}
 use Rattle.wf_ended.specs.Left.{LeftTree, recorded, first_cost}

@@ -1,3 +1,4 @@
+pub use Rattle.wf_closing.proofs.InsideLemmas
 pub mod ListedLemmas
 pub mod TableLemmas
 pub mod NameLemmas

@@ -11,9 +11,9 @@ use Rattle.wf_layers.proofs.Basics.{two, when, unless}
 use Rattle.wf_def.specs.ActionTree.{ActionTree, ActionTrees, action_name, action_number}
 use Rattle.wf_def.specs.AllActions.{all_actions, has_number, numbered}
 use Rattle.wf_def.specs.Names.{graph_names}
-use Rattle.wf_reading.specs.Facts.{AreNumbered}
-use Rattle.wf_reading.specs.Numbers.{is_below}
-use Rattle.wf_refs.proofs.NumberLemmas.{names_are, numbers_are}
+use Rattle.wf_catalog.specs.Facts.{AreNumbered}
+use Rattle.wf_catalog.specs.Numbers.{is_below}
+use Rattle.wf_catalog.proofs.NumberLemmas.{names_are, numbers_are}
 use Rattle.std.proofs.lemmas.Map.Lookups.{exact_bytes}
 
 -- ---- of two names as many are below the lesser at most

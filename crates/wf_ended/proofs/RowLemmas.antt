@@ -26,15 +26,15 @@ use Rattle.wf_record.specs.Record as recorded
 use Rattle.wf_record.specs.Record.{RowTree}
 use Rattle.wf_record.specs.Seen.{row_tree}
 use Rattle.wf_record.specs.declared.row.Row.{Row}
-use Rattle.wf_reading.specs.Facts.{graph_numbers}
-use Rattle.wf_refs.proofs.NumberLemmas.{numbers_are}
-use Rattle.wf_meant.specs.Look.{name_in, name_of}
-use Rattle.wf_meant.specs.Points.{graph_of}
-use Rattle.wf_meant.specs.Record.{rows_of}
-use Rattle.wf_meant_laws.specs.Listed.{StandFor, told_as}
-use Rattle.wf_meant_laws.specs.Tables.{StandAtInstances}
-use Rattle.wf_meant_laws.proofs.RangeLemmas.{some_found}
-use Rattle.wf_views.specs.Seen.{row_content, rows_seen}
+use Rattle.wf_catalog.specs.Facts.{graph_numbers}
+use Rattle.wf_catalog.proofs.NumberLemmas.{numbers_are}
+use Rattle.wf_catalog.specs.Look.{name_in, name_of}
+use Rattle.wf_catalog.specs.Points.{graph_of}
+use Rattle.wf_catalog.specs.Record.{rows_of}
+use Rattle.wf_sight_laws.specs.Listed.{StandFor, told_as}
+use Rattle.wf_sight_laws.specs.Tables.{StandAtInstances}
+use Rattle.wf_sight_laws.proofs.RangeLemmas.{some_found}
+use Rattle.wf_sight_laws.specs.Seen.{row_content, rows_seen}
 use Rattle.wf_ended.specs.Found.{as_row, cost_of, own_address}
 use Rattle.wf_ended.proofs.ListedLemmas.{among_found}
 use Rattle.wf_ended.proofs.TableLemmas.{entries_are, entry_of}

@@ -14,7 +14,7 @@ use Rattle.wf_def.specs.AllActions.{has_number}
 use Rattle.wf_def.specs.Layered.{layered, layered_kind, need_of}
 use Rattle.wf_def.specs.declared.after.After.{After}
 use Rattle.wf_record.specs.Record.{Row}
-use Rattle.wf_meant.specs.Status.{graph_status}
+use Rattle.wf_catalog.specs.Status.{graph_status}
 use Rattle.wf_closing.specs.Judged.{status_by}
 use Rattle.wf_closing.specs.Steps.{FallInside, JudgedTree, StandApart, after_of, judged_of}
 use Rattle.wf_loops.proofs.HeldLemmas.{passed}

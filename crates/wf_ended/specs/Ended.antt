@@ -8,11 +8,11 @@ use Rattle.wf_def.specs.DefTree.{DefTree}
 use Rattle.wf_record.specs.Record.{Row}
 use Rattle.wf_opening.specs.Decisions.{DecisionTree}
 use Rattle.wf_opening.specs.Verdicts.{VerdictTree}
-use Rattle.wf_done.specs.Leaf.{BegunTree}
-use Rattle.wf_environment.specs.Environment.{Environment}
-use Rattle.wf_meant.specs.Answering.{table_by}
-use Rattle.wf_meant.specs.Points.{graph_of}
-use Rattle.wf_meant_laws.specs.Answered.{IsAnswered}
+use Rattle.wf_catalog.specs.Leaf.{BegunTree}
+use Rattle.wf_catalog.specs.Environment.{Environment}
+use Rattle.wf_catalog.specs.Answering.{table_by}
+use Rattle.wf_catalog.specs.Points.{graph_of}
+use Rattle.wf_sight_laws.specs.Answered.{IsAnswered}
 use Rattle.wf_sight_laws.specs.Writes.{writes}
 
 -- In an environment the actions of a definition answer by some source; each row that it means is there, and of each variable the store has

@@ -4,7 +4,7 @@ use Rattle.std.specs.Prelude.{Bool, cond, List, [], ◌∷◌, Option, None, Som
 use Rattle.wf_layers.specs.Address.{Address, Table, address}
 use Rattle.wf_def.specs.ActionTree.{ActionTree, KindTree, action_kind, action_number}
 use Rattle.wf_record.specs.Record.{Row}
-use Rattle.wf_meant.specs.Containers.{has_succeeded}
+use Rattle.wf_catalog.specs.Containers.{has_succeeded}
 use Rattle.wf_order.specs.Table.{OrderTree, before}
 
 -- where those of a kind stand

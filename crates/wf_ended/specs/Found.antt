@@ -7,8 +7,8 @@ use Rattle.wf_val.specs.declared.address.Address.{Address}
 use Rattle.wf_record.specs.Cost.{row_cost}
 use Rattle.wf_record.specs.Record.{RowTree}
 use Rattle.wf_record.specs.declared.row.Row.{Row}
-use Rattle.wf_meant.specs.Look.{instance}
-use Rattle.wf_views.specs.Seen.{row_content}
+use Rattle.wf_catalog.specs.Look.{instance}
+use Rattle.wf_sight_laws.specs.Seen.{row_content}
 
 -- at the address of its instance, whatever address the row has itself
 abbrev pub as_row : DefTree → RowAt Row → RowTree

@@ -3,11 +3,11 @@ use Rattle.std.specs.Prelude.{ℕ, ◌+◌, List}
 use Rattle.wf_val.specs.ValueTree.{ValueTree, members, object, weight}
 use Rattle.wf_layers.specs.Address.{Table}
 use Rattle.wf_def.specs.DefTree.{DefTree}
-use Rattle.wf_trigger.specs.Starts.{StartTree}
+use Rattle.wf_catalog.specs.Starts.{StartTree}
 use Rattle.wf_record.specs.Record.{RecordTree, Row, RowTree}
-use Rattle.wf_environment.specs.Ending.{Ending}
-use Rattle.wf_environment.specs.Environment.{Environment}
-use Rattle.wf_meant.specs.Record.{ending_of, first_succeeded, is_response, responded, rows_of}
+use Rattle.wf_catalog.specs.Ending.{Ending}
+use Rattle.wf_catalog.specs.Environment.{Environment}
+use Rattle.wf_catalog.specs.Record.{ending_of, first_succeeded, is_response, responded, rows_of}
 
 -- how it ended, what it answered its caller, and its rows in the order of their addresses
 pub record LeftTree : Type 0 where

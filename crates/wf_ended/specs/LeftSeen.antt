@@ -2,7 +2,7 @@
 use Rattle.std.specs.Prelude.{map}
 use Rattle.wf_val.specs.Seen.{tree}
 use Rattle.wf_record.specs.Seen.{row_tree}
-use Rattle.wf_environment.specs.Ending as meaning
+use Rattle.wf_catalog.specs.Ending as meaning
 use Rattle.wf_ended.specs.Left.{LeftTree}
 use Rattle.wf_ended.specs.declared.ending.Ending.{Ending}
 use Rattle.wf_ended.specs.declared.left.Left.{Left}

@@ -1,8 +1,8 @@
 //! How a run ends, and what it gives out.
 ghost use Rattle.std.specs.Prelude.{◌≡◌, IfOk};
 ghost use Rattle.wf_data.specs.Simple.{run_status_of};
-ghost use Rattle.wf_environment.specs.Ending.{ending, outputs_error, run_status};
-ghost use Rattle.wf_meant.specs.Record.{ended_by, error_given};
+ghost use Rattle.wf_catalog.specs.Ending.{ending, outputs_error, run_status};
+ghost use Rattle.wf_catalog.specs.Record.{ended_by, error_given};
 ghost use Rattle.wf_val.specs.Seen.{tree};
 ghost use Rattle.wf_ended.specs.LeftSeen.{ending_tree};
 

@@ -7,9 +7,9 @@ ghost use Rattle.wf_def.specs.ActionSeen.{action_tree, graph_tree};
 ghost use Rattle.wf_def.specs.ActionTree.{action_kind, action_number, actions_in};
 ghost use Rattle.wf_def.specs.AllActions.{all_actions};
 ghost use Rattle.wf_layers.specs.Address.{address};
-ghost use Rattle.wf_meant.specs.Containers.{is_terminate};
-ghost use Rattle.wf_meant.specs.Record.{is_response};
-ghost use Rattle.wf_reading.specs.ReadSeen.{def_tree};
+ghost use Rattle.wf_catalog.specs.Containers.{is_terminate};
+ghost use Rattle.wf_catalog.specs.Record.{is_response};
+ghost use Rattle.wf_catalog.specs.ReadSeen.{def_tree};
 ghost use Rattle.wf_ended.specs.First.{places_of};
 
 use std::alloc::{AllocError, Global};
@@ -17,7 +17,7 @@ use wf_asks::Instance;
 use wf_catalog::Places;
 use wf_closing::Judged;
 use wf_def::{Action, Graph, Kind, all_actions};
-use wf_rules::Checked;
+use wf_sight_laws::Checked;
 use wf_val::Indexes;
 
 /// Of a definition that breaks no rule the graph at the top, as it is judged, and where its Terminates and Responses stand.

@@ -1,9 +1,9 @@
 //! The first in the order of those that have Succeeded.
 ghost use Rattle.std.specs.Prelude.{◌≡◌, None, map, option_map};
 ghost use Rattle.wf_asks.specs.Instances.{address_of};
-ghost use Rattle.wf_meant.specs.Containers.{has_succeeded};
+ghost use Rattle.wf_catalog.specs.Containers.{has_succeeded};
 ghost use Rattle.wf_order.specs.OrderSeen.{order_tree};
-ghost use Rattle.wf_views.specs.Seen.{row_content, rows_seen};
+ghost use Rattle.wf_sight_laws.specs.Seen.{row_content, rows_seen};
 ghost use Rattle.wf_ended.specs.First.{better_of, first_among, row_of_place, sooner_of};
 
 use wf_asks::{Instance, Rows};

@@ -3,20 +3,20 @@ ghost use Rattle.std.specs.Prelude.{◌≡◌, ◌+◌, [], IfOk, map, option_ma
 ghost use Rattle.wf_answers.specs.InputsSeen.{inputs_tree};
 ghost use Rattle.wf_asks.specs.Known.{store_in};
 ghost use Rattle.wf_def.specs.ActionTree.{actions_in};
-ghost use Rattle.wf_environment.specs.Ending.{section};
-ghost use Rattle.wf_environment.specs.Environment.{fresh, last_facts};
-ghost use Rattle.wf_meant.specs.Containers.{is_terminate};
-ghost use Rattle.wf_meant.specs.Look.{told_to_outputs};
-ghost use Rattle.wf_meant.specs.Record.{ending_of, first_succeeded, is_response, plain_ending, record_of_table, responded, rows_of};
-ghost use Rattle.wf_meant.specs.Status.{graph_status};
-ghost use Rattle.wf_reading.specs.ReadSeen.{def_tree};
+ghost use Rattle.wf_catalog.specs.Ending.{section};
+ghost use Rattle.wf_catalog.specs.Environment.{fresh, last_facts};
+ghost use Rattle.wf_catalog.specs.Containers.{is_terminate};
+ghost use Rattle.wf_catalog.specs.Look.{told_to_outputs};
+ghost use Rattle.wf_catalog.specs.Record.{ending_of, first_succeeded, is_response, plain_ending, record_of_table, responded, rows_of};
+ghost use Rattle.wf_catalog.specs.Status.{graph_status};
+ghost use Rattle.wf_catalog.specs.ReadSeen.{def_tree};
 ghost use Rattle.wf_record.specs.Cost.{cost, row_cost};
 ghost use Rattle.wf_record.specs.Seen.{record_tree, row_tree};
-ghost use Rattle.wf_meant_laws.specs.Tables.{AreWhole};
-ghost use Rattle.wf_sight.specs.Laws.{run_of};
-ghost use Rattle.wf_views.specs.Seen.{row_content, rows_seen};
-ghost use Rattle.wf_sight.specs.SightSeen.{run_tree};
-ghost use Rattle.wf_trigger.specs.StartsSeen.{start_tree};
+ghost use Rattle.wf_sight_laws.specs.Tables.{AreWhole};
+ghost use Rattle.wf_sight_laws.specs.Laws.{run_of};
+ghost use Rattle.wf_sight_laws.specs.Seen.{row_content, rows_seen};
+ghost use Rattle.wf_sight_laws.specs.SightSightSeen.{run_tree};
+ghost use Rattle.wf_catalog.specs.StartsSeen.{start_tree};
 ghost use Rattle.wf_val.specs.Seen.{tree};
 ghost use Rattle.wf_val.specs.ValueTree.{weight};
 ghost use Rattle.wf_ended.specs.Ended.{HasEnded};
@@ -33,9 +33,9 @@ use crate::rows::rows_of;
 use std::alloc::{AllocError, Global};
 use wf_answers::Inputs;
 use wf_asks::{Known, Opens, Rows, Store};
+use wf_catalog::Start;
 use wf_record::{Record, Row, Status};
-use wf_sight::{Run, Sight};
-use wf_trigger::Start;
+use wf_sight_laws::{Run, Sight};
 use wf_val::{Digest, EvalFault, Fields, Indexes, Val};
 
 /// What a run leaves beside what it was started with.
@@ -97,9 +97,9 @@ impl<'a> Ends<'a> {
     {
         was_read(&self.checked.def);
         wf_closing::steps_give_the_status();
-        wf_known_laws::numbers_stand_once();
-        wf_known_laws::entries_stay_in_their_graph();
-        wf_known_laws::actions_have_depths();
+        wf_catalog::numbers_stand_once();
+        wf_catalog::entries_stay_in_their_graph();
+        wf_catalog::actions_have_depths();
         let status = self.top.status(alloc, &Indexes::new(alloc), rows)?;
         Ok(status)
     }
@@ -214,9 +214,9 @@ impl<'a> Ends<'a> {
         ensures cost { IfOk result (λ there. sum_by row_cost (map row_tree there) ≡ sum_by cost_of rows.0) }
     {
         was_read(&self.checked.def);
-        wf_meant_laws::listed_rows_stand_for_the_table();
-        wf_reading::numbers_are_places();
-        wf_known_laws::numbers_are_had();
+        wf_sight_laws::listed_rows_stand_for_the_table();
+        wf_catalog::numbers_are_places();
+        wf_catalog::numbers_are_had();
         let _count = rows.len();
         let items = rows.into_items()?;
         let there = rows_of(alloc, self.places, items)?;

@@ -2,7 +2,7 @@
 ghost use Rattle.std.specs.Prelude.{◌≡◌, [], IfOk, map};
 ghost use Rattle.wf_def.specs.DefSeen.{output_tree};
 ghost use Rattle.wf_eval.specs.TreeValue.{members_after, tree_value};
-ghost use Rattle.wf_environment.specs.Ending.{output_runs, section};
+ghost use Rattle.wf_catalog.specs.Ending.{output_runs, section};
 ghost use Rattle.wf_template.specs.DataSeen.{data_tree};
 ghost use Rattle.wf_val.specs.Arguments.{seen};
 

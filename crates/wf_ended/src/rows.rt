@@ -3,8 +3,8 @@ ghost use Rattle.std.specs.Prelude.{◌≡◌, ◌++◌, ◌∷◌, [], IfOk, On
 ghost use Rattle.wf_lists.specs.KeyOrder.{IsAboveKeys, IsInKeyOrder};
 ghost use Rattle.wf_val.specs.Address.{address_cmp};
 ghost use Rattle.wf_asks.specs.Instances.{address_of};
-ghost use Rattle.wf_meant.specs.Look.{instance, name_of};
-ghost use Rattle.wf_reading.specs.ReadSeen.{def_tree};
+ghost use Rattle.wf_catalog.specs.Look.{instance, name_of};
+ghost use Rattle.wf_catalog.specs.ReadSeen.{def_tree};
 ghost use Rattle.wf_record.specs.Record as recorded;
 ghost use Rattle.wf_record.specs.Seen.{row_tree};
 ghost use Rattle.wf_ended.specs.Found.{as_row, own_address};

@@ -2,8 +2,8 @@
 use Rattle.std.proofs.Common.{◌≡◌, ℕ, Bool, true, false, List, [], ◌∷◌, Option, Some, None, refl}
 use Rattle.wf_layers.specs.Address.{address}
 use Rattle.wf_layers.specs.Definition.{InTurn, AtMost}
-use Rattle.wf_asks.specs.declared.known.OpenAt.{OpenAt}
-use Rattle.wf_plan.specs.Plan.{BranchTree, PlanTree, choice, foreach, leaf, scope, until}
+use Rattle.wf_events.specs.OpenAt.{OpenAt}
+use Rattle.wf_events.specs.Plan.{BranchTree, PlanTree, choice, foreach, leaf, scope, until}
 use Rattle.wf_enter.specs.Begun.{begun_in, counts_at, counts_turns}
 use Rattle.wf_enter.specs.Entered.{graph_of, is_at}
 use Rattle.wf_enter.specs.Graphs.{opened_at, opened_numbers, passed_at, turned_at, turned_numbers}

@@ -15,14 +15,14 @@ use Rattle.wf_kept.proofs.Informed.{open_stands, running_stands}
 use Rattle.wf_kept.proofs.Known.{Known, goes_on, known}
 use Rattle.wf_step_laws.specs.Edits.{IsEntered, event_by, has_own_of, looked, opened_graph, size_of, turned_graph}
 use Rattle.wf_step_laws.proofs.Placed.{kind_at}
-use Rattle.wf_asks.specs.Known.{is_among}
-use Rattle.wf_plan.specs.Plan.{BranchTree, PlanTree, branch_of, own_numbers, shape_of}
-use Rattle.wf_plan.specs.PlanOf.{IsPlanOf}
-use Rattle.wf_plan.specs.PlanSeen.{or_none}
-use Rattle.wf_plan.proofs.GraphLemmas as graphs
-use Rattle.wf_plan.proofs.GraphLemmas.{taken_is}
-use Rattle.wf_tables.specs.Counts.{needs_at}
-use Rattle.wf_tables.proofs.CountLemmas.{needs_are, own_size}
+use Rattle.wf_events.specs.Known.{is_among}
+use Rattle.wf_events.specs.Plan.{BranchTree, PlanTree, branch_of, own_numbers, shape_of}
+use Rattle.wf_events.specs.PlanOf.{IsPlanOf}
+use Rattle.wf_events.specs.PlanSeen.{or_none}
+use Rattle.wf_events.proofs.GraphLemmas as graphs
+use Rattle.wf_events.proofs.GraphLemmas.{taken_is}
+use Rattle.wf_events.specs.Counts.{needs_at}
+use Rattle.wf_events.proofs.CountLemmas.{needs_are, own_size}
 use Rattle.wf_events.specs.Looked.{idle_at, open_at}
 use Rattle.wf_events.proofs.LookLemmas.{idle_there, open_there}
 use Rattle.wf_enter.specs.Entered.{IsEnteredBy}

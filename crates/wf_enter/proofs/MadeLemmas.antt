@@ -4,12 +4,12 @@ use Rattle.wf_layers.specs.Address.{Address, Table, is_own}
 use Rattle.wf_layers.specs.Machine.{Event, State, has_ended}
 use Rattle.wf_layers.specs.Source.{Source}
 use Rattle.wf_kept.specs.Counted.{nonzero}
-use Rattle.wf_asks.specs.Instances.{address_of}
-use Rattle.wf_asks.specs.declared.instance.Instance.{Instance}
-use Rattle.wf_plan.specs.Plan.{PlanTree}
-use Rattle.wf_plan.specs.PlanSeen.{or_none}
-use Rattle.wf_tables.specs.Counts.{entered_counts, set_all}
-use Rattle.wf_tables.proofs.CountLemmas.{entered_set}
+use Rattle.wf_events.specs.Instances.{address_of}
+use Rattle.wf_events.specs.Instance.{Instance}
+use Rattle.wf_events.specs.Plan.{PlanTree}
+use Rattle.wf_events.specs.PlanSeen.{or_none}
+use Rattle.wf_events.specs.Counts.{entered_counts, set_all}
+use Rattle.wf_events.proofs.CountLemmas.{entered_set}
 use Rattle.wf_events.specs.Looked.{idle_at, look_each, open_at}
 use Rattle.wf_events.proofs.LookLemmas.{looked_all}
 use Rattle.wf_enter.specs.Entered.{IsEnteredBy, IsMade, graph_of, is_at}

@@ -3,11 +3,11 @@ use Rattle.std.specs.Prelude.{ℕ, ◌+◌, ◌<◌, Bool, false, cond, List, Op
 use Rattle.wf_lists.specs.KeyOrder.{find_key, put_key, without_key}
 use Rattle.wf_layers.specs.Machine as machine
 use Rattle.wf_layers.specs.Source.{Source}
-use Rattle.wf_asks.specs.Instances.{instance_cmp}
-use Rattle.wf_asks.specs.declared.instance.Instance.{Instance}
-use Rattle.wf_asks.specs.declared.known.OpenAt.{OpenAt}
-use Rattle.wf_plan.specs.Plan.{EntryTree, PlanTree, ShapeTree, leaf, scope, choice, foreach, until}
-use Rattle.wf_plan.specs.PlanSeen.{at_place}
+use Rattle.wf_events.specs.Instances.{instance_cmp}
+use Rattle.wf_events.specs.Instance.{Instance}
+use Rattle.wf_events.specs.OpenAt.{OpenAt}
+use Rattle.wf_events.specs.Plan.{EntryTree, PlanTree, ShapeTree, leaf, scope, choice, foreach, until}
+use Rattle.wf_events.specs.PlanSeen.{at_place}
 
 -- An iteration that begins is unfinished: it is one of a Foreach, whose graph has an action.
 abbrev pub counts_turns : ShapeTree → Bool

@@ -4,11 +4,11 @@ use Rattle.wf_layers.specs.Address.{Address, Table, is_own, same_at}
 use Rattle.wf_layers.specs.Machine.{Event, State, has_ended}
 use Rattle.wf_layers.specs.Source.{Source}
 use Rattle.wf_kept.specs.Counted.{nonzero}
-use Rattle.wf_asks.specs.Known.{is_among}
-use Rattle.wf_asks.specs.declared.instance.Instance.{Instance}
-use Rattle.wf_plan.specs.Plan.{PlanTree}
-use Rattle.wf_plan.specs.PlanSeen.{or_none}
-use Rattle.wf_tables.specs.Counts.{entered_counts, needs_at}
+use Rattle.wf_events.specs.Known.{is_among}
+use Rattle.wf_events.specs.Instance.{Instance}
+use Rattle.wf_events.specs.Plan.{PlanTree}
+use Rattle.wf_events.specs.PlanSeen.{or_none}
+use Rattle.wf_events.specs.Counts.{entered_counts, needs_at}
 use Rattle.wf_events.specs.Looked.{idle_at, instances_at, open_at}
 use Rattle.wf_enter.specs.declared.edits.Entering.{Entering}
 

@@ -1,7 +1,7 @@
 -- Which graph a container enters, by a plan: as the numbers of its actions.
 use Rattle.std.specs.Prelude.{ℕ, List, [], Option, Some, None, option_map}
-use Rattle.wf_plan.specs.Plan.{EntryTree, PlanTree, ShapeTree, leaf, scope, choice, foreach, until, passed_over, taken_at}
-use Rattle.wf_plan.specs.PlanSeen.{at_place}
+use Rattle.wf_events.specs.Plan.{EntryTree, PlanTree, ShapeTree, leaf, scope, choice, foreach, until, passed_over, taken_at}
+use Rattle.wf_events.specs.PlanSeen.{at_place}
 
 -- As it opens, with a decision that takes the branch of this number, counted from 1: a Scope its own, an If or a Switch that branch.
 abbrev pub opened_numbers : ShapeTree → ℕ → Option (List ℕ)

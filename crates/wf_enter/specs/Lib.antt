@@ -1,3 +1,14 @@
+pub use Rattle.wf_events.specs.CountAt
+pub use Rattle.wf_events.specs.Counts
+pub use Rattle.wf_events.specs.EventAt
+pub use Rattle.wf_events.specs.Instance
+pub use Rattle.wf_events.specs.Instances
+pub use Rattle.wf_events.specs.Known
+pub use Rattle.wf_events.specs.Looked
+pub use Rattle.wf_events.specs.OpenAt
+pub use Rattle.wf_events.specs.Plan
+pub use Rattle.wf_events.specs.PlanSeen
+pub use Rattle.wf_events.specs.Tables
 pub mod Graphs
 pub mod Entered
 pub mod Begun

@@ -3,21 +3,21 @@ ghost use Rattle.std.specs.Prelude.{◌≡◌, ◌<◌, ◌≤◌, ◌-◌, ◌�
 ghost use Rattle.wf_layers.specs.Address.{Address, address, is_own};
 ghost use Rattle.wf_layers.specs.Changes.{next_of};
 ghost use Rattle.wf_kept.specs.Counted.{nonzero};
-ghost use Rattle.wf_asks.specs.Instances.{address_of, rows_in};
-ghost use Rattle.wf_asks.specs.Known.{opens_in};
-ghost use Rattle.wf_plan.specs.PlanSeen.{plan_tree};
-ghost use Rattle.wf_tables.specs.Counts.{set_all};
-ghost use Rattle.wf_tables.specs.Tables.{count_in, events_in, left_in};
+ghost use Rattle.wf_events.specs.Instances.{address_of, rows_in};
+ghost use Rattle.wf_events.specs.Known.{opens_in};
+ghost use Rattle.wf_events.specs.PlanSeen.{plan_tree};
+ghost use Rattle.wf_events.specs.Counts.{set_all};
+ghost use Rattle.wf_events.specs.Tables.{count_in, events_in, left_in};
 ghost use Rattle.wf_events.specs.Looked.{idle_at, look_each, open_at};
 ghost use Rattle.wf_enter.specs.Entered.{is_at};
 
 use crate::edits::Entering;
 use std::alloc::AllocError;
-use wf_asks::{Acts, Instance, Opens, Rows, Store};
-use wf_events::{look_at_each, look_at_open};
-use wf_plan::Plan;
+use wf_events::{
+    Acts, CountAt, EventAt, Instance, Opens, Plan, Rows, Store, enter, look_at_each, look_at_open,
+    set_counts,
+};
 use wf_room::Roomy;
-use wf_tables::{CountAt, EventAt, enter, set_counts};
 
 /// Makes room for what is put.
 pub fn make_room(

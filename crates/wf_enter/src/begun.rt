@@ -2,14 +2,13 @@
 ghost use Rattle.std.specs.Prelude.{◌≡◌, ◌<◌, ◌≤◌, ◌^◌, ◌+◌, ◌-◌, cond, true};
 ghost use Rattle.wf_lists.specs.KeyOrder.{IsInKeyOrder};
 ghost use Rattle.wf_layers.specs.Changes.{next_of};
-ghost use Rattle.wf_asks.specs.Instances.{address_of, instance_cmp};
-ghost use Rattle.wf_asks.specs.Known.{opens_in};
-ghost use Rattle.wf_plan.specs.PlanSeen.{plan_tree, shape_tree};
-ghost use Rattle.wf_tables.specs.Tables.{left_in};
+ghost use Rattle.wf_events.specs.Instances.{address_of, instance_cmp};
+ghost use Rattle.wf_events.specs.Known.{opens_in};
+ghost use Rattle.wf_events.specs.PlanSeen.{plan_tree, shape_tree};
+ghost use Rattle.wf_events.specs.Tables.{left_in};
 ghost use Rattle.wf_enter.specs.Begun.{IsBelow, begun, begun_in, counts_at, counts_turns, limit_at, limit_of};
 
-use wf_asks::{Acts, Instance, OpenAt, Opens};
-use wf_plan::{Plan, Shape};
+use wf_events::{Acts, Instance, OpenAt, Opens, Plan, Shape};
 
 fn counts_of(shape: &Shape) -> bool
     ensures { result ≡ counts_turns (shape_tree shape.now) }

@@ -1,16 +1,13 @@
 //! What is put as a graph is entered, made before.
 ghost use Rattle.std.specs.Prelude.{◌≡◌, ◌∷◌, ◌++◌, [], IfOk, option_map};
-ghost use Rattle.wf_plan.specs.PlanSeen.{or_none, plan_tree};
+ghost use Rattle.wf_events.specs.PlanSeen.{or_none, plan_tree};
 ghost use Rattle.wf_enter.specs.Entered.{IsMade, graph_of};
 ghost use Rattle.wf_enter.specs.Graphs.{opened_at, turned_at};
 
 use crate::graphs::{opened_graph, turned_graph};
 use std::alloc::{AllocError, Global};
-use wf_asks::Instance;
-use wf_events::instances;
+use wf_events::{CountAt, Instance, Plan, entered, instances};
 use wf_lists::TryCopy;
-use wf_plan::Plan;
-use wf_tables::{CountAt, entered};
 use wf_val::Indexes;
 
 /// What is put in counts and in the ready set as a container opens or begins an iteration.

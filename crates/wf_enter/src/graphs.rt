@@ -1,9 +1,9 @@
 //! Which graph a container enters.
 ghost use Rattle.std.specs.Prelude.{◌≡◌, option_map};
-ghost use Rattle.wf_plan.specs.PlanSeen.{plan_tree, shape_tree};
+ghost use Rattle.wf_events.specs.PlanSeen.{plan_tree, shape_tree};
 ghost use Rattle.wf_enter.specs.Graphs.{opened_at, opened_numbers, turned_at, turned_numbers};
 
-use wf_plan::{Plan, Shape};
+use wf_events::{Plan, Shape};
 
 fn opened_of(shape: &Shape, taken: u64) -> Option<&[u32]>
     ensures { option_map (λ ns. ns.now) result ≡ opened_numbers (shape_tree shape.now) taken }

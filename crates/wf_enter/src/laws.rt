@@ -6,8 +6,8 @@ ghost use Rattle.wf_layers.specs.Machine.{Begin, Event, Open, Opening, State, St
 ghost use Rattle.wf_layers.specs.Source.{Source};
 ghost use Rattle.wf_kept.specs.Reached.{IsReached};
 ghost use Rattle.wf_step_laws.specs.Edits.{IsEntered, opened_graph, turned_graph};
-ghost use Rattle.wf_plan.specs.Plan.{PlanTree};
-ghost use Rattle.wf_plan.specs.PlanOf.{IsPlanOf};
+ghost use Rattle.wf_events.specs.Plan.{PlanTree};
+ghost use Rattle.wf_events.specs.PlanOf.{IsPlanOf};
 ghost use Rattle.wf_enter.specs.Entered.{IsEnteredBy};
 ghost use Rattle.wf_enter.specs.Graphs.{opened_at, turned_at};
 

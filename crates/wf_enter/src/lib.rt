@@ -20,3 +20,7 @@ pub use edits::{Entering, opening_edits, turning_edits};
 pub use graphs::{opened_graph, turned_graph};
 pub use laws::graphs_are_entered;
 pub use passed::passed_rows;
+pub use wf_events::{
+    Acts, CountAt, Entry, EventAt, Instance, Known, Opens, Plan, Rows, Store, Wait, last_iteration,
+    look_at, look_at_open, set_counts, take_event,
+};

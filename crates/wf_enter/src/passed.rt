@@ -1,13 +1,11 @@
 //! The rows of branches that aren't taken.
 ghost use Rattle.std.specs.Prelude.{◌≡◌, IfOk, map};
-ghost use Rattle.wf_plan.specs.PlanSeen.{plan_tree};
-ghost use Rattle.wf_tables.specs.Blocks.{skipped_at};
+ghost use Rattle.wf_events.specs.PlanSeen.{plan_tree};
+ghost use Rattle.wf_events.specs.Blocks.{skipped_at};
 ghost use Rattle.wf_enter.specs.Graphs.{passed_at};
 
 use std::alloc::{AllocError, Global};
-use wf_asks::{Acts, Instance, RowAt};
-use wf_plan::Plan;
-use wf_tables::skipped_rows;
+use wf_events::{Acts, Instance, Plan, RowAt, skipped_rows};
 
 fn passed_numbers(
     alloc: Global,

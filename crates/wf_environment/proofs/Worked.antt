@@ -1,13 +1,13 @@
 -- Worked values: what actions and the section `outputs` go by where each layer has other inputs in every respect, and how runs end.
 use Rattle.std.proofs.Common.{◌≡◌, ℕ, List, [], ◌∷◌, Some, true, Ok, Err, refl}
 use Rattle.std.specs.Prelude.{bytes_eq, codes, pos}
-use Rattle.wf_answers.specs.AnswerTree.{AnswerTree}
-use Rattle.wf_answers.specs.Inputs.{InputsTree}
+use Rattle.wf_trigger.specs.AnswerTree.{AnswerTree}
+use Rattle.wf_trigger.specs.Inputs.{InputsTree}
 use Rattle.wf_trigger.specs.Starts.{StartTree, trigger_value}
 use Rattle.wf_val.specs.ValueTree.{null, number, text, object, members, no_members}
 use Rattle.wf_val.specs.declared.fault.EvalFault.{EvalFault}
-use Rattle.wf_json.specs.FaultText.{fault_text}
-use Rattle.wf_layers.specs.Definition as layered
+use Rattle.wf_record.specs.FaultText.{fault_text}
+use Rattle.wf_trigger.specs.Definition as layered
 use Rattle.wf_record.specs.declared.status.RunStatus.{RunStatus}
 use Rattle.wf_record.specs.declared.status.Status.TheVariants.{Succeeded, Failed, Skipped, TimedOut, Cancelled}
 use Rattle.wf_environment.specs.Environment.{Environment, facts_of, last_facts}

@@ -2,11 +2,11 @@
 use Rattle.std.specs.Prelude.{ℕ, List, [], ◌∷◌, Result, Ok, Err, map, codes}
 use Rattle.wf_val.specs.ValueTree.{ValueTree, Member, null, text, object, members}
 use Rattle.wf_val.specs.declared.fault.EvalFault.{EvalFault}
-use Rattle.wf_def.specs.DefTree.{OutputTree}
-use Rattle.wf_look.specs.Outcomes.{Run}
-use Rattle.wf_look.specs.Told.{Told}
+use Rattle.wf_trigger.specs.DefTree.{OutputTree}
+use Rattle.wf_trigger.specs.Outcomes.{Run}
+use Rattle.wf_trigger.specs.Told.{Told}
 use Rattle.wf_trigger.specs.TreeValue.{members_after, tree_value}
-use Rattle.wf_json.specs.FaultText.{fault_text}
+use Rattle.wf_record.specs.FaultText.{fault_text}
 use Rattle.wf_record.specs.declared.status.Status as row_status
 use Rattle.wf_record.specs.declared.status.RunStatus.{RunStatus}
 

@@ -1,7 +1,7 @@
 -- What a run goes by: how it was started, and its inputs.
 use Rattle.std.specs.Prelude.{ℕ, Bool, List, [], ◌∷◌, if◌then◌else◌}
-use Rattle.wf_answers.specs.AnswerTree.{AnswerTree}
-use Rattle.wf_answers.specs.Inputs.{InputsTree}
+use Rattle.wf_trigger.specs.AnswerTree.{AnswerTree}
+use Rattle.wf_trigger.specs.Inputs.{InputsTree}
 use Rattle.wf_trigger.specs.Starts.{StartTree}
 
 -- Inputs that hold for a set of actions, by their names: those that were done anew with these inputs.

@@ -1,3 +1,11 @@
+pub use Rattle.wf_record.specs.Record
+pub use Rattle.wf_record.specs.declared.status.RunStatus
+pub use Rattle.wf_record.specs.declared.status.Status
+pub use Rattle.wf_record.specs.declared.attempt.Try
+pub use Rattle.wf_trigger.specs.Runs
+pub use Rattle.wf_trigger.specs.declared.starts.Start
+pub use Rattle.wf_trigger.specs.StartsSeen
+pub use Rattle.wf_trigger.specs.declared.fault.TriggerFault
 pub use Rattle.wf_trigger.specs.Starts
 pub mod Environment
 pub mod Statuses

@@ -1,5 +1,5 @@
 -- The statuses of records, as the laws of order know them.
-use Rattle.wf_layers.specs.Definition as layered
+use Rattle.wf_trigger.specs.Definition as layered
 use Rattle.wf_record.specs.declared.status.Status.{Status}
 use Rattle.wf_record.specs.declared.status.Status.TheVariants.{Succeeded, Failed, Skipped, TimedOut, Cancelled}
 

@@ -12,6 +12,8 @@ ghost use Rattle.std.specs.Prelude.{◌≡◌, ◌∷◌, ◌++◌, [], false, t
 ghost use Rattle.std.specs.List.{list_any};
 ghost use Rattle.wf_environment.specs.Environment.{Environment, Layer, facts_of, first_facts, last_facts, layer_facts};
 
+pub use wf_trigger::{Start, TriggerFault};
+
 /// An action goes by the last layer that has it, else by the run that came first; the section `outputs` and the record by the last layer.
 pub fn the_last_layer_counts()
     ensures none { (e : Environment) (name : List ℕ) → list_any (λ (layer : Layer). layer.redone name) e.layers ≡ false

@@ -6,10 +6,10 @@ use Rattle.wf_template.specs.CondTree.{CondTree, holds, all_of, any_of, not_of, 
 use Rattle.wf_template.specs.CondSeen.{cond_tree}
 use Rattle.wf_template.specs.DataTree.{DataTree}
 use Rattle.wf_template.specs.declared.cond.Cond.{Cond}
-use Rattle.wf_look.specs.Told.{Told}
-use Rattle.wf_look.specs.Meets.{MeetsFault}
-use Rattle.wf_look.specs.Outcomes.{Outcome, turned}
-use Rattle.wf_look.specs.Early.{stop}
+use Rattle.wf_eval_expr.specs.Told.{Told}
+use Rattle.wf_eval_expr.specs.Meets.{MeetsFault}
+use Rattle.wf_eval_expr.specs.Outcomes.{Outcome, turned}
+use Rattle.wf_eval_expr.specs.Early.{stop}
 use Rattle.wf_eval_expr.specs.Value.{early, or_go_on}
 use Rattle.wf_eval.specs.TreeValue.{tree_value}
 use Rattle.wf_eval.specs.Truth.{compared, truth_of, truths_of, cond_count, conds_count}

@@ -4,8 +4,8 @@ use Rattle.wf_val.specs.ValueTree.{ValueTree, null, boolean, number, text, list,
 use Rattle.wf_template.specs.ExprTree.{ExprTree}
 use Rattle.wf_template.specs.TemplateTree.{TemplateTree, plain, whole, parts}
 use Rattle.wf_template.specs.DataTree as inputs
-use Rattle.wf_look.specs.Outcomes.{all_after}
-use Rattle.wf_look.specs.Told.{Told}
+use Rattle.wf_eval_expr.specs.Outcomes.{all_after}
+use Rattle.wf_eval_expr.specs.Told.{Told}
 use Rattle.wf_eval_expr.specs.Joined.{joined, text_answer}
 use Rattle.wf_eval_expr.specs.Value.{value}
 use Rattle.wf_eval_expr.proofs.Fitting.{IsFitting, value-good, bounded-good, given-good, truth-fits}

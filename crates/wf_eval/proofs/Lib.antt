@@ -1,3 +1,7 @@
+pub use Rattle.wf_eval_expr.proofs.Fitting as EvalExprFitting
+pub use Rattle.wf_eval_expr.proofs.Local as EvalExprLocal
+pub use Rattle.wf_eval_expr.proofs.WorkedExpressions
+pub use Rattle.wf_eval_expr.proofs.WorkedLook
 mod PieceLoops
 mod TreeLoops
 mod CondLoops

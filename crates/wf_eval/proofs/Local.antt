@@ -5,8 +5,8 @@ use Rattle.wf_template.specs.ExprTree.{ExprTree}
 use Rattle.wf_template.specs.TemplateTree.{PieceTree, letters, part, TemplateTree, plain, whole, parts}
 use Rattle.wf_template.specs.DataTree as inputs
 use Rattle.wf_template.specs.CondTree.{CondTree, holds, all_of, any_of, not_of, compare_by, CondTrees, no_conds, cond_then}
-use Rattle.wf_look.specs.Outcomes.{then_run, turned, all_after}
-use Rattle.wf_look.specs.Told.{Told}
+use Rattle.wf_eval_expr.specs.Outcomes.{then_run, turned, all_after}
+use Rattle.wf_eval_expr.specs.Told.{Told}
 use Rattle.wf_eval_expr.specs.Joined.{joined, text_answer}
 use Rattle.wf_eval_expr.specs.Uses.{uses, AgreeAt}
 use Rattle.wf_eval_expr.specs.Value.{early, value}

@@ -4,14 +4,14 @@ use Rattle.std.proofs.Common.{le_refl}
 use Rattle.std.proofs.lemmas.List.{drop_all}
 use Rattle.wf_val.specs.Arguments.{Answer}
 use Rattle.wf_val.specs.declared.fault.EvalFault.{EvalFault}
-use Rattle.wf_json.specs.Json as json_text
+use Rattle.wf_eval_expr.specs.Json as json_text
 use Rattle.wf_template.specs.TemplateSeen.{piece_tree}
 use Rattle.wf_template.specs.TemplateTree.{PieceTree, letters, part, TemplateTree, plain, whole, parts}
 use Rattle.wf_template.specs.declared.template.Piece.{Piece}
-use Rattle.wf_look.specs.Measured.{Measured, with_more, measured_answer}
-use Rattle.wf_look.specs.Meets.{Meets, MeetsFault}
-use Rattle.wf_look.specs.Outcomes.{Run, turned}
-use Rattle.wf_look.specs.Told.{Told}
+use Rattle.wf_eval_expr.specs.Measured.{Measured, with_more, measured_answer}
+use Rattle.wf_eval_expr.specs.Meets.{Meets, MeetsFault}
+use Rattle.wf_eval_expr.specs.Outcomes.{Run, turned}
+use Rattle.wf_eval_expr.specs.Told.{Told}
 use Rattle.wf_eval_expr.specs.Joined.{joined, text_answer}
 use Rattle.wf_eval_expr.specs.MeasuredRuns.{measured}
 use Rattle.wf_eval_expr.proofs.Grow.{IsGrowing, AreGrowing, then_run-grows, value-grows, handed}

@@ -8,9 +8,9 @@ use Rattle.wf_val.specs.declared.fault.EvalFault.{EvalFault}
 use Rattle.wf_template.specs.DataTree as inputs
 use Rattle.wf_template.specs.DataSeen.{data_tree, data_member}
 use Rattle.wf_template.specs.declared.tree.Tree.{Tree}
-use Rattle.wf_look.specs.Told.{Told}
-use Rattle.wf_look.specs.Meets.{MeetsFault}
-use Rattle.wf_look.specs.Outcomes.{Run, all_after}
+use Rattle.wf_eval_expr.specs.Told.{Told}
+use Rattle.wf_eval_expr.specs.Meets.{MeetsFault}
+use Rattle.wf_eval_expr.specs.Outcomes.{Run, all_after}
 use Rattle.wf_eval_expr.proofs.Grow.{IsGrowing, AreGrowing, then_run-grows, all_after-grows, handed}
 use Rattle.wf_eval_expr.proofs.Meeting.{of_memory}
 use Rattle.wf_eval_expr.proofs.Loops.{drop-item}

@@ -8,8 +8,8 @@ use Rattle.wf_template.specs.ExprTree.{ExprTree, literal}
 use Rattle.wf_template.specs.TemplateTree.{letters, part, plain, whole, parts}
 use Rattle.wf_template.specs.DataTree as inputs
 use Rattle.wf_template.specs.CondTree.{CondTree, holds, all_of, any_of, not_of, compare_by, cond_trees}
-use Rattle.wf_look.specs.Outcomes.{Outcome}
-use Rattle.wf_look.proofs.WorkedLook.{nested, somewhere}
+use Rattle.wf_eval_expr.specs.Outcomes.{Outcome}
+use Rattle.wf_eval_expr.proofs.WorkedLook.{nested, somewhere}
 use Rattle.wf_eval_expr.proofs.WorkedExpressions.{word, truth, untruth, nothing, by_zero, rest_by_zero}
 use Rattle.wf_eval.specs.TemplateValue.{template_value}
 use Rattle.wf_eval.specs.TreeValue.{tree_value}

@@ -2,8 +2,8 @@
 use Rattle.std.specs.Prelude.{List, [], ◌∷◌, Ok}
 use Rattle.wf_val.specs.ValueTree.{text}
 use Rattle.wf_template.specs.TemplateTree.{PieceTree, letters, part, TemplateTree, plain, whole, parts}
-use Rattle.wf_look.specs.Outcomes.{Run, turned}
-use Rattle.wf_look.specs.Told.{Told}
+use Rattle.wf_eval_expr.specs.Outcomes.{Run, turned}
+use Rattle.wf_eval_expr.specs.Told.{Told}
 use Rattle.wf_eval_expr.specs.Joined.{joined, text_answer}
 use Rattle.wf_eval_expr.specs.Value.{value}
 

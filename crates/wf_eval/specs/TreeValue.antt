@@ -6,9 +6,9 @@ use Rattle.wf_val.specs.NameOrder.{put_named}
 use Rattle.wf_val.specs.ValueTree as val
 use Rattle.wf_val.specs.declared.fault.EvalFault.{EvalFault}
 use Rattle.wf_template.specs.DataTree as inputs
-use Rattle.wf_look.specs.Outcomes.{Run, then_run, turned, all_after}
+use Rattle.wf_eval_expr.specs.Outcomes.{Run, then_run, turned, all_after}
 use Rattle.wf_eval.specs.TemplateValue.{template_value}
-use Rattle.wf_look.specs.Told.{Told}
+use Rattle.wf_eval_expr.specs.Told.{Told}
 
 -- the values of members in the order of their names, beside those that are there
 abbrev pub members_after : List (List ℕ × Run) → List val.Member → ℕ → Result (List val.Member) EvalFault × ℕ

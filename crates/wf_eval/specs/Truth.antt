@@ -4,10 +4,10 @@ use Rattle.wf_val.specs.Arguments.{Answer, given, wrong_type}
 use Rattle.wf_val.specs.ValueTree.{ValueTree, boolean}
 use Rattle.wf_val.specs.declared.function.Fun.{Fun}
 use Rattle.wf_template.specs.CondTree.{CondTree, holds, all_of, any_of, not_of, compare_by, CondTrees, no_conds, cond_then}
-use Rattle.wf_look.specs.Outcomes.{Run, then_run, turned}
-use Rattle.wf_look.specs.Rows.{strict_row}
+use Rattle.wf_eval_expr.specs.Outcomes.{Run, then_run, turned}
+use Rattle.wf_eval_expr.specs.Rows.{strict_row}
 use Rattle.wf_eval.specs.TemplateValue.{template_value}
-use Rattle.wf_look.specs.Told.{Told}
+use Rattle.wf_eval_expr.specs.Told.{Told}
 use Rattle.wf_eval.specs.TreeValue.{tree_value}
 use Rattle.wf_eval_expr.specs.Value.{early}
 

@@ -5,15 +5,15 @@ ghost use Rattle.wf_val.specs.Seen.{tree};
 ghost use Rattle.wf_template.specs.CondSeen.{cond_tree};
 ghost use Rattle.wf_template.specs.CondTree.{cond_trees, compare_by};
 ghost use Rattle.wf_template.specs.DataSeen.{data_tree};
-ghost use Rattle.wf_look.specs.Meets.{Meets, truth_seen};
-ghost use Rattle.wf_look.specs.Rows.{strict_row as row_in};
+ghost use Rattle.wf_eval_expr.specs.Meets.{Meets, truth_seen};
+ghost use Rattle.wf_eval_expr.specs.Rows.{strict_row as row_in};
 ghost use Rattle.wf_eval.specs.Truth.{compared, truth, truth_of, truths_of};
 ghost use Rattle.wf_eval_expr.specs.Value.{early};
 
 use crate::template::eval;
 use crate::tree::eval_tree;
 use std::alloc::Global;
-use wf_look::{Look, strict_row};
+use wf_eval_expr::{Look, strict_row};
 use wf_template::{Cond, Tree};
 use wf_val::{EvalFault, Fun, Val, Vals, wrong_type};
 

@@ -4,7 +4,7 @@ ghost use Rattle.wf_val.specs.ValueTree.{ValueTree, Fits};
 ghost use Rattle.wf_template.specs.TemplateTree.{TemplateTree};
 ghost use Rattle.wf_template.specs.DataTree.{DataTree};
 ghost use Rattle.wf_template.specs.CondTree.{CondTree};
-ghost use Rattle.wf_look.specs.Told.{Told};
+ghost use Rattle.wf_eval_expr.specs.Told.{Told};
 ghost use Rattle.wf_eval_expr.specs.Uses.{AgreeAt};
 ghost use Rattle.wf_eval.specs.TemplateValue.{template_value};
 ghost use Rattle.wf_eval.specs.TreeValue.{tree_value};

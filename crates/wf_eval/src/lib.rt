@@ -23,3 +23,4 @@ pub use cond::eval_cond;
 pub use laws::{values_are_local, what_is_given_fits};
 pub use template::eval;
 pub use tree::eval_tree;
+pub use wf_eval_expr::{Look, Over, strict_row, word_of};

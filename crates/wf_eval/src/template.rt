@@ -2,14 +2,13 @@
 ghost use Rattle.std.specs.Prelude.{◌≡◌, [], map};
 ghost use Rattle.wf_val.specs.Arguments.{seen};
 ghost use Rattle.wf_template.specs.TemplateSeen.{piece_tree, template_tree};
-ghost use Rattle.wf_look.specs.Meets.{Meets};
-ghost use Rattle.wf_look.specs.Outcomes.{turned};
+ghost use Rattle.wf_eval_expr.specs.Meets.{Meets};
+ghost use Rattle.wf_eval_expr.specs.Outcomes.{turned};
 ghost use Rattle.wf_eval_expr.specs.Joined.{joined, text_answer};
 ghost use Rattle.wf_eval.specs.TemplateValue.{piece_value, piece_runs, template_value};
 
 use std::alloc::Global;
-use wf_eval_expr::eval_expr;
-use wf_look::{Look, Measured, as_text};
+use wf_eval_expr::{Look, Measured, as_text, eval_expr};
 use wf_template::{Piece, Template};
 use wf_val::{EvalFault, Val, bounded};
 

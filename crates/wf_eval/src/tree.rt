@@ -3,13 +3,13 @@ ghost use Rattle.std.specs.Prelude.{◌≡◌, [], map};
 ghost use Rattle.wf_val.specs.Arguments.{seen};
 ghost use Rattle.wf_template.specs.DataSeen.{data_tree, data_member};
 ghost use Rattle.wf_template.specs.DataTree.{data_trees, data_members};
-ghost use Rattle.wf_look.specs.Meets.{Meets};
-ghost use Rattle.wf_look.specs.Outcomes.{all_after};
+ghost use Rattle.wf_eval_expr.specs.Meets.{Meets};
+ghost use Rattle.wf_eval_expr.specs.Outcomes.{all_after};
 ghost use Rattle.wf_eval.specs.TreeValue.{tree_value, tree_runs, member_runs, members_after};
 
 use crate::template::eval;
 use std::alloc::Global;
-use wf_look::Look;
+use wf_eval_expr::Look;
 use wf_template::Tree;
 use wf_val::{EvalFault, Fields, Text, Val, Vals, bounded};
 

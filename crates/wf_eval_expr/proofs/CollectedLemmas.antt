@@ -3,8 +3,8 @@ use Rattle.std.proofs.Common.{◌≡◌, ℕ, List, [], length, sym, ◌∙◌, 
 use Rattle.std.proofs.lemmas.Bool.{le-leb}
 use Rattle.wf_val.specs.ValueTree.{ValueTree, list, trees}
 use Rattle.wf_val.specs.declared.function.Fun.{Fun}
-use Rattle.wf_functions.specs.Collected.{Collected, nothing, with_item, collected_answer}
-use Rattle.wf_functions.specs.Rows.{fitted, strict_row}
+use Rattle.wf_look.specs.Collected.{Collected, nothing, with_item, collected_answer}
+use Rattle.wf_look.specs.Rows.{fitted, strict_row}
 use Rattle.wf_folds.proofs.CollectedLaws.{IsOf, item-more, all-is, none-yet}
 use Rattle.wf_template.specs.declared.expr.Expr.{Expr}
 use Rattle.wf_look.specs.Args.{args_tree}

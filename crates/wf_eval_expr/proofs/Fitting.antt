@@ -16,14 +16,14 @@ use Rattle.wf_val.specs.ValueTree.{trees_weight, members_weight, Fits, fits}
 use Rattle.wf_val.specs.declared.function.Fun.{Fun}
 use Rattle.wf_val.specs.declared.fault.EvalFault.{EvalFault}
 use Rattle.wf_template.specs.ExprTree.{ExprTree, ExprTrees, literal, call, member, index, no_exprs, expr_then}
-use Rattle.wf_functions.specs.declared.draw.Draw.{Draw}
+use Rattle.wf_look.specs.Draw.{Draw}
 use Rattle.wf_eval_expr.specs.declared.way.Way.{Way}
 use Rattle.wf_look.specs.Accesses.{found, member_row, index_row}
-use Rattle.wf_functions.specs.Draws.{draw_of, made}
+use Rattle.wf_look.specs.Draws.{draw_of, made}
 use Rattle.wf_look.specs.Looked.{named_by, told_row}
 use Rattle.wf_look.specs.Outcomes.{Outcome, Run, go_on, then_run, turned, all_after}
-use Rattle.wf_functions.specs.Rows.{fitted, strict_row, as_text, joined_row}
-use Rattle.wf_functions.specs.Timed.{timed_row}
+use Rattle.wf_look.specs.Rows.{fitted, strict_row, as_text, joined_row}
+use Rattle.wf_look.specs.Timed.{timed_row}
 use Rattle.wf_look.specs.Told.{Told, next_word}
 use Rattle.wf_look.specs.Args.{literal_name}
 use Rattle.wf_look.specs.Early.{stop, at_end}

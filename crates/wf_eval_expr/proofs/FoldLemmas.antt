@@ -10,7 +10,7 @@ use Rattle.wf_look.specs.Args.{args_tree}
 use Rattle.wf_look.specs.Meets.{Meets, MeetsFault}
 use Rattle.wf_look.specs.Outcomes.{Outcome, Run, go_on, turned, all_after}
 use Rattle.wf_look.specs.Told.{Told}
-use Rattle.wf_functions.specs.Rows.{fitted}
+use Rattle.wf_look.specs.Rows.{fitted}
 use Rattle.wf_eval_expr.specs.Folded.{folded}
 use Rattle.wf_eval_expr.specs.Value.{value, runs}
 use Rattle.wf_eval_expr.proofs.Fitting.{IsGood, AreFitting}

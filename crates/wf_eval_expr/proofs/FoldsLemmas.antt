@@ -1,7 +1,7 @@
 -- What is kept of the arguments of `min`, `max`, `intersection` and `union` as they come gives the row of all of them.
 use Rattle.std.proofs.Common.{◌≡◌, ℕ, true, List, [], ap, refl}
 use Rattle.wf_val.specs.declared.function.Fun.{Fun}
-use Rattle.wf_functions.specs.Rows.{fitted, strict_row}
+use Rattle.wf_look.specs.Rows.{fitted, strict_row}
 use Rattle.wf_folds.specs.Paired.{nothing_paired, with_value, paired_answer}
 use Rattle.wf_folds.specs.Pairing.{is_pairing}
 use Rattle.wf_folds.specs.United.{nothing_united, with_argument, united_answer}

@@ -8,9 +8,9 @@ use Rattle.wf_val.specs.Function.{function_of}
 use Rattle.wf_val.specs.declared.function.Fun.{Fun}
 use Rattle.wf_val.specs.declared.fault.EvalFault.{EvalFault}
 use Rattle.wf_template.specs.ExprTree.{ExprTree, ExprTrees, literal, call, member, index, no_exprs, expr_then}
-use Rattle.wf_functions.specs.declared.draw.Draw.{Draw}
+use Rattle.wf_look.specs.Draw.{Draw}
 use Rattle.wf_eval_expr.specs.declared.way.Way.{Way}
-use Rattle.wf_functions.specs.Draws.{draw_of}
+use Rattle.wf_look.specs.Draws.{draw_of}
 use Rattle.wf_look.specs.Told.{Told, raised}
 use Rattle.wf_eval_expr.specs.Ways.{way_of}
 use Rattle.wf_look.specs.Accesses.{index_row}

@@ -11,14 +11,14 @@ use Rattle.wf_val.specs.Cut.{cut_u32, cut_u64}
 use Rattle.wf_val.specs.Joined.{text_bytes}
 use Rattle.wf_val.specs.ValueTree.{ValueTree, text, depth, weight, fits}
 use Rattle.wf_val.specs.declared.fault.EvalFault.{EvalFault}
-use Rattle.wf_json.specs.Json as json_text
+use Rattle.wf_look.specs.Json as json_text
 use Rattle.wf_template.specs.ExprSeen.{expr_tree}
 use Rattle.wf_template.specs.declared.expr.Expr.{Expr}
 use Rattle.wf_look.specs.Measured.{Measured, with_more, measured_answer}
 use Rattle.wf_eval_expr.specs.MeasuredRuns.{measured}
 use Rattle.wf_look.specs.Meets.{Meets, MeetsFault}
 use Rattle.wf_look.specs.Outcomes.{Run, go_on, turned, strictly, all_after}
-use Rattle.wf_functions.specs.Rows.{fitted, as_text, joined_row}
+use Rattle.wf_look.specs.Rows.{fitted, as_text, joined_row}
 use Rattle.wf_look.specs.Args.{args_tree}
 use Rattle.wf_eval_expr.specs.Joined.{joined, text_answer}
 use Rattle.wf_look.specs.Told.{Told}

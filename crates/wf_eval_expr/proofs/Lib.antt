@@ -1,3 +1,4 @@
+pub use Rattle.wf_look.proofs.WorkedLook
 pub mod Meeting
 pub mod Grow
 pub mod Loops

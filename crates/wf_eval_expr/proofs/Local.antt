@@ -5,18 +5,18 @@ use Rattle.wf_val.specs.Function.{function_of, function_name}
 use Rattle.wf_val.specs.declared.fault.EvalFault.{EvalFault}
 use Rattle.wf_val.specs.declared.function.Fun.{Fun}
 use Rattle.wf_template.specs.ExprTree.{ExprTree, ExprTrees, literal, call, member, index, no_exprs, expr_then}
-use Rattle.wf_functions.specs.declared.draw.Draw.{Draw}
+use Rattle.wf_look.specs.Draw.{Draw}
 use Rattle.wf_eval_expr.specs.declared.way.Way.{Way}
-use Rattle.wf_functions.specs.Draws.{draw_of, made}
-use Rattle.wf_functions.specs.Timed.{timed_row}
-use Rattle.wf_functions.specs.Words.{word_of}
+use Rattle.wf_look.specs.Draws.{draw_of, made}
+use Rattle.wf_look.specs.Timed.{timed_row}
+use Rattle.wf_look.specs.Words.{word_of}
 use Rattle.wf_look.specs.Told.{Told, raised}
 use Rattle.wf_eval_expr.specs.Ways.{way_of}
 use Rattle.wf_look.specs.Outcomes.{Run, then_run, turned, all_after, strictly}
 use Rattle.wf_look.specs.Accesses.{member_row, index_row}
 use Rattle.wf_look.specs.Looked.{or_no_value, over_view, part_in, as_number, outputs_in, body_in, workflow_value, named_row, named_by}
 use Rattle.wf_look.specs.Looked.{told_row}
-use Rattle.wf_functions.specs.Rows.{fitted}
+use Rattle.wf_look.specs.Rows.{fitted}
 use Rattle.wf_look.specs.Args.{literal_name}
 use Rattle.wf_look.specs.Drawn.{drawn}
 use Rattle.wf_eval_expr.specs.Value.{drawn_run, called, called_by, value, runs}

@@ -7,7 +7,7 @@ use Rattle.wf_val.specs.Arguments.{Answer}
 use Rattle.wf_val.specs.Cut.{cut_u64}
 use Rattle.wf_val.specs.ValueTree.{ValueTree, text}
 use Rattle.wf_val.specs.declared.fault.EvalFault.{EvalFault}
-use Rattle.wf_json.specs.Json as json_text
+use Rattle.wf_look.specs.Json as json_text
 use Rattle.wf_look.specs.Measured.{Measured, with_more, measured_answer}
 use Rattle.wf_eval_expr.specs.MeasuredRuns.{measured}
 use Rattle.wf_look.specs.Meets.{Meets, MeetsFault}

@@ -6,12 +6,12 @@ use Rattle.wf_val.specs.ValueTree.{null, boolean, number, text}
 use Rattle.wf_val.specs.declared.fault.EvalFault.{EvalFault}
 use Rattle.wf_val.specs.declared.function.Fun.{Fun}
 use Rattle.wf_template.specs.ExprTree.{ExprTree, literal, call, expr_trees}
-use Rattle.wf_functions.specs.declared.draw.GuidForm.{GuidForm}
-use Rattle.wf_functions.specs.Draws.{identifier, guid_text, number_in}
+use Rattle.wf_look.specs.GuidForm.{GuidForm}
+use Rattle.wf_look.specs.Draws.{identifier, guid_text, number_in}
 use Rattle.wf_look.specs.Outcomes.{Outcome}
-use Rattle.wf_functions.specs.Rows.{fitted}
-use Rattle.wf_functions.specs.Timed.{timed_row}
-use Rattle.wf_functions.specs.Words.{word_of}
+use Rattle.wf_look.specs.Rows.{fitted}
+use Rattle.wf_look.specs.Timed.{timed_row}
+use Rattle.wf_look.specs.Words.{word_of}
 use Rattle.wf_look.specs.Told.{Told}
 use Rattle.wf_eval_expr.specs.Value.{value}
 

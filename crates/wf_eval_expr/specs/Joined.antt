@@ -3,7 +3,7 @@ use Rattle.std.specs.Prelude.{ℕ, List, [], ◌∷◌, ◌++◌, Result, Ok}
 use Rattle.wf_val.specs.Arguments.{Answer, bounded}
 use Rattle.wf_val.specs.ValueTree.{text}
 use Rattle.wf_val.specs.declared.fault.EvalFault.{EvalFault}
-use Rattle.wf_json.specs.Json as json_text
+use Rattle.wf_look.specs.Json as json_text
 use Rattle.wf_look.specs.Outcomes.{Run, then_run}
 
 -- the text that values make, behind what is there: each joins it as text

@@ -1,3 +1,11 @@
+pub use Rattle.wf_look.specs.Early
+pub use Rattle.wf_look.specs.Json
+pub use Rattle.wf_look.specs.Looked
+pub use Rattle.wf_look.specs.Measured
+pub use Rattle.wf_look.specs.Meets
+pub use Rattle.wf_look.specs.Outcomes
+pub use Rattle.wf_look.specs.Rows
+pub use Rattle.wf_look.specs.Told
 pub use Rattle.wf_look.specs.Args
 pub mod Ways
 pub mod Value

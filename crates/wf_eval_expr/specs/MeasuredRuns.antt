@@ -1,7 +1,7 @@
 -- The text that values make, measured as it is put together.
 use Rattle.std.specs.Prelude.{ℕ, List, [], ◌∷◌, Result, Ok}
 use Rattle.wf_val.specs.declared.fault.EvalFault.{EvalFault}
-use Rattle.wf_json.specs.Json as json_text
+use Rattle.wf_look.specs.Json as json_text
 use Rattle.wf_look.specs.Measured.{Measured, with_more}
 use Rattle.wf_look.specs.Outcomes.{Run, then_run}
 

@@ -9,14 +9,14 @@ use Rattle.wf_val.specs.declared.function.Fun.{Fun}
 use Rattle.wf_template.specs.ExprTree.{ExprTree, ExprTrees, literal, call, member, index, no_exprs, expr_then}
 use Rattle.wf_eval_expr.specs.declared.way.Way.{Way}
 use Rattle.wf_look.specs.Accesses.{member_row, index_row}
-use Rattle.wf_functions.specs.Draws.{draw_of}
+use Rattle.wf_look.specs.Draws.{draw_of}
 use Rattle.wf_look.specs.Args.{literal_name}
 use Rattle.wf_look.specs.Drawn.{drawn}
 use Rattle.wf_look.specs.Early.{stop, at_end}
 use Rattle.wf_look.specs.Looked.{named_by, told_row}
 use Rattle.wf_look.specs.Outcomes.{Run, then_run, turned, all_after, strictly}
-use Rattle.wf_functions.specs.Rows.{fitted, strict_row, joined_row}
-use Rattle.wf_functions.specs.Timed.{timed_row}
+use Rattle.wf_look.specs.Rows.{fitted, strict_row, joined_row}
+use Rattle.wf_look.specs.Timed.{timed_row}
 use Rattle.wf_look.specs.Told.{Told}
 use Rattle.wf_eval_expr.specs.Ways.{way_of}
 

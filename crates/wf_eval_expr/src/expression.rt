@@ -8,7 +8,7 @@ ghost use Rattle.wf_template.specs.ExprSeen.{expr_tree};
 ghost use Rattle.wf_look.specs.Meets.{Meets};
 ghost use Rattle.wf_look.specs.Outcomes.{all_after, strictly};
 ghost use Rattle.wf_folds.specs.Pairing.{is_pairing};
-ghost use Rattle.wf_functions.specs.Rows.{fitted, strict_row, joined_row};
+ghost use Rattle.wf_look.specs.Rows.{fitted, strict_row, joined_row};
 ghost use Rattle.wf_val.specs.declared.function.Fun.{Fun};
 ghost use Rattle.wf_look.specs.Args.{args_tree};
 ghost use Rattle.wf_eval_expr.specs.Seen.{accessed_run};
@@ -19,9 +19,9 @@ use crate::way::{Way, way_of};
 use std::alloc::Global;
 use wf_calls::function_named;
 use wf_folds::{Paired, United};
-use wf_functions::{Collected, strict_row, timed_row};
 use wf_look::{
-    Look, Measured, as_text, at_end, drawn_by, index_of, member_of, named_by, stop, told_row,
+    Collected, Look, Measured, as_text, at_end, drawn_by, index_of, member_of, named_by, stop,
+    strict_row, timed_row, told_row,
 };
 use wf_template::{Access, Expr, Start, chain_of};
 use wf_val::{EvalFault, Fun, Text, Val, Vals, bounded, wrong_type};

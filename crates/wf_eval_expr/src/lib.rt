@@ -22,3 +22,5 @@ mod way;
 
 pub use expression::eval_expr;
 pub use laws::{expressions_are_local, what_an_expression_gives_fits};
+pub use wf_calls::function_named;
+pub use wf_look::{Look, Measured, Over, as_text, strict_row, word_of};

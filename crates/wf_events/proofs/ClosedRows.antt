@@ -1,7 +1,7 @@
 -- Worked rows of what the row of a container tells of its loop.
 use Rattle.std.proofs.Common.{◌≡◌, ℕ, [], Some, None, refl}
 use Rattle.wf_layers.specs.Definition.{InTurn}
-use Rattle.wf_plan.specs.Plan.{foreach, leaf, scope, until}
+use Rattle.wf_tables.specs.Plan.{foreach, leaf, scope, until}
 use Rattle.wf_events.specs.Closed.{iterations_by, iterations_of, last_of}
 
 an_until_tells_its_iterations : iterations_of (until 3 []) 2 ≡ 2

@@ -5,12 +5,12 @@ use Rattle.wf_layers.specs.Address.{Address, Table, address}
 use Rattle.wf_layers.specs.Changes.{next_of}
 use Rattle.wf_layers.specs.Machine as machine
 use Rattle.wf_layers.specs.Source.{Source}
-use Rattle.wf_asks.specs.Instances.{address_of, instance_cmp}
-use Rattle.wf_asks.specs.Known.{open_tree, opens_in}
-use Rattle.wf_asks.specs.declared.instance.Instance.{Instance}
-use Rattle.wf_asks.specs.declared.known.OpenAt.{OpenAt}
-use Rattle.wf_plan.specs.Plan.{EntryTree, PlanTree}
-use Rattle.wf_plan.specs.PlanSeen.{at_place}
+use Rattle.wf_tables.specs.Instances.{address_of, instance_cmp}
+use Rattle.wf_tables.specs.Known.{open_tree, opens_in}
+use Rattle.wf_tables.specs.Instance.{Instance}
+use Rattle.wf_tables.specs.OpenAt.{OpenAt}
+use Rattle.wf_tables.specs.Plan.{EntryTree, PlanTree}
+use Rattle.wf_tables.specs.PlanSeen.{at_place}
 use Rattle.wf_tables.specs.Tables.{count_or_none, event_at, left_in}
 use Rattle.wf_tables.specs.declared.entries.EventKind.{EventKind}
 use Rattle.wf_tables.proofs.OpenLemmas.{found_at}

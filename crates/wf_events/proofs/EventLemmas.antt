@@ -6,10 +6,10 @@ use Rattle.wf_layers.specs.Source.{Source, gate, is_listed, same_status}
 use Rattle.wf_layers.specs.Enabled.{begins, most_of, of_tested}
 use Rattle.wf_layers.specs.Machine as machine
 use Rattle.wf_layers.specs.Machine.{Opening, State, Event, has_ended}
-use Rattle.wf_kept.specs.Event.{counted_begun, counted_branch, counted_idle, counted_open, counted_test}
-use Rattle.wf_def.specs.Layered.{listed_of, where_listed}
-use Rattle.wf_def.specs.declared.after.Statuses.{Statuses}
-use Rattle.wf_plan.specs.Plan.{BranchTree, branches_of, shape_of}
+use Rattle.wf_tables.specs.Event.{counted_begun, counted_branch, counted_idle, counted_open, counted_test}
+use Rattle.wf_tables.specs.Layered.{listed_of, where_listed}
+use Rattle.wf_tables.specs.DefStatuses.{Statuses}
+use Rattle.wf_tables.specs.Plan.{BranchTree, branches_of, shape_of}
 use Rattle.wf_events.specs.Events.{begin_kind, begun_kind, close_kind, foreach_kind, idle_kind, is_branch, open_kind, tested_kind, until_kind}
 use Rattle.wf_tables.specs.Tables.{event_at}
 use Rattle.wf_tables.specs.declared.entries.EventKind.{EventKind}

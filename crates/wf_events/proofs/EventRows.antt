@@ -2,7 +2,7 @@
 use Rattle.std.proofs.Common.{◌≡◌, ℕ, true, false, [], ◌∷◌, Option, Some, None, refl}
 use Rattle.wf_layers.specs.Address.{Address, address}
 use Rattle.wf_layers.specs.Machine as machine
-use Rattle.wf_plan.specs.Plan.{BranchTree, leaf, until}
+use Rattle.wf_tables.specs.Plan.{BranchTree, leaf, until}
 use Rattle.wf_events.specs.Events.{begin_kind, close_kind, count_of, count_or_zero, foreach_kind, is_branch}
 use Rattle.wf_events.specs.Looked.{instances_at, look_each}
 use Rattle.wf_events.specs.Written.{put_each, writers_of}

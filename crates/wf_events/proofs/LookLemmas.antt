@@ -6,11 +6,11 @@ use Rattle.wf_layers.specs.Machine as machine
 use Rattle.wf_layers.specs.Machine.{Opening, State, has_ended}
 use Rattle.wf_layers.specs.Source.{Source}
 use Rattle.wf_layers.proofs.Tables.{own_is}
-use Rattle.wf_kept.specs.Event.{counted_busy, counted_event, counted_idle}
-use Rattle.wf_asks.specs.Known.{is_among}
-use Rattle.wf_asks.specs.declared.instance.Instance.{Instance}
-use Rattle.wf_plan.specs.Plan.{PlanTree}
-use Rattle.wf_plan.specs.PlanOf.{IsPlanOf}
+use Rattle.wf_tables.specs.Event.{counted_busy, counted_event, counted_idle}
+use Rattle.wf_tables.specs.Known.{is_among}
+use Rattle.wf_tables.specs.Instance.{Instance}
+use Rattle.wf_tables.specs.Plan.{PlanTree}
+use Rattle.wf_tables.specs.PlanOf.{IsPlanOf}
 use Rattle.wf_tables.specs.Tables.{event_at}
 use Rattle.wf_events.specs.Events.{idle_kind, open_kind}
 use Rattle.wf_events.specs.Looked.{idle_at, idle_by, instances_at, look_each, open_at, open_by}

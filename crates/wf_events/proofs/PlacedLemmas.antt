@@ -12,22 +12,22 @@ use Rattle.wf_layers.proofs.Basics.{and_in, and_of, either, not_true, or_first, 
 use Rattle.wf_layers.proofs.Changes.{ended_row, enabled_there, in_own, owns_holds, stays}
 use Rattle.wf_layers.proofs.Tables.{has_in, holds_in, own_is, same_at_is}
 use Rattle.wf_layers.proofs.Waiting.{own_has}
-use Rattle.wf_kept.specs.Counted.{IsInner, less}
-use Rattle.wf_kept.specs.Event.{counted_busy}
-use Rattle.wf_kept.specs.Reached.{IsReached}
-use Rattle.wf_kept.specs.Ready.{Stands}
-use Rattle.wf_kept.proofs.Counts.{has_row_then, inner_of_open, no_row_yet}
-use Rattle.wf_kept.proofs.Followers.{followers_are_there, once_sound}
-use Rattle.wf_kept.proofs.Informed.{running_stands}
-use Rattle.wf_kept.proofs.Known.{Known, goes_on, known}
+use Rattle.wf_tables.specs.Counted.{IsInner, less}
+use Rattle.wf_tables.specs.Event.{counted_busy}
+use Rattle.wf_tables.specs.Reached.{IsReached}
+use Rattle.wf_tables.specs.Ready.{Stands}
+use Rattle.wf_tables.proofs.Counts.{has_row_then, inner_of_open, no_row_yet}
+use Rattle.wf_tables.proofs.Followers.{followers_are_there, once_sound}
+use Rattle.wf_tables.proofs.Informed.{running_stands}
+use Rattle.wf_tables.proofs.KeptKnown.{Known, goes_on, known}
 use Rattle.wf_step_laws.specs.Edits.{IsPlaced, event_by, looked}
 use Rattle.wf_step_laws.proofs.Idle as idle
 use Rattle.wf_step_laws.proofs.Placed.{inner_at, inner_owns, kind_at}
-use Rattle.wf_asks.specs.Known.{is_among}
-use Rattle.wf_plan.specs.Plan.{PlanTree, shape_of}
-use Rattle.wf_plan.specs.PlanOf.{IsPlanOf}
-use Rattle.wf_plan.specs.PlanSeen.{at_place, list_at}
-use Rattle.wf_plan.proofs.GraphLemmas.{kind_there}
+use Rattle.wf_tables.specs.Known.{is_among}
+use Rattle.wf_tables.specs.Plan.{PlanTree, shape_of}
+use Rattle.wf_tables.specs.PlanOf.{IsPlanOf}
+use Rattle.wf_tables.specs.PlanSeen.{at_place, list_at}
+use Rattle.wf_tables.proofs.GraphLemmas.{kind_there}
 use Rattle.wf_events.specs.Looked.{idle_at, open_at}
 use Rattle.wf_events.specs.Round.{but_last, is_finished, is_graph, look_out, outer_at, outer_or_same, round_at, round_in}
 use Rattle.wf_events.proofs.LookLemmas.{idle_there, open_there}

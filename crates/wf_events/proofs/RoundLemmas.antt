@@ -6,9 +6,9 @@ use Rattle.wf_layers.specs.Changes.{is_next, owns}
 use Rattle.wf_layers.specs.Definition.{Graph, Kind, Leaf, Scope, Choice, Foreach, Until, has, kind_of}
 use Rattle.wf_layers.specs.Machine.{has_ended}
 use Rattle.wf_layers.proofs.Basics.{not_true, two}
-use Rattle.wf_plan.specs.Plan.{PlanTree, shape_of}
-use Rattle.wf_plan.specs.PlanOf.{IsPlanOf}
-use Rattle.wf_plan.specs.PlanSeen.{at_place}
+use Rattle.wf_tables.specs.Plan.{PlanTree, shape_of}
+use Rattle.wf_tables.specs.PlanOf.{IsPlanOf}
+use Rattle.wf_tables.specs.PlanSeen.{at_place}
 use Rattle.wf_step_laws.specs.Edits.{HasOneHolder, is_foreach}
 use Rattle.wf_events.specs.Round.{but_last, is_finished, is_graph, is_turn, outer_at, outer_or_same, round_at, round_in, turn_or_none}
 

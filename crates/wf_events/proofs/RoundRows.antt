@@ -1,7 +1,7 @@
 -- Worked rows of where a container stands.
 use Rattle.std.proofs.Common.{◌≡◌, true, false, [], ◌∷◌, refl}
 use Rattle.wf_layers.specs.Definition.{InTurn}
-use Rattle.wf_plan.specs.Plan.{choice, foreach, scope, until}
+use Rattle.wf_tables.specs.Plan.{choice, foreach, scope, until}
 use Rattle.wf_events.specs.Round.{but_last, is_turn, outer_at}
 
 none_of_none : but_last [] ≡ []

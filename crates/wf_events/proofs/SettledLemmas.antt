@@ -2,9 +2,9 @@
 use Rattle.std.proofs.Common.{◌≡◌, ℕ, ◌&&◌, cond, List, Option, Some, None, ap, ◌∙◌}
 use Rattle.wf_layers.specs.Address.{Address, Table, is_own, same_at}
 use Rattle.wf_layers.specs.Machine as machine
-use Rattle.wf_asks.specs.Instances.{address_of}
-use Rattle.wf_asks.specs.Known.{is_among}
-use Rattle.wf_asks.specs.declared.instance.Instance.{Instance}
+use Rattle.wf_tables.specs.Instances.{address_of}
+use Rattle.wf_tables.specs.Known.{is_among}
+use Rattle.wf_tables.specs.Instance.{Instance}
 use Rattle.wf_events.specs.Looked.{instances_at, look_each}
 use Rattle.wf_events.specs.Round.{look_out}
 use Rattle.wf_events.specs.declared.round.Round.{Round}

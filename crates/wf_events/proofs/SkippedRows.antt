@@ -1,6 +1,6 @@
 -- Worked rows of what gets rows with an action that doesn't run.
 use Rattle.std.proofs.Common.{◌≡◌, [], ◌∷◌, Some, None, refl}
-use Rattle.wf_plan.specs.Plan.{EntryTree, PlanTree, leaf, scope}
+use Rattle.wf_tables.specs.Plan.{EntryTree, PlanTree, leaf, scope}
 use Rattle.wf_events.specs.Skipped.{block_of}
 
 -- an action 0, and a Scope 1 of the action 2

@@ -4,8 +4,8 @@ use Rattle.wf_lists.specs.KeyOrder.{put_key}
 use Rattle.wf_layers.specs.Address.{Address, is_own}
 use Rattle.wf_layers.specs.Machine.{or_else}
 use Rattle.wf_layers.specs.Meaning.{only}
-use Rattle.wf_asks.specs.Instances.{instance_cmp, table_of}
-use Rattle.wf_asks.specs.declared.instance.Instance.{Instance}
+use Rattle.wf_tables.specs.Instances.{instance_cmp, table_of}
+use Rattle.wf_tables.specs.Instance.{Instance}
 use Rattle.wf_tables.proofs.TableLemmas.{table_put}
 
 pub put_entry : {X Y : Type 0} (at : X → Instance) (see : X → Y) (y : X) (xs : List X) (x : Address)

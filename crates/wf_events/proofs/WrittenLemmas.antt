@@ -5,10 +5,10 @@ use Rattle.std.proofs.lemmas.Cmp.{nat_cmp_total}
 use Rattle.wf_lists.specs.KeyOrder.{find_key, put_key}
 use Rattle.wf_lists.proofs.KeyOrderLemmas.{find-put}
 use Rattle.wf_layers.specs.Address.{Address}
-use Rattle.wf_asks.specs.Instances.{address_of}
-use Rattle.wf_asks.specs.Known.{is_among, store_in}
-use Rattle.wf_asks.specs.declared.instance.Instance.{Instance}
-use Rattle.wf_asks.specs.declared.known.WriterAt.{WriterAt}
+use Rattle.wf_tables.specs.Instances.{address_of}
+use Rattle.wf_tables.specs.Known.{is_among, store_in}
+use Rattle.wf_tables.specs.Instance.{Instance}
+use Rattle.wf_tables.specs.WriterAt.{WriterAt}
 use Rattle.wf_events.specs.Written.{put_each, writers_of}
 
 key_is : (a b : ℕ) → is_eq (nat_cmp b a) ≡ nat_eq a b

@@ -1,6 +1,6 @@
 -- What the row of a container tells of its loop.
 use Rattle.std.specs.Prelude.{ℕ, cond, nat_lt, Option, None, Some}
-use Rattle.wf_plan.specs.Plan.{EntryTree, ShapeTree, leaf, scope, choice, foreach, until}
+use Rattle.wf_tables.specs.Plan.{EntryTree, ShapeTree, leaf, scope, choice, foreach, until}
 
 -- the iterations of an Until, at most as many as it may have; of any other container 0
 abbrev pub iterations_of : ShapeTree → ℕ → ℕ

@@ -5,7 +5,7 @@ use Rattle.wf_layers.specs.Address.{Table, address}
 use Rattle.wf_layers.specs.Enabled.{most_of}
 use Rattle.wf_layers.specs.Machine.{Opening, has_ended}
 use Rattle.wf_layers.specs.Source.{Source, gate}
-use Rattle.wf_plan.specs.Plan.{BranchTree, EntryTree, ShapeTree, leaf, scope, choice, foreach, until}
+use Rattle.wf_tables.specs.Plan.{BranchTree, EntryTree, ShapeTree, leaf, scope, choice, foreach, until}
 use Rattle.wf_tables.specs.declared.entries.EventKind.{EventKind}
 use Rattle.wf_tables.specs.declared.entries.EventKind.TheVariants.{Start, Skip, Open, Begin, Test, Close}
 

@@ -3,10 +3,10 @@ use Rattle.std.specs.Prelude.{ℕ, cond, List, [], ◌∷◌, Option, None, Some
 use Rattle.wf_layers.specs.Address.{Address, Table, is_own}
 use Rattle.wf_layers.specs.Machine as machine
 use Rattle.wf_layers.specs.Source.{Source}
-use Rattle.wf_asks.specs.Instances.{address_of}
-use Rattle.wf_asks.specs.declared.instance.Instance.{Instance}
-use Rattle.wf_plan.specs.Plan.{EntryTree, PlanTree}
-use Rattle.wf_plan.specs.PlanSeen.{at_place}
+use Rattle.wf_tables.specs.Instances.{address_of}
+use Rattle.wf_tables.specs.Instance.{Instance}
+use Rattle.wf_tables.specs.Plan.{EntryTree, PlanTree}
+use Rattle.wf_tables.specs.PlanSeen.{at_place}
 use Rattle.wf_events.specs.Events.{idle_kind, open_kind}
 use Rattle.wf_tables.specs.Tables.{event_at}
 

@@ -4,10 +4,10 @@ use Rattle.std.specs.Prelude.{cond, length, nat_lt, option_map}
 use Rattle.wf_layers.specs.Address.{Address, Table, address, is_own}
 use Rattle.wf_layers.specs.Machine as machine
 use Rattle.wf_layers.specs.Machine.{has_ended}
-use Rattle.wf_asks.specs.Instances.{address_of}
-use Rattle.wf_asks.specs.declared.instance.Instance.{Instance}
-use Rattle.wf_plan.specs.Plan.{EntryTree, PlanTree, ShapeTree, leaf, scope, choice, foreach, until}
-use Rattle.wf_plan.specs.PlanSeen.{at_place}
+use Rattle.wf_tables.specs.Instances.{address_of}
+use Rattle.wf_tables.specs.Instance.{Instance}
+use Rattle.wf_tables.specs.Plan.{EntryTree, PlanTree, ShapeTree, leaf, scope, choice, foreach, until}
+use Rattle.wf_tables.specs.PlanSeen.{at_place}
 use Rattle.wf_events.specs.declared.round.Round.{Round}
 
 abbrev pub but_last : List ℕ → List ℕ

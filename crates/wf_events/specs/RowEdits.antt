@@ -3,11 +3,11 @@ use Rattle.std.specs.Prelude.{◌≡◌, ℕ, ◌-◌, Bool, ◌&&◌, cond, Non
 use Rattle.wf_layers.specs.Address.{Address, Table, is_own, same_at}
 use Rattle.wf_layers.specs.Machine as machine
 use Rattle.wf_layers.specs.Source.{Source}
-use Rattle.wf_kept.specs.Counted.{less}
-use Rattle.wf_asks.specs.Known.{is_among}
-use Rattle.wf_asks.specs.declared.instance.Instance.{Instance}
-use Rattle.wf_plan.specs.Plan.{PlanTree}
-use Rattle.wf_plan.specs.PlanSeen.{list_at}
+use Rattle.wf_tables.specs.Counted.{less}
+use Rattle.wf_tables.specs.Known.{is_among}
+use Rattle.wf_tables.specs.Instance.{Instance}
+use Rattle.wf_tables.specs.Plan.{PlanTree}
+use Rattle.wf_tables.specs.PlanSeen.{list_at}
 use Rattle.wf_events.specs.Looked.{idle_at, instances_at, open_at}
 use Rattle.wf_events.specs.Round.{IsLast, is_finished, is_graph, look_out, round_at}
 use Rattle.wf_events.specs.declared.edits.RowEdits.{RowEdits}

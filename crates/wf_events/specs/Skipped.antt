@@ -1,7 +1,7 @@
 -- What gets rows with an action that doesn't run.
 use Rattle.std.specs.Prelude.{ℕ, List, [], Option, Some, None}
-use Rattle.wf_plan.specs.Plan.{EntryTree, PlanTree}
-use Rattle.wf_plan.specs.PlanSeen.{at_place}
+use Rattle.wf_tables.specs.Plan.{EntryTree, PlanTree}
+use Rattle.wf_tables.specs.PlanSeen.{at_place}
 
 abbrev pub block_or_none : Option EntryTree → List ℕ
 block_or_none None = []

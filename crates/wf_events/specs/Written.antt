@@ -1,9 +1,9 @@
 -- A store after a row that gives several variables values.
 use Rattle.std.specs.Prelude.{ℕ, cond, nat_eq, List, [], ◌∷◌, Option, Some, map}
 use Rattle.wf_layers.specs.Address.{Address}
-use Rattle.wf_asks.specs.Instances.{address_of}
-use Rattle.wf_asks.specs.declared.instance.Instance.{Instance}
-use Rattle.wf_asks.specs.declared.known.WriterAt.{WriterAt}
+use Rattle.wf_tables.specs.Instances.{address_of}
+use Rattle.wf_tables.specs.Instance.{Instance}
+use Rattle.wf_tables.specs.WriterAt.{WriterAt}
 
 -- of each variable this is the last writer
 abbrev pub writers_of : Instance → List ℕ → List WriterAt

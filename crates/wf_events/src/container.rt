@@ -2,9 +2,9 @@
 ghost use Rattle.std.specs.Prelude.{◌≡◌, ◌<◌, ◌≤◌, ◌+◌, ◌-◌, ◌∷◌, ◌++◌, [], IfOk, cond, option_map};
 ghost use Rattle.wf_layers.specs.Address.{Address, address, is_own};
 ghost use Rattle.wf_layers.specs.Changes.{next_of};
-ghost use Rattle.wf_asks.specs.Instances.{address_of};
-ghost use Rattle.wf_asks.specs.Known.{opens_in};
-ghost use Rattle.wf_plan.specs.PlanSeen.{plan_tree};
+ghost use Rattle.wf_tables.specs.Instances.{address_of};
+ghost use Rattle.wf_tables.specs.Known.{opens_in};
+ghost use Rattle.wf_tables.specs.PlanSeen.{plan_tree};
 ghost use Rattle.wf_events.specs.Looked.{open_at};
 ghost use Rattle.wf_tables.specs.Tables.{count_in, event_at, events_in, left_in};
 
@@ -12,10 +12,8 @@ use crate::event::open_kind;
 use crate::ready::set_event;
 use crate::until::next_index;
 use std::alloc::{AllocError, Global};
-use wf_asks::{Acts, Instance, Opens};
-use wf_plan::Plan;
 use wf_room::Roomy;
-use wf_tables::{CountAt, EventAt, EventKind};
+use wf_tables::{Acts, CountAt, EventAt, EventKind, Instance, Opens, Plan};
 
 /// Where the graph of the last begun iteration of a loop goes; that of index 0 where none has begun.
 pub fn last_iteration<D, V>(

@@ -1,18 +1,16 @@
 //! Counts, as an action gets its row.
 ghost use Rattle.std.specs.Prelude.{◌≡◌, ◌<◌, ◌≤◌, ◌+◌, ◌-◌, ◌&&◌, cond};
 ghost use Rattle.wf_layers.specs.Address.{Address, same_at};
-ghost use Rattle.wf_kept.specs.Counted.{less};
-ghost use Rattle.wf_asks.specs.Known.{is_among, opens_in};
-ghost use Rattle.wf_plan.specs.Once.{AreDistinct};
-ghost use Rattle.wf_plan.specs.PlanSeen.{list_at, plan_tree};
+ghost use Rattle.wf_tables.specs.Counted.{less};
+ghost use Rattle.wf_tables.specs.Known.{is_among, opens_in};
+ghost use Rattle.wf_tables.specs.Once.{AreDistinct};
+ghost use Rattle.wf_tables.specs.PlanSeen.{list_at, plan_tree};
 ghost use Rattle.wf_events.specs.Round.{is_finished, is_graph};
 ghost use Rattle.wf_tables.specs.Tables.{count_in, left_in};
 
 use crate::round::Round;
-use wf_asks::{Instance, Opens};
-use wf_plan::Plan;
 use wf_room::Roomy;
-use wf_tables::{CountAt, lack_less, lower};
+use wf_tables::{CountAt, Instance, Opens, Plan, lack_less, lower};
 
 // What the graph round an action lacks, and the iterations that its Foreach has unfinished. The graph is given back.
 fn count_round<D: Drop, V: Drop>(

@@ -1,10 +1,10 @@
 //! What is edited beside the rows as an action gets its own: all that takes memory first, and then the edits, which take none.
 ghost use Rattle.std.specs.Prelude.{◌≡◌, ◌<◌, IfOk, OnOk, length};
 ghost use Rattle.wf_layers.specs.Changes.{next_of};
-ghost use Rattle.wf_asks.specs.Instances.{rows_in};
-ghost use Rattle.wf_asks.specs.Known.{opens_in};
-ghost use Rattle.wf_plan.specs.Once.{AreDistinct};
-ghost use Rattle.wf_plan.specs.PlanSeen.{list_at, plan_tree};
+ghost use Rattle.wf_tables.specs.Instances.{rows_in};
+ghost use Rattle.wf_tables.specs.Known.{opens_in};
+ghost use Rattle.wf_tables.specs.Once.{AreDistinct};
+ghost use Rattle.wf_tables.specs.PlanSeen.{list_at, plan_tree};
 ghost use Rattle.wf_events.specs.RowEdits.{AreRowEdits, IsSettled};
 ghost use Rattle.wf_tables.specs.Tables.{count_in, events_in, left_in};
 
@@ -13,10 +13,8 @@ use crate::look::instances;
 use crate::round::{Round, round_of};
 use crate::settled::{last_of, settle};
 use std::alloc::{AllocError, Global};
-use wf_asks::{Acts, Instance, Opens, Rows, Store};
-use wf_plan::Plan;
 use wf_room::Roomy;
-use wf_tables::{CountAt, EventAt};
+use wf_tables::{Acts, CountAt, EventAt, Instance, Opens, Plan, Rows, Store};
 
 /// What is made before an action gets its row.
 #[derive(Drop)]

@@ -3,21 +3,20 @@ ghost use Rattle.std.specs.Prelude.{◌≡◌, ◌∷◌, ◌++◌, [], Some, co
 ghost use Rattle.wf_layers.specs.Source.{all_met, is_listed, is_met};
 ghost use Rattle.wf_layers.specs.Address.{address};
 ghost use Rattle.wf_layers.specs.Enabled.{most_of};
-ghost use Rattle.wf_def.specs.Layered.{listed_of, pace};
-ghost use Rattle.wf_asks.specs.Instances.{address_of, rows_in};
-ghost use Rattle.wf_asks.specs.Known.{open_tree};
-ghost use Rattle.wf_asks.specs.Statuses.{status_tree};
-ghost use Rattle.wf_plan.specs.PlanSeen.{branches_seen, entry_tree, shape_tree, wait_need};
+ghost use Rattle.wf_tables.specs.Layered.{listed_of, pace};
+ghost use Rattle.wf_tables.specs.Instances.{address_of, rows_in};
+ghost use Rattle.wf_tables.specs.Known.{open_tree};
+ghost use Rattle.wf_tables.specs.Statuses.{status_tree};
+ghost use Rattle.wf_tables.specs.PlanSeen.{branches_seen, entry_tree, shape_tree, wait_need};
 ghost use Rattle.wf_events.specs.Events.{begin_kind, begun_kind, close_kind, foreach_kind, idle_kind, is_branch, open_kind, tested_kind};
 ghost use Rattle.wf_tables.specs.Tables.{count_in};
 ghost use Rattle.wf_tables.specs.declared.entries.EventKind.TheVariants.{Close};
 
-use wf_asks::{Acts, Instance, Known, OpenAt, Rows};
-use wf_def::Statuses;
-use wf_plan::{Branch, Entry, Shape, Wait};
 use wf_record::Status;
 use wf_room::Roomy;
-use wf_tables::{CountAt, EventKind};
+use wf_tables::{
+    Acts, Branch, CountAt, Entry, EventKind, Instance, Known, OpenAt, Rows, Shape, Statuses, Wait,
+};
 
 #[tactic(auto, using(crate::proofs::EventLemmas::lists_succeeded, crate::proofs::EventLemmas::lists_failed, crate::proofs::EventLemmas::lists_skipped, crate::proofs::EventLemmas::lists_timed_out, crate::proofs::EventLemmas::lists_cancelled))]
 fn lists(statuses: Statuses, status: Status) -> bool

@@ -1,19 +1,17 @@
 //! Idle actions, looked at anew.
 ghost use Rattle.std.specs.Prelude.{◌≡◌, ◌<◌, ◌≤◌, ◌+◌, IfOk, cond, length, option_map};
 ghost use Rattle.wf_layers.specs.Address.{Address, is_own};
-ghost use Rattle.wf_asks.specs.Instances.{address_of, rows_in};
-ghost use Rattle.wf_plan.specs.PlanSeen.{plan_tree};
+ghost use Rattle.wf_tables.specs.Instances.{address_of, rows_in};
+ghost use Rattle.wf_tables.specs.PlanSeen.{plan_tree};
 ghost use Rattle.wf_events.specs.Looked.{idle_at, instances_at, look_each};
 ghost use Rattle.wf_tables.specs.Tables.{count_in, event_at, events_in};
 
 use crate::event::idle_kind;
 use crate::ready::set_event;
 use std::alloc::{AllocError, Global};
-use wf_asks::{Acts, Instance, Known, Opens, Rows, Store};
 use wf_lists::TryCopy;
-use wf_plan::Plan;
 use wf_room::Roomy;
-use wf_tables::{CountAt, EventAt, EventKind};
+use wf_tables::{Acts, CountAt, EventAt, EventKind, Instance, Known, Opens, Plan, Rows, Store};
 use wf_val::Indexes;
 
 /// These actions at the indexes.

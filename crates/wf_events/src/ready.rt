@@ -3,9 +3,8 @@ ghost use Rattle.std.specs.Prelude.{◌≡◌, ◌<◌, ◌≤◌, ◌+◌, None
 ghost use Rattle.wf_layers.specs.Address.{Address, is_own};
 ghost use Rattle.wf_tables.specs.Tables.{event_at, event_tree, events_in};
 
-use wf_asks::Instance;
 use wf_room::Roomy;
-use wf_tables::{EventAt, EventKind};
+use wf_tables::{EventAt, EventKind, Instance};
 
 fn put_event(ready: &mut Roomy<EventAt>, event: EventAt)
     requires { 0 < ready.old.1 }

@@ -1,12 +1,11 @@
 //! The graph round an action that gets its row, and the container that holds it.
 ghost use Rattle.std.specs.Prelude.{◌≡◌, IfOk, option_map};
-ghost use Rattle.wf_plan.specs.PlanSeen.{entry_tree, plan_tree, shape_tree};
+ghost use Rattle.wf_tables.specs.PlanSeen.{entry_tree, plan_tree, shape_tree};
 ghost use Rattle.wf_events.specs.Round.{but_last, is_turn, outer_at, outer_or_same, round_at, round_in, turn_or_none};
 
 use std::alloc::{AllocError, Global};
-use wf_asks::Instance;
 use wf_lists::TryCopy;
-use wf_plan::{Entry, Plan, Shape};
+use wf_tables::{Entry, Instance, Plan, Shape};
 use wf_val::Indexes;
 
 /// The graph in which an action stands.

@@ -2,9 +2,9 @@
 ghost use Rattle.std.specs.Prelude.{◌≡◌, ◌<◌, ◌≤◌, ◌+◌, ◌&&◌, IfOk, None, cond, length};
 ghost use Rattle.wf_layers.specs.Address.{Address, is_own, same_at};
 ghost use Rattle.wf_layers.specs.Changes.{next_of};
-ghost use Rattle.wf_asks.specs.Instances.{rows_in};
-ghost use Rattle.wf_asks.specs.Known.{is_among, opens_in};
-ghost use Rattle.wf_plan.specs.PlanSeen.{list_at, plan_tree};
+ghost use Rattle.wf_tables.specs.Instances.{rows_in};
+ghost use Rattle.wf_tables.specs.Known.{is_among, opens_in};
+ghost use Rattle.wf_tables.specs.PlanSeen.{list_at, plan_tree};
 ghost use Rattle.wf_events.specs.Looked.{idle_at, instances_at, open_at};
 ghost use Rattle.wf_events.specs.Round.{IsLast, look_out};
 ghost use Rattle.wf_tables.specs.Tables.{count_in, events_in, left_in};
@@ -14,10 +14,8 @@ use crate::look::look_at_each;
 use crate::ready::take_event;
 use crate::round::Round;
 use std::alloc::{AllocError, Global};
-use wf_asks::{Acts, Instance, Opens, Rows, Store};
-use wf_plan::Plan;
 use wf_room::Roomy;
-use wf_tables::{CountAt, EventAt};
+use wf_tables::{Acts, CountAt, EventAt, Instance, Opens, Plan, Rows, Store};
 
 /// Where the graph of the last begun iteration goes of the container round an action; at the top that of the action itself.
 pub fn last_of<D, V>(

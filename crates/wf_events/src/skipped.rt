@@ -1,13 +1,11 @@
 //! What gets rows with an action that doesn't run.
 ghost use Rattle.std.specs.Prelude.{◌≡◌, IfOk, map};
-ghost use Rattle.wf_plan.specs.PlanSeen.{plan_tree};
+ghost use Rattle.wf_tables.specs.PlanSeen.{plan_tree};
 ghost use Rattle.wf_tables.specs.Blocks.{skipped_at};
 ghost use Rattle.wf_events.specs.Skipped.{block_of};
 
 use std::alloc::{AllocError, Global};
-use wf_asks::{Acts, Instance, RowAt};
-use wf_plan::Plan;
-use wf_tables::skipped_rows;
+use wf_tables::{Acts, Instance, Plan, RowAt, skipped_rows};
 
 /// The rows of an action that is skipped and of all inside it that stand in no loop there, at its indexes.
 pub fn block_rows<A: Acts>(

@@ -1,11 +1,11 @@
 //! Last writers of variables, as a row gives some of them values.
 ghost use Rattle.std.specs.Prelude.{◌≡◌, ◌<◌, ◌≤◌, ◌+◌, ℕ, IfOk, Some, cond, length, nat_eq};
-ghost use Rattle.wf_asks.specs.Instances.{address_of};
-ghost use Rattle.wf_asks.specs.Known.{store_in};
+ghost use Rattle.wf_tables.specs.Instances.{address_of};
+ghost use Rattle.wf_tables.specs.Known.{store_in};
 ghost use Rattle.wf_events.specs.Written.{put_each, writers_of};
 
 use std::alloc::{AllocError, Global};
-use wf_asks::{Instance, Store, WriterAt};
+use wf_tables::{Instance, Store, WriterAt};
 
 /// An instance as the last writer of each of these variables.
 pub fn writers(

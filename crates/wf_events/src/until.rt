@@ -1,14 +1,13 @@
 //! What a state has of an Until that is tested, and what its row tells as it closes.
 ghost use Rattle.std.specs.Prelude.{◌≡◌, ◌<◌, ◌^◌, Some, option_map};
 ghost use Rattle.wf_layers.specs.Changes.{next_of};
-ghost use Rattle.wf_asks.specs.Instances.{address_of};
-ghost use Rattle.wf_asks.specs.Known.{opens_in};
-ghost use Rattle.wf_plan.specs.PlanSeen.{at_place, plan_tree};
+ghost use Rattle.wf_tables.specs.Instances.{address_of};
+ghost use Rattle.wf_tables.specs.Known.{opens_in};
+ghost use Rattle.wf_tables.specs.PlanSeen.{at_place, plan_tree};
 ghost use Rattle.wf_events.specs.Closed.{iterations_by, last_by};
 ghost use Rattle.wf_events.specs.Events.{count_or_zero};
 
-use wf_asks::{Instance, OpenAt, Opens};
-use wf_plan::{Plan, Shape};
+use wf_tables::{Instance, OpenAt, Opens, Plan, Shape};
 
 /// How many iterations an Until has at most; 0 of anything else.
 pub fn count_of(plan: &Plan, action: u32) -> u64

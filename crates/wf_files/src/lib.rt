@@ -22,3 +22,4 @@ pub use form::{
     schedule_form, value_form,
 };
 pub use quoted::{with_number, with_pair, with_text};
+pub use wf_rules::Checked;

@@ -4,9 +4,9 @@ use Rattle.wf_layers.specs.Address.{address}
 use Rattle.wf_layers.proofs.Basics.{two}
 use Rattle.wf_def.specs.AllActions.{numbered}
 use Rattle.wf_def.specs.DefTree.{DefTree}
-use Rattle.wf_meant.specs.Resubmitted.{rows_by}
+use Rattle.wf_catalog.specs.Resubmitted.{rows_by}
 use Rattle.wf_record.specs.Record.{Row, RowTree}
-use Rattle.wf_says.specs.Says.{is_skipped}
+use Rattle.wf_catalog.specs.Says.{is_skipped}
 use Rattle.wf_shape.specs.Standing.{Standing, at_turn, if_fits, uncalled, unsaid}
 use Rattle.wf_turns.specs.Reading.{reading}
 use Rattle.wf_ways.specs.Along.{go_in}

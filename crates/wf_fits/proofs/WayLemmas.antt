@@ -31,7 +31,7 @@ use Rattle.wf_fits.specs.SortsSeen.{sort_in, typed_tree}
 use Rattle.wf_catalog.specs.declared.named.Named.{Named}
 use Rattle.wf_fits.specs.declared.sorts.Typed.{Typed}
 use Rattle.wf_fits.specs.NamedSeen.{named_in, named_tree}
-use Rattle.wf_meant.specs.Points.{has_action_name}
+use Rattle.wf_catalog.specs.Points.{has_action_name}
 use Rattle.std.specs.Prelude.{bytes_eq}
 use Rattle.wf_fits.specs.declared.walk.Placed.{Placed}
 use Rattle.wf_def.specs.ActionSeen.{action_tree}

@@ -5,11 +5,11 @@ use Rattle.wf_def.specs.ActionTree.{ActionTree, action_kind}
 use Rattle.wf_def.specs.AllActions.{numbered}
 use Rattle.wf_def.specs.DefTree.{DefTree}
 use Rattle.wf_def.specs.declared.sort.Sort.{Sort}
-use Rattle.wf_meant.specs.Points.{graph_of}
-use Rattle.wf_meant.specs.Resubmitted.{rows_by}
+use Rattle.wf_catalog.specs.Points.{graph_of}
+use Rattle.wf_catalog.specs.Resubmitted.{rows_by}
 use Rattle.wf_record.specs.Record.{Row, RowTree}
-use Rattle.wf_says.specs.Says.{fits_kind, is_skipped}
-use Rattle.wf_says.specs.Told.{items_said, rounds_said}
+use Rattle.wf_catalog.specs.Says.{fits_kind, is_skipped}
+use Rattle.wf_catalog.specs.SaysTold.{items_said, rounds_said}
 use Rattle.wf_shape.specs.Standing.{Standing}
 use Rattle.wf_turns.specs.Reading.{reading, taken_in}
 use Rattle.wf_ways.specs.Along.{along}

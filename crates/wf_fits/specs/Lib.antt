@@ -1,3 +1,4 @@
+pub use Rattle.wf_turns.specs.Reading
 pub mod Walk
 pub mod WalkSeen
 pub mod Sorts

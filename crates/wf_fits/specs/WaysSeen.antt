@@ -5,7 +5,7 @@ use Rattle.wf_lists.specs.KeyOrder.{find_key}
 use Rattle.wf_def.specs.AllActions.{numbered}
 use Rattle.wf_def.specs.DefTree.{DefTree}
 use Rattle.wf_def.specs.declared.graph.Action.{out-Action}
-use Rattle.wf_meant.specs.Points.{action_named, graph_of}
+use Rattle.wf_catalog.specs.Points.{action_named, graph_of}
 use Rattle.wf_ways.specs.Way.{Step, way}
 use Rattle.wf_fits.specs.NamedSeen.{named_in}
 use Rattle.wf_fits.specs.Sorts.{sort_of}

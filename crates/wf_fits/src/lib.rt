@@ -18,3 +18,6 @@ mod ways;
 pub use standing::{Standing, may_be, stands};
 pub use step::{Into, Step};
 pub use ways::Ways;
+pub use wf_turns::{
+    attempts_are_few, numbers_have_the_kinds_of_their_actions, rows_tell_what_was_decided,
+};

@@ -3,7 +3,7 @@ ghost use Rattle.std.specs.List.{find};
 ghost use Rattle.std.specs.Prelude.{◌≡◌, ℕ, IfOk, List, map};
 ghost use Rattle.wf_def.specs.ActionSeen.{action_tree};
 ghost use Rattle.wf_fits.specs.NamedSeen.{named_in, named_tree};
-ghost use Rattle.wf_meant.specs.Points.{has_action_name};
+ghost use Rattle.wf_catalog.specs.Points.{has_action_name};
 
 use crate::walk::Placed;
 use std::alloc::{AllocError, Global};

@@ -6,8 +6,8 @@ ghost use Rattle.wf_fits.specs.Fits.{along_in, entry_by, entry_past, fits_in, fi
 ghost use Rattle.wf_fits.specs.FitsSeen.{entry_tree, standing_tree};
 ghost use Rattle.wf_fits.specs.WalkSeen.{into_tree, step_tree};
 ghost use Rattle.wf_layers.specs.Address.{address};
-ghost use Rattle.wf_meant.specs.Resubmitted.{rows_by};
-ghost use Rattle.wf_reading.specs.ReadSeen.{def_tree};
+ghost use Rattle.wf_catalog.specs.Resubmitted.{rows_by};
+ghost use Rattle.wf_catalog.specs.ReadSeen.{def_tree};
 ghost use Rattle.wf_record.specs.Record.{find_row};
 ghost use Rattle.wf_record.specs.Seen.{record_tree, row_tree};
 ghost use Rattle.wf_shape.specs.Standing.{own};
@@ -16,10 +16,9 @@ ghost use Rattle.wf_turns.specs.Reading.{taken_in};
 use crate::step::{Into, Step};
 use crate::ways::Ways;
 use std::alloc::{AllocError, Global};
-use wf_catalog::{kind_of, name_of};
+use wf_catalog::{branch_said, fits, is_skipped, items_said, kind_of, name_of, rounds_said};
 use wf_def::Action;
 use wf_record::{Record, Row};
-use wf_says::{branch_said, fits, is_skipped, items_said, rounds_said};
 use wf_val::{Address, Indexes};
 
 /// Whether a record has to have a row.

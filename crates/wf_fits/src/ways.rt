@@ -7,8 +7,8 @@ ghost use Rattle.wf_fits.specs.Sorts.{sort_at, sort_changed};
 ghost use Rattle.wf_fits.specs.Walk.{is_at};
 ghost use Rattle.wf_fits.specs.WalkSeen.{step_tree, walked};
 ghost use Rattle.wf_fits.specs.WaysSeen.{placed_at};
-ghost use Rattle.wf_meant.specs.Points.{action_named, graph_of};
-ghost use Rattle.wf_reading.specs.ReadSeen.{def_tree};
+ghost use Rattle.wf_catalog.specs.Points.{action_named, graph_of};
+ghost use Rattle.wf_catalog.specs.ReadSeen.{def_tree};
 ghost use Rattle.wf_ways.specs.Way.{way};
 
 use crate::named::by_name;
@@ -17,10 +17,9 @@ use crate::step::Step;
 use crate::walk::{Placed, all_placed};
 use std::alloc::{AllocError, Global};
 use std::marker::Model;
-use wf_catalog::{Named, by_keys, kind_of};
+use wf_catalog::{Def, Named, by_keys, kind_of};
 use wf_def::{Action, Sort};
 use wf_lists::{Keyed, Sorted};
-use wf_reading::Def;
 use wf_val::Name;
 
 impl<'a> Keyed for Placed<'a> {
@@ -46,9 +45,9 @@ pub struct Ways<'a> {
 
 impl<'a> Model for Ways<'a> {
     ghost use Rattle.std.specs.Coded.{codes};
-    ghost use Rattle.wf_reading.specs.contracts.definition.Def as read;
-    ghost use Rattle.wf_reading.specs.declared.definition.Def.{Def};
-    ghost use Rattle.wf_reading.specs.ReadSeen.{def_tree};
+    ghost use Rattle.wf_catalog.specs.Def as read;
+    ghost use Rattle.wf_catalog.specs.ReadingDef.{Def};
+    ghost use Rattle.wf_catalog.specs.ReadSeen.{def_tree};
     ghost use Rattle.wf_fits.specs.WaysSeen.{AreWays};
 
     ghost Value = { Def };

@@ -1,8 +1,8 @@
 -- One member more of a walk.
 use Rattle.std.proofs.Common.{◌≡◌, ◌<◌, ◌+◌, ℕ, List, ◌∷◌, ◌++◌, length, drop, drop-cons, get_or, suc, add-one, map, Option}
 use Rattle.std.proofs.Common.{option_map, sym, ap, ◌∙◌}
-use Rattle.wf_json.specs.Pointer.{member_step, lesser, least}
-use Rattle.wf_json.proofs.PointerLemmas.{lesser-assoc, least-append, least-front}
+use Rattle.wf_after.specs.Pointer.{member_step, lesser, least}
+use Rattle.wf_after.proofs.PointerLemmas.{lesser-assoc, least-append, least-front}
 use Rattle.wf_val.specs.ValueTree.{ValueTree, MemberTrees, member_then, object}
 use Rattle.wf_form.specs.Actions.{in_part}
 use Rattle.wf_form.specs.Judge.{judge}

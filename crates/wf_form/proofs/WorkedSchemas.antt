@@ -1,11 +1,11 @@
 -- Worked definitions for what the schema of a ParseJson means to V6 and V7.
 use Rattle.std.proofs.Common.{◌≡◌, pos, List, [], ◌∷◌, codes, map, Some, None, refl}
 use Rattle.std.specs.Str.{chars}
-use Rattle.wf_kinds.specs.ActionType.{type_of}
-use Rattle.wf_kinds.specs.Members.{action_has_members, trigger_has_members, output_has_members}
-use Rattle.wf_expr.specs.Kinds.{kind}
-use Rattle.wf_expr.specs.Text.{template_in}
-use Rattle.wf_expr.specs.WordTests.{word_of, word_front}
+use Rattle.wf_texts.specs.ActionType.{type_of}
+use Rattle.wf_texts.specs.KindsMembers.{action_has_members, trigger_has_members, output_has_members}
+use Rattle.wf_texts.specs.Kinds.{kind}
+use Rattle.wf_texts.specs.Text.{template_in}
+use Rattle.wf_texts.specs.WordTests.{word_of, word_front}
 use Rattle.wf_texts.specs.Members.{bad_texts_of_action, bad_texts_of_trigger, bad_texts_of_output}
 use Rattle.wf_texts.specs.Sound.{is_bad}
 use Rattle.wf_val.specs.ValueTree.{ValueTree, number, text, list, object, trees, members, Member}

@@ -2,11 +2,11 @@
 use Rattle.std.proofs.Common.{◌≡◌, ℕ, zero, suc, pos, List, [], ◌∷◌, ◌++◌, codes, map, true, false, Bool, Option, Some, None, refl}
 use Rattle.std.specs.Fmt.{digits}
 use Rattle.std.specs.Str.{chars}
-use Rattle.wf_kinds.specs.ActionType.{type_of}
-use Rattle.wf_kinds.specs.Members.{action_has_members, trigger_has_members, output_has_members}
-use Rattle.wf_expr.specs.Kinds.{kind}
-use Rattle.wf_expr.specs.Text.{template_in}
-use Rattle.wf_expr.specs.WordTests.{word_of, word_front}
+use Rattle.wf_texts.specs.ActionType.{type_of}
+use Rattle.wf_texts.specs.KindsMembers.{action_has_members, trigger_has_members, output_has_members}
+use Rattle.wf_texts.specs.Kinds.{kind}
+use Rattle.wf_texts.specs.Text.{template_in}
+use Rattle.wf_texts.specs.WordTests.{word_of, word_front}
 use Rattle.wf_texts.specs.Members.{bad_texts_of_action, bad_texts_of_trigger, bad_texts_of_output}
 use Rattle.wf_texts.specs.Sound.{is_bad}
 use Rattle.wf_val.specs.ValueTree.{ValueTree, null, number, text, list, object, trees, members, Member}

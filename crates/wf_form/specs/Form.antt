@@ -2,7 +2,7 @@
 use Rattle.std.specs.Prelude.{ℕ, ◌++◌, List, [], Bool, true, false, not, Option, if◌then◌else◌, codes}
 use Rattle.std.specs.List.{list_all}
 use Rattle.std.specs.Option.{option_map_or}
-use Rattle.wf_json.specs.Pointer.{flagged, here}
+use Rattle.wf_after.specs.Pointer.{flagged, here}
 use Rattle.wf_val.specs.ValueTree.{ValueTree, text, list, object, items, pairs}
 use Rattle.wf_val.specs.Get.{get, is_object}
 use Rattle.wf_form.specs.declared.form.Shape.{Shape}

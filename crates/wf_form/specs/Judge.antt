@@ -1,8 +1,8 @@
 -- What breaks a rule where it stands: pointers from the value on. Each rule is a list of them, said in a file of its own.
 use Rattle.std.specs.Prelude.{ℕ, List, [], Bool, false, not}
 use Rattle.wf_after.specs.Waits.{bad_run_after}
-use Rattle.wf_json.specs.Pointer.{here}
-use Rattle.wf_kinds.specs.Members.{action_has_members, trigger_has_members, output_has_members}
+use Rattle.wf_after.specs.Pointer.{here}
+use Rattle.wf_texts.specs.KindsMembers.{action_has_members, trigger_has_members, output_has_members}
 use Rattle.wf_texts.specs.Members.{bad_texts_of_action, bad_texts_of_trigger, bad_texts_of_output}
 use Rattle.wf_val.specs.ValueTree.{ValueTree, object, pairs}
 use Rattle.wf_form.specs.Form.{form}

@@ -1,3 +1,7 @@
+pub use Rattle.wf_after.specs.Entries
+pub use Rattle.wf_after.specs.Json
+pub use Rattle.wf_after.specs.Pointer
+pub use Rattle.wf_after.specs.Waits
 pub use Rattle.wf_first.specs.First
 pub mod Actions
 pub mod Fault

@@ -1,6 +1,6 @@
 -- V3: nothing is more than the limits allow, or deeper.
 use Rattle.std.specs.Prelude.{ℕ, ◌++◌, List, [], length, ◌||◌, nat_lt, Option, Some, codes}
-use Rattle.wf_json.specs.Pointer.{flagged, here}
+use Rattle.wf_after.specs.Pointer.{flagged, here}
 use Rattle.wf_val.specs.ValueTree.{ValueTree, object, pairs}
 use Rattle.wf_val.specs.Get.{get}
 use Rattle.wf_form.specs.Whole.{Whole}

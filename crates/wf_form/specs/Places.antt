@@ -1,6 +1,6 @@
 -- Where a definition breaks a rule: one walk for all rules over what they look at.
 use Rattle.std.specs.Prelude.{ℕ, List, [], ◌++◌, map}
-use Rattle.wf_json.specs.Pointer.{member_step}
+use Rattle.wf_after.specs.Pointer.{member_step}
 use Rattle.wf_val.specs.ValueTree.{ValueTree, object, MemberTrees, no_members, member_then}
 use Rattle.wf_form.specs.Actions.{in_part}
 use Rattle.wf_form.specs.Judge.{judge}

@@ -1,8 +1,8 @@
 -- What the values of a definition stand for: its sections, their members, and the graphs in the actions.
 use Rattle.std.specs.Prelude.{ℕ, ◌+◌, nat_lt, List, Option, Some, None, if◌then◌else◌, bytes_eq, codes}
 use Rattle.wf_val.specs.ValueTree.{ValueTree}
-use Rattle.wf_kinds.specs.ActionType.{type_of}
-use Rattle.wf_kinds.specs.declared.action_type.ActionType.{ActionType}
+use Rattle.wf_texts.specs.ActionType.{type_of}
+use Rattle.wf_texts.specs.KindsActionType.{ActionType}
 use Rattle.wf_form.specs.declared.role.Role.{Role}
 use Rattle.wf_form.specs.declared.role.Holder.{Holder}
 

@@ -1,7 +1,7 @@
 -- V2: the schema is that of 2016-06-01 (Workflow Definition Language, "Workflow definition structure").
 use Rattle.std.specs.Prelude.{ℕ, List, [], Bool, false, not, ◌||◌, Option, bytes_eq, codes}
 use Rattle.std.specs.Option.{option_map_or}
-use Rattle.wf_json.specs.Pointer.{flagged}
+use Rattle.wf_after.specs.Pointer.{flagged}
 use Rattle.wf_val.specs.ValueTree.{ValueTree, text}
 use Rattle.wf_val.specs.Get.{get}
 use Rattle.wf_form.specs.declared.role.Role.{Role}

@@ -2,8 +2,8 @@
 use Rattle.std.specs.Prelude.{ℕ, List, [], ◌∷◌, Bool, false, not, Option, Some, is_none, codes}
 use Rattle.std.specs.List.{list_any}
 use Rattle.std.specs.Str.{str_eq_ignore_ascii_case}
-use Rattle.wf_json.specs.Pointer.{here}
-use Rattle.wf_kinds.specs.ActionType.{type_of}
+use Rattle.wf_after.specs.Pointer.{here}
+use Rattle.wf_texts.specs.ActionType.{type_of}
 use Rattle.wf_val.specs.ValueTree.{ValueTree, text}
 use Rattle.wf_val.specs.Get.{get}
 use Rattle.wf_form.specs.declared.role.Role.{Role}

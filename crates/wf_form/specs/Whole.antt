@@ -1,9 +1,9 @@
 -- What the rules ask of the whole definition, wherever they look.
 use Rattle.std.specs.Prelude.{ℕ, suc, ◌+◌, List, [], ◌∷◌, length, Bool, nat_lt, if◌then◌else◌, bytes_eq, codes, Option, Some}
 use Rattle.wf_val.specs.ValueTree.{ValueTree, list, items, Member}
-use Rattle.wf_kinds.specs.ActionType.{type_of}
-use Rattle.wf_kinds.specs.Parts.{input}
-use Rattle.wf_kinds.specs.declared.action_type.ActionType.{ActionType}
+use Rattle.wf_texts.specs.ActionType.{type_of}
+use Rattle.wf_texts.specs.Parts.{input}
+use Rattle.wf_texts.specs.KindsActionType.{ActionType}
 use Rattle.wf_form.specs.Actions.{actions_of}
 
 pub record Whole : Type 0 where

@@ -1,7 +1,7 @@
 //! Which rule a definition breaks first, and where.
 ghost use Rattle.std.specs.Prelude.{◌≡◌, ℕ, List, Some, None, IfOk, option_map, string_bytes};
 ghost use Rattle.wf_first.specs.First.{Hold, IsFirstBroken};
-ghost use Rattle.wf_json.specs.Pointer.{least};
+ghost use Rattle.wf_after.specs.Pointer.{least};
 ghost use Rattle.wf_val.specs.Seen.{tree};
 ghost use Rattle.wf_val.specs.ValueTree.{ValueTree};
 ghost use Rattle.wf_form.specs.Fault.{fault_of, first_fault, inner_of, offences, rules_in_order};

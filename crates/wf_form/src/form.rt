@@ -1,7 +1,7 @@
 //! V1: the forms of values.
 ghost use Rattle.std.specs.Prelude.{◌≡◌, map, IfOk, option_map, string_bytes};
 ghost use Rattle.std.specs.List.{list_all};
-ghost use Rattle.wf_json.specs.Pointer.{least};
+ghost use Rattle.wf_after.specs.Pointer.{least};
 ghost use Rattle.wf_val.specs.Get.{is_object};
 ghost use Rattle.wf_val.specs.Seen.{tree, member};
 ghost use Rattle.wf_form.specs.Form.{breaks, form, has_shape, is_list_of_texts, is_run_after, is_text, members_form, misshapen};
@@ -9,7 +9,7 @@ ghost use Rattle.wf_form.specs.declared.role.Role.{Role as RoleOf};
 
 use crate::role::Role;
 use std::alloc::{AllocError, Global};
-use wf_json::pointer::{flagged, here, lesser};
+use wf_after::pointer::{flagged, here, lesser};
 use wf_val::{Text, Val};
 
 /// What a member has to be.

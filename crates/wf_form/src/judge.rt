@@ -1,6 +1,6 @@
 //! What breaks a rule where it stands.
 ghost use Rattle.std.specs.Prelude.{◌≡◌, IfOk, option_map, string_bytes};
-ghost use Rattle.wf_json.specs.Pointer.{least};
+ghost use Rattle.wf_after.specs.Pointer.{least};
 ghost use Rattle.wf_val.specs.Seen.{tree};
 ghost use Rattle.wf_form.specs.Judge.{expressions, judge, lacking, lacks_members, run_after, run_after_in};
 ghost use Rattle.wf_form.specs.KnownSeen.{whole_seen};
@@ -15,9 +15,11 @@ use crate::schema::schema;
 use crate::types::types;
 use std::alloc::{AllocError, Global};
 use wf_after::bad_run_after;
-use wf_json::pointer::here;
-use wf_kinds::{action_has_members, output_has_members, trigger_has_members};
-use wf_texts::{bad_texts_of_action, bad_texts_of_output, bad_texts_of_trigger};
+use wf_after::pointer::here;
+use wf_texts::{
+    action_has_members, bad_texts_of_action, bad_texts_of_output, bad_texts_of_trigger,
+    output_has_members, trigger_has_members,
+};
 use wf_val::Val;
 
 fn lacks_members(role: Role, value: &Val) -> bool

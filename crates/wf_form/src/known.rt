@@ -3,12 +3,12 @@ ghost use Rattle.std.specs.Prelude.{◌≡◌, ℕ, List, bytes_eq, map, nat_lt,
 ghost use Rattle.wf_val.specs.Seen.{tree, member};
 ghost use Rattle.wf_form.specs.KnownSeen.{is_listed, whole_seen};
 ghost use Rattle.wf_form.specs.Whole.{count_named, count_variables, variables_by, variables_in, whole_among, whole_of};
-ghost use Rattle.wf_kinds.specs.ActionType.{type_of};
+ghost use Rattle.wf_texts.specs.ActionType.{type_of};
 
 use crate::actions::actions_of;
 use std::alloc::{AllocError, Global};
 use std::collections::BTreeSet;
-use wf_kinds::{ActionType, input};
+use wf_texts::{ActionType, input};
 use wf_val::{Text, Val};
 
 const MOST_VARIABLES: u64 = 250;

@@ -28,3 +28,4 @@ pub use actions::actions_of;
 pub use fault::{fault_of, first_fault, inner, the_first_fault};
 pub use role::{Holder, Role};
 pub use rule::Rule;
+pub use wf_after::{pointer, write};

@@ -1,6 +1,6 @@
 //! V3: limits.
 ghost use Rattle.std.specs.Prelude.{◌≡◌, ◌||◌, nat_lt, IfOk, option_map, string_bytes};
-ghost use Rattle.wf_json.specs.Pointer.{least};
+ghost use Rattle.wf_after.specs.Pointer.{least};
 ghost use Rattle.wf_val.specs.Seen.{tree};
 ghost use Rattle.wf_form.specs.KnownSeen.{whole_seen};
 ghost use Rattle.wf_form.specs.Limits.{limits, limits_at, member_count, too_many};
@@ -9,7 +9,7 @@ ghost use Rattle.wf_form.specs.declared.role.Role.{Role as RoleOf};
 use crate::known::Known;
 use crate::role::Role;
 use std::alloc::{AllocError, Global};
-use wf_json::pointer::{flagged, here, lesser};
+use wf_after::pointer::{flagged, here, lesser};
 use wf_val::Val;
 
 const MOST_ACTIONS: usize = 500;

@@ -1,14 +1,14 @@
 //! V4: names.
 ghost use Rattle.std.specs.Prelude.{◌≡◌, IfOk, option_map, string_bytes};
 ghost use Rattle.std.specs.List.{list_all};
-ghost use Rattle.wf_json.specs.Pointer.{least};
+ghost use Rattle.wf_after.specs.Pointer.{least};
 ghost use Rattle.wf_form.specs.KnownSeen.{whole_seen};
 ghost use Rattle.wf_form.specs.Naming.{is_bad_name, is_name, is_printable, naming};
 
 use crate::known::Known;
 use crate::role::Role;
 use std::alloc::Global;
-use wf_json::pointer::here;
+use wf_after::pointer::here;
 use wf_val::char_count;
 
 const LONGEST: u64 = 80;

@@ -1,10 +1,10 @@
 //! What a value of a definition stands for.
 ghost use Rattle.std.specs.Prelude.{◌≡◌};
 ghost use Rattle.wf_form.specs.Role.{child, deeper, graph_at, held, holder_of, section};
-ghost use Rattle.wf_kinds.specs.ActionType.{type_of};
+ghost use Rattle.wf_texts.specs.ActionType.{type_of};
 ghost use Rattle.wf_val.specs.Seen.{tree};
 
-use wf_kinds::ActionType;
+use wf_texts::ActionType;
 use wf_val::Val;
 
 /// What a value stands for that rules look at. A level is that of the actions there: 1 for those of the definition's own graph, 9

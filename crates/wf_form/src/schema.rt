@@ -1,13 +1,13 @@
 //! V2: the schema.
 ghost use Rattle.std.specs.Prelude.{◌≡◌, bytes_eq, IfOk, option_map, string_bytes};
-ghost use Rattle.wf_json.specs.Pointer.{least};
+ghost use Rattle.wf_after.specs.Pointer.{least};
 ghost use Rattle.wf_val.specs.Seen.{tree};
 ghost use Rattle.wf_val.specs.ValueTree as value;
 ghost use Rattle.wf_form.specs.Schema.{is_other_schema, is_schema, schema};
 
 use crate::role::Role;
 use std::alloc::{AllocError, Global};
-use wf_json::pointer::flagged;
+use wf_after::pointer::flagged;
 use wf_val::Val;
 
 fn is_same(one: &str, other: &str) -> bool

@@ -2,14 +2,14 @@
 ghost use Rattle.std.specs.Prelude.{◌≡◌, IfOk, option_map, string_bytes};
 ghost use Rattle.std.specs.List.{list_any};
 ghost use Rattle.std.specs.Str.{str_eq_ignore_ascii_case};
-ghost use Rattle.wf_json.specs.Pointer.{least};
+ghost use Rattle.wf_after.specs.Pointer.{least};
 ghost use Rattle.wf_val.specs.Seen.{tree};
 ghost use Rattle.wf_form.specs.Types.{is_bad_type, is_parameter_type, is_trigger_type, parameter_types, types};
 
 use crate::role::Role;
 use std::alloc::Global;
-use wf_json::pointer::here;
-use wf_kinds::ActionType;
+use wf_after::pointer::here;
+use wf_texts::ActionType;
 use wf_val::Val;
 
 fn is_trigger_type(value: Option<&Val>) -> bool

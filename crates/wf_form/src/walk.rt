@@ -1,6 +1,6 @@
 //! The least place that breaks a rule.
 ghost use Rattle.std.specs.Prelude.{◌≡◌, IfOk, option_map, string_bytes};
-ghost use Rattle.wf_json.specs.Pointer.{least, lesser};
+ghost use Rattle.wf_after.specs.Pointer.{least, lesser};
 ghost use Rattle.wf_val.specs.Seen.{tree};
 ghost use Rattle.wf_val.specs.ValueTree.{members};
 ghost use Rattle.wf_form.specs.Actions.{in_part};
@@ -12,7 +12,7 @@ use crate::known::Known;
 use crate::role::{Holder, Role};
 use crate::rule::Rule;
 use std::alloc::{AllocError, Global};
-use wf_json::pointer::with_member;
+use wf_after::pointer::with_member;
 use wf_val::{Fields, Val};
 
 /// The least pointer, from a value on, of what breaks the rule in it. A value that breaks nothing costs no memory.

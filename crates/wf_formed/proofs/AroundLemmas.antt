@@ -7,12 +7,12 @@ use Rattle.wf_val.specs.ValueTree.{text}
 use Rattle.wf_def.specs.DefTree.{DefTree}
 use Rattle.wf_answers.specs.Inputs.{InputsTree}
 use Rattle.wf_breaks.specs.declared.rule.Rule.{Rule}
-use Rattle.wf_rules.specs.Broken.{offences}
+use Rattle.wf_pinned.specs.Broken.{offences}
 use Rattle.wf_record.specs.Record.{RecordTree}
 use Rattle.wf_record_form.specs.Fitting.{IsFittingRecord}
 use Rattle.wf_environment.specs.Environment.{Environment, Facts, Layer, facts_of, facts_over, first_facts, last_over}
 use Rattle.wf_environment.specs.Environment.{layer_facts}
-use Rattle.wf_meant.specs.Resubmitted.{resubmitted}
+use Rattle.wf_pinned.specs.Resubmitted.{resubmitted}
 use Rattle.wf_formed.specs.Known.{TemplatesFit}
 use Rattle.wf_formed.specs.Surroundings.{AreHandedIn, IsSurroundedBy}
 use Rattle.wf_formed.proofs.AnswerLemmas.{AreFormedAnswers, AreFormedInputs, inputs_formed}

@@ -6,17 +6,17 @@ use Rattle.wf_first.specs.First.{first_broken}
 use Rattle.wf_layers.specs.Address.{Table}
 use Rattle.wf_answers.specs.Inputs.{InputsTree}
 use Rattle.wf_def.specs.DefTree.{DefTree}
-use Rattle.wf_rules.specs.Broken.{broken_of, offences, rules_in_order}
+use Rattle.wf_pinned.specs.Broken.{broken_of, offences, rules_in_order}
 use Rattle.wf_record.specs.Record.{RecordTree, Row, RowTree}
 use Rattle.wf_record.specs.declared.attempt.Try.{Try}
 use Rattle.wf_record_form.specs.Fitting.{IsFittingRecord, IsFittingRow, IsTry}
 use Rattle.wf_record_form.specs.ReadBack.{IsInRange, IsRowInRange, IsTryInRange}
 use Rattle.wf_environment.specs.Environment.{Environment}
-use Rattle.wf_meant.specs.Points.{graph_of}
-use Rattle.wf_meant.specs.Record.{depth_of, meaning}
-use Rattle.wf_meant.specs.Resubmitted.{pinned, pinned_table, resubmitted}
-use Rattle.wf_meant.specs.Source.{table_of}
-use Rattle.wf_meant_laws.specs.Tables.{AreWhole}
+use Rattle.wf_pinned.specs.Points.{graph_of}
+use Rattle.wf_pinned.specs.Record.{depth_of, meaning}
+use Rattle.wf_pinned.specs.Resubmitted.{pinned, pinned_table, resubmitted}
+use Rattle.wf_pinned.specs.Source.{table_of}
+use Rattle.wf_pinned.specs.Tables.{AreWhole}
 use Rattle.wf_formed.specs.Formed.{IsFormedRow}
 use Rattle.wf_formed.specs.Known.{IsKnown, Promised}
 use Rattle.wf_formed.specs.Surroundings.{AreHandedIn, IsSurroundedBy}

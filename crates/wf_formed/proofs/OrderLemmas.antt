@@ -29,12 +29,12 @@ use Rattle.wf_reading.specs.Numbers.{is_below}
 use Rattle.wf_record.specs.Record.{Row, RowTree, address_of}
 use Rattle.wf_record_form.specs.Fitting.{IsFittingRow}
 use Rattle.wf_refs.proofs.NumberLemmas.{names_are, numbers_are}
-use Rattle.wf_meant.specs.Look.{instance, name_in, name_of}
-use Rattle.wf_meant.specs.Points.{graph_of}
-use Rattle.wf_meant.specs.Record.{rows_of}
-use Rattle.wf_meant_laws.specs.Listed.{Entry, StandFor, told_as}
-use Rattle.wf_meant_laws.specs.Tables.{StandAtInstances}
-use Rattle.wf_meant_laws.proofs.RangeLemmas.{some_found}
+use Rattle.wf_pinned.specs.Look.{instance, name_in, name_of}
+use Rattle.wf_pinned.specs.Points.{graph_of}
+use Rattle.wf_pinned.specs.Record.{rows_of}
+use Rattle.wf_pinned.specs.Listed.{Entry, StandFor, told_as}
+use Rattle.wf_pinned.specs.Tables.{StandAtInstances}
+use Rattle.wf_pinned.proofs.RangeLemmas.{some_found}
 use Rattle.wf_formed.specs.Formed.{IsFormedRow}
 use Rattle.wf_formed.proofs.MeaningLemmas.{OfRow, OfTable}
 

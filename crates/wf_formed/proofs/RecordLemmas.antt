@@ -14,9 +14,9 @@ use Rattle.wf_record_form.specs.Fitting.{AllFit, IsFittingRecord, IsMeasured, Is
 use Rattle.wf_data.specs.Simple.{run_status_of}
 use Rattle.wf_environment.specs.Ending.{ending, section}
 use Rattle.wf_environment.specs.Environment.{Environment, last_facts}
-use Rattle.wf_meant.specs.Containers.{is_terminate}
-use Rattle.wf_meant.specs.Look.{told_to_outputs}
-use Rattle.wf_meant.specs.Record.{ended_by, ending_by, first_succeeded, record_of_table, responded, row_found}
+use Rattle.wf_pinned.specs.Containers.{is_terminate}
+use Rattle.wf_pinned.specs.Look.{told_to_outputs}
+use Rattle.wf_pinned.specs.Record.{ended_by, ending_by, first_succeeded, record_of_table, responded, row_found}
 use Rattle.wf_formed.specs.Formed.{IsFormedRow}
 use Rattle.wf_formed.specs.Known.{TreesFit}
 use Rattle.wf_formed.proofs.FitLemmas.{null_fits}

@@ -41,12 +41,12 @@ use Rattle.wf_done.specs.Leaf.{unless_at}
 use Rattle.wf_done.specs.Tracked.{tracked_value}
 use Rattle.wf_eval.specs.TreeValue.{tree_value}
 use Rattle.wf_environment.specs.Environment.{Environment, facts_of}
-use Rattle.wf_meant.specs.Containers.{any_terminated, case_status, close_branch, close_foreach, close_until, closed}
-use Rattle.wf_meant.specs.Containers.{closed_as, cut_short, failed_by, iterations_value, last_status, status_of, unless_cut}
-use Rattle.wf_meant.specs.Look.{decided_by, instance, told_at, told_ending}
-use Rattle.wf_meant.specs.Rows.{row_of, skipped, view_of}
-use Rattle.wf_meant.specs.Source as meant
-use Rattle.wf_meant.specs.Source.{begun, close_of, finished, source, tries_of, unknown, with_tracked}
+use Rattle.wf_pinned.specs.Containers.{any_terminated, case_status, close_branch, close_foreach, close_until, closed}
+use Rattle.wf_pinned.specs.Containers.{closed_as, cut_short, failed_by, iterations_value, last_status, status_of, unless_cut}
+use Rattle.wf_pinned.specs.Look.{decided_by, instance, told_at, told_ending}
+use Rattle.wf_pinned.specs.Rows.{row_of, skipped, view_of}
+use Rattle.wf_pinned.specs.Source as meant
+use Rattle.wf_pinned.specs.Source.{begun, close_of, finished, source, tries_of, unknown, with_tracked}
 use Rattle.wf_formed.specs.Formed.{IsFormedRow}
 use Rattle.wf_formed.specs.Known.{Promised}
 use Rattle.wf_formed.proofs.AnswerLemmas.{AreFormedAnswers, IsFormedAnswer, IsOutcome}

@@ -32,7 +32,7 @@ use Rattle.wf_trigger.specs.Starts.{with_body}
 use Rattle.wf_trigger.specs.declared.fault.TriggerFault.{TriggerFault}
 use Rattle.wf_breaks.specs.Rules.{is_misdeclared, is_misfit_if, is_too_big_if, has_misfit, parameter_breaks}
 use Rattle.wf_breaks.specs.declared.rule.Rule.{Rule}
-use Rattle.wf_rules.specs.Broken.{offences, parameter_pointer, told}
+use Rattle.wf_pinned.specs.Broken.{offences, parameter_pointer, told}
 use Rattle.wf_reading.proofs.RunAfterLemmas.{append-first, append-second}
 use Rattle.wf_record_form.specs.Fitting.{AllFit, IsMeasured, IsTextOrNull, IsTriggerValue}
 use Rattle.wf_formed.specs.Known.{TemplatesFit}

@@ -20,11 +20,11 @@ use Rattle.wf_record.specs.Record.{RecordTree, Row, RowTree, find_row}
 use Rattle.wf_record_form.specs.Fitting.{IsFittingRow}
 use Rattle.wf_opening.specs.Decisions.{DecisionTree, chosen_as, held_as}
 use Rattle.wf_environment.specs.Environment.{Environment, facts_of}
-use Rattle.wf_meant.specs.Look.{instance}
-use Rattle.wf_meant.specs.Points.{graph_of}
-use Rattle.wf_meant.specs.Record.{depth_of}
-use Rattle.wf_meant.specs.Resubmitted.{is_chosen, pinned_source, pinned_table, recalled, resubmitted, rows_by, said, said_by}
-use Rattle.wf_meant.specs.Source.{source, table_of}
+use Rattle.wf_pinned.specs.Look.{instance}
+use Rattle.wf_pinned.specs.Points.{graph_of}
+use Rattle.wf_pinned.specs.Record.{depth_of}
+use Rattle.wf_pinned.specs.Resubmitted.{is_chosen, pinned_source, pinned_table, recalled, resubmitted, rows_by, said, said_by}
+use Rattle.wf_pinned.specs.Source.{source, table_of}
 use Rattle.wf_formed.specs.Formed.{IsFormedRow}
 use Rattle.wf_formed.specs.Known.{FewTries, Promised}
 use Rattle.wf_formed.proofs.AnswerLemmas.{AreFormedAnswers}

@@ -20,16 +20,16 @@ use Rattle.wf_reading.specs.Read.{IsRead}
 use Rattle.wf_known_laws.specs.Each.{EachGraph}
 use Rattle.wf_known_laws.specs.Held.{AreInRange}
 use Rattle.wf_breaks.specs.declared.rule.Rule.{Rule}
-use Rattle.wf_rules.specs.Broken.{offences}
+use Rattle.wf_pinned.specs.Broken.{offences}
 use Rattle.wf_record.specs.Record.{Row}
 use Rattle.wf_opening.specs.Decisions.{chosen, decided_from, each}
 use Rattle.wf_done.specs.Kept.{KeepsFitting}
 use Rattle.wf_done.specs.Leaf.{begun_from}
 use Rattle.wf_environment.specs.Environment.{Environment}
-use Rattle.wf_meant.specs.Points.{graph_of}
-use Rattle.wf_meant.specs.Source.{source}
-use Rattle.wf_meant_laws.specs.Listed.{StandFor}
-use Rattle.wf_meant_laws.specs.Tables.{AreWhole}
+use Rattle.wf_pinned.specs.Points.{graph_of}
+use Rattle.wf_pinned.specs.Source.{source}
+use Rattle.wf_pinned.specs.Listed.{StandFor}
+use Rattle.wf_pinned.specs.Tables.{AreWhole}
 
 abbrev pub TreesFit : Type 0
 TreesFit = (l : Told) (t : DataTree) (n : ℕ) (v : ValueTree) → (tree_value l t n).0 ≡ Ok v → Fits v

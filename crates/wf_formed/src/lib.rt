@@ -18,15 +18,15 @@ ghost use Rattle.std.specs.List.{AllByRecursion};
 ghost use Rattle.wf_answers.specs.Inputs.{InputsTree};
 ghost use Rattle.wf_def.specs.DefTree.{DefTree};
 ghost use Rattle.wf_environment.specs.Environment.{Environment};
-ghost use Rattle.wf_meant.specs.Record.{meaning};
-ghost use Rattle.wf_meant.specs.Resubmitted.{pinned};
+ghost use Rattle.wf_pinned.specs.Record.{meaning};
+ghost use Rattle.wf_pinned.specs.Resubmitted.{pinned};
 ghost use Rattle.wf_reading.specs.Read.{IsRead};
 ghost use Rattle.wf_record.specs.Record.{RecordTree};
 ghost use Rattle.wf_record_form.specs.Fitting.{IsFittingRecord, IsFittingRow};
 ghost use Rattle.wf_record_form.specs.ReadBack.{IsOfForm, IsReadBack};
 ghost use Rattle.wf_prepare.specs.Prepared.{MayBeResubmitted};
 ghost use Rattle.wf_resubmit.specs.Refused.{numbers_of};
-ghost use Rattle.wf_rules.specs.Broken.{broken_of};
+ghost use Rattle.wf_pinned.specs.Broken.{broken_of};
 ghost use Rattle.wf_formed.specs.Known.{IsKnown, Promised};
 ghost use Rattle.wf_formed.specs.Surroundings.{AreHandedIn, IsKept, IsSurroundedBy};
 
@@ -47,9 +47,9 @@ fn accepted_definitions_are_known()
     wf_reading::numbers_are_places();
     wf_known_laws::numbers_are_had();
     wf_known_laws::numbers_have_their_ranges();
-    wf_rules::the_first_broken_rule();
-    wf_turns::attempts_are_few();
-    wf_meant_laws::listed_rows_stand_for_the_table();
+    wf_pinned::the_first_broken_rule();
+    wf_prepare::attempts_are_few();
+    wf_pinned::listed_rows_stand_for_the_table();
 }
 
 /// The record that an accepted definition means fits, in each environment that the program makes.
@@ -58,7 +58,7 @@ pub fn a_meaning_fits()
 {
     what_is_evaluated_fits();
     accepted_definitions_are_known();
-    wf_meant_laws::meant_rows_are_whole();
+    wf_pinned::meant_rows_are_whole();
 }
 
 /// So its rows do, each at its address.

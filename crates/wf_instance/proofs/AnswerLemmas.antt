@@ -7,24 +7,24 @@ use Rattle.wf_template.specs.CondTree.{CondTree}
 use Rattle.wf_template.specs.DataTree.{DataMember, data_members}
 use Rattle.wf_layers.specs.Address.{Address, Table, address, SeenIn}
 use Rattle.wf_layers.specs.Source.{AgreesInside}
-use Rattle.wf_look.specs.Told.{Told}
-use Rattle.wf_eval_expr.specs.Uses.{Use, names, asks, asks_moment, asks_words, Agree, AgreeAt}
-use Rattle.wf_eval.specs.Uses.{cond_uses, members_uses}
-use Rattle.wf_def.specs.ActionTree.{ActionTree, action_kind, action_name, action_number, KindTree}
-use Rattle.wf_def.specs.AllActions.{all_actions, numbered}
-use Rattle.wf_def.specs.DefTree.{DefTree}
-use Rattle.wf_def.specs.Layered.{layered_kind}
+use Rattle.wf_meant.specs.Told.{Told}
+use Rattle.wf_meant.specs.Uses.{Use, names, asks, asks_moment, asks_words, Agree, AgreeAt}
+use Rattle.wf_meant.specs.EvalUses.{cond_uses, members_uses}
+use Rattle.wf_meant.specs.ActionTree.{ActionTree, action_kind, action_name, action_number, KindTree}
+use Rattle.wf_meant.specs.AllActions.{all_actions, numbered}
+use Rattle.wf_meant.specs.DefTree.{DefTree}
+use Rattle.wf_meant.specs.Layered.{layered_kind}
 use Rattle.wf_record.specs.Record.{Row}
 use Rattle.wf_record.specs.declared.attempt.Try.{Try}
-use Rattle.wf_opening.specs.Decisions.{DecisionTree}
-use Rattle.wf_opening.specs.Uses.{opening_uses}
-use Rattle.wf_opening.specs.Verdicts.{VerdictTree, tested_from}
-use Rattle.wf_done.specs.Done.{DoneTree}
-use Rattle.wf_done.specs.Leaf.{BegunTree, begun_from, ended}
-use Rattle.wf_done.specs.Tracked.{tracked_from, tracked_value}
-use Rattle.wf_done.specs.Uses.{kind_uses}
-use Rattle.wf_environment.specs.Environment.{Environment, facts_of}
-use Rattle.wf_loops.specs.Loops.{loops_of}
+use Rattle.wf_meant.specs.Decisions.{DecisionTree}
+use Rattle.wf_meant.specs.OpeningUses.{opening_uses}
+use Rattle.wf_meant.specs.Verdicts.{VerdictTree, tested_from}
+use Rattle.wf_meant.specs.Done.{DoneTree}
+use Rattle.wf_meant.specs.Leaf.{BegunTree, begun_from, ended}
+use Rattle.wf_meant.specs.Tracked.{tracked_from, tracked_value}
+use Rattle.wf_meant.specs.DoneUses.{kind_uses}
+use Rattle.wf_meant.specs.Environment.{Environment, facts_of}
+use Rattle.wf_meant.specs.Loops.{loops_of}
 use Rattle.wf_meant.specs.Containers.{closed, has_succeeded, is_terminate}
 use Rattle.wf_meant.specs.Look.{decided_by, instance, told_at, told_ending}
 use Rattle.wf_meant.specs.Points.{graph_of, is_before}

@@ -8,21 +8,21 @@ use Rattle.wf_layers.specs.Definition as layers
 use Rattle.wf_layers.specs.Address.{Table, address, starts}
 use Rattle.wf_layers.specs.Source.{AgreesInside}
 use Rattle.wf_layers.proofs.Basics.{two, and_of, or_first, or_second, starts_self, same_self}
-use Rattle.wf_def.specs.ActionTree.{ActionTree, action, action_after, action_kind, action_number, KindTree, compose, connector, wait}
-use Rattle.wf_def.specs.ActionTree.{response, terminate, select, query, join, parse_json, initialize, set_to, increment, decrement}
-use Rattle.wf_def.specs.ActionTree.{append_array, append_string, scope, branch, switch, switch_else, foreach, until, ActionTrees}
-use Rattle.wf_def.specs.ActionTree.{no_actions, action_then, CaseTrees, no_cases, case_then, actions_in}
-use Rattle.wf_def.specs.AllActions.{all_actions, cases_actions, has_number, kind_actions}
-use Rattle.wf_def.specs.Layered.{layered, layered_cases, layered_kind}
+use Rattle.wf_meant.specs.ActionTree.{ActionTree, action, action_after, action_kind, action_number, KindTree, compose, connector, wait}
+use Rattle.wf_meant.specs.ActionTree.{response, terminate, select, query, join, parse_json, initialize, set_to, increment, decrement}
+use Rattle.wf_meant.specs.ActionTree.{append_array, append_string, scope, branch, switch, switch_else, foreach, until, ActionTrees}
+use Rattle.wf_meant.specs.ActionTree.{no_actions, action_then, CaseTrees, no_cases, case_then, actions_in}
+use Rattle.wf_meant.specs.AllActions.{all_actions, cases_actions, has_number, kind_actions}
+use Rattle.wf_meant.specs.Layered.{layered, layered_cases, layered_kind}
 use Rattle.wf_record.specs.declared.status.Status.{Status}
-use Rattle.wf_loops.proofs.PrefixLemmas.{starts_front}
+use Rattle.wf_meant.proofs.PrefixLemmas.{starts_front}
 use Rattle.wf_val.specs.ValueTree.{ValueTree, null, boolean, list, trees}
 use Rattle.wf_meant.specs.Containers.{any_iteration_failed, any_terminated, case_status, close_branch, close_foreach, close_until, closed}
 use Rattle.wf_meant.specs.Containers.{closed_as, cut_short, has_succeeded, is_failed, is_terminate, last_status, iterations_value}
 use Rattle.wf_meant.specs.Containers.{status_of, unless_cut}
 use Rattle.wf_record.specs.Record.{Row}
-use Rattle.wf_opening.specs.Decisions.{DecisionTree, nothing, held, chosen, each, too_many, faulty, taken}
-use Rattle.wf_opening.specs.Verdicts.{VerdictTree}
+use Rattle.wf_meant.specs.Decisions.{DecisionTree, nothing, held, chosen, each, too_many, faulty, taken}
+use Rattle.wf_meant.specs.Verdicts.{VerdictTree}
 use Rattle.wf_meant.specs.Status.{fails, graph_status, is_named, judge_found, judge_row}
 use Rattle.wf_instance.proofs.LookLemmas.{In, all_joined, all_more, own_held, last_held}
 

@@ -5,9 +5,9 @@ use Rattle.std.specs.Prelude.{◌↔◌, count_by}
 use Rattle.wf_layers.specs.Definition.{Closed, IsDepth, has, next}
 use Rattle.std.proofs.lemmas.List.Sums.{sum_by-cons}
 use Rattle.wf_layers.proofs.Basics.{two}
-use Rattle.wf_order.specs.Order.{Among, Before, around}
-use Rattle.wf_def.specs.DefTree.{DefTree}
-use Rattle.wf_def.specs.Names.{graph_names}
+use Rattle.wf_accepted_laws.specs.Order.{Among, Before, around}
+use Rattle.wf_meant.specs.DefTree.{DefTree}
+use Rattle.wf_meant.specs.Names.{graph_names}
 use Rattle.wf_meant.specs.Points.{graph_of, is_before}
 use Rattle.wf_meant.specs.Record.{depth_of}
 use Rattle.wf_meant.specs.References.{upto}

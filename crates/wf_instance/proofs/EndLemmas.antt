@@ -1,12 +1,12 @@
 -- No loop is round a Terminate, by its standing and as an action of the definition.
 use Rattle.std.proofs.Common.{◌≡◌, ℕ, true, List, [], ◌∷◌, map, refl, sym, subst, true≢false}
 use Rattle.std.specs.List.{AllByRecursion}
-use Rattle.wf_def.specs.ActionTree.{ActionTree, action_kind, action_number, KindTree, terminate}
-use Rattle.wf_def.specs.AllActions.{all_actions}
-use Rattle.wf_def.specs.DefTree.{DefTree}
-use Rattle.wf_order.specs.Indexes.{loops_round}
-use Rattle.wf_standing.specs.Kinds.{ends_or_responds}
-use Rattle.wf_standing.specs.Standing.{StandingTree, standings_of}
+use Rattle.wf_meant.specs.ActionTree.{ActionTree, action_kind, action_number, KindTree, terminate}
+use Rattle.wf_meant.specs.AllActions.{all_actions}
+use Rattle.wf_meant.specs.DefTree.{DefTree}
+use Rattle.wf_accepted_laws.specs.Indexes.{loops_round}
+use Rattle.wf_accepted_laws.specs.Kinds.{ends_or_responds}
+use Rattle.wf_accepted_laws.specs.Standing.{StandingTree, standings_of}
 use Rattle.wf_meant.specs.Containers.{is_terminate}
 use Rattle.wf_meant.specs.Points.{graph_of}
 use Rattle.wf_accepted_laws.specs.Ends.{EndsStandInNoLoop}

@@ -8,9 +8,9 @@ use Rattle.wf_layers.specs.Definition.{add}
 use Rattle.wf_layers.specs.Definition.{Closed, ClosedAny, ClosedIn, has, has_any, has_own, holds, needs_any, needs_in, needs_of}
 use Rattle.wf_layers.proofs.Basics.{two, or_first, or_second, when, unless}
 use Rattle.wf_paths.specs.Table.{from, paths_of}
-use Rattle.wf_order.specs.Order.{Before, stand, up}
-use Rattle.wf_order.specs.Table.{before, leads_any, order_of, place_of, up_at, up_in, waits_of}
-use Rattle.wf_order.proofs.RelationLemmas.{own_has}
+use Rattle.wf_accepted_laws.specs.Order.{Before, stand, up}
+use Rattle.wf_accepted_laws.specs.Table.{before, leads_any, order_of, place_of, up_at, up_in, waits_of}
+use Rattle.wf_accepted_laws.proofs.RelationLemmas.{own_has}
 
 -- ---- what the tables have at a number
 

@@ -4,16 +4,16 @@ use Rattle.wf_val.specs.Address.{address_text}
 use Rattle.wf_layers.specs.Address.{Address, Table, address, SeenIn}
 use Rattle.wf_layers.specs.Seen.{Once}
 use Rattle.wf_layers.specs.Source.{Agrees}
-use Rattle.wf_look.specs.Told.{Told}
-use Rattle.wf_eval_expr.specs.Uses.{Use, AgreeAt}
-use Rattle.wf_def.specs.ActionTree.{ActionTree, action_kind, KindTree}
-use Rattle.wf_def.specs.AllActions.{numbered}
-use Rattle.wf_def.specs.DefTree.{DefTree}
-use Rattle.wf_opening.specs.Decisions.{DecisionTree, decided}
-use Rattle.wf_opening.specs.Uses.{opening_uses}
+use Rattle.wf_meant.specs.Told.{Told}
+use Rattle.wf_meant.specs.Uses.{Use, AgreeAt}
+use Rattle.wf_meant.specs.ActionTree.{ActionTree, action_kind, KindTree}
+use Rattle.wf_meant.specs.AllActions.{numbered}
+use Rattle.wf_meant.specs.DefTree.{DefTree}
+use Rattle.wf_meant.specs.Decisions.{DecisionTree, decided}
+use Rattle.wf_meant.specs.OpeningUses.{opening_uses}
 use Rattle.wf_record.specs.Record.{Row}
-use Rattle.wf_environment.specs.Environment.{Environment, facts_of}
-use Rattle.wf_loops.specs.Loops.{loops_of, paces_round}
+use Rattle.wf_meant.specs.Environment.{Environment, facts_of}
+use Rattle.wf_meant.specs.Loops.{loops_of, paces_round}
 use Rattle.wf_meant.specs.Look.{Item, decided_by, decided_within, instance, item_in, items_at, items_from, name_of, told_at, told_within}
 use Rattle.wf_meant.specs.Points.{graph_of, point_of, sees}
 use Rattle.wf_instance.proofs.LookLemmas.{AllRead, agree_all}

@@ -6,15 +6,17 @@ use Rattle.wf_layers.specs.Definition.{Kind, Graph, Branches, holds, has, has_an
 use Rattle.wf_layers.specs.Definition as layers
 use Rattle.wf_layers.specs.Seen.{Once, OnceAny, OnceIn}
 use Rattle.wf_layers.proofs.Basics.{two, or_first, or_second, same_self, when, unless}
-use Rattle.wf_def.specs.ActionTree.{ActionTree, action, action_kind, action_number, KindTree, compose, connector, wait, response, terminate}
-use Rattle.wf_def.specs.ActionTree.{select, query, join, parse_json, initialize, set_to, increment, decrement, append_array, append_string}
-use Rattle.wf_def.specs.ActionTree.{scope, branch, switch, switch_else, foreach, until, ActionTrees, no_actions, action_then, CaseTrees}
-use Rattle.wf_def.specs.ActionTree.{no_cases, case_then}
-use Rattle.wf_def.specs.AllActions.{all_actions, cases_actions, has_number, kind_actions, numbered}
-use Rattle.wf_def.specs.DefTree.{DefTree}
-use Rattle.wf_def.specs.Layered.{layered, layered_cases, layered_kind}
+use Rattle.wf_meant.specs.ActionTree.{ActionTree, action, action_kind, action_number, KindTree, compose}
+use Rattle.wf_meant.specs.ActionTree.{connector, wait, response, terminate}
+use Rattle.wf_meant.specs.ActionTree.{select, query, join, parse_json, initialize, set_to}
+use Rattle.wf_meant.specs.ActionTree.{increment, decrement, append_array, append_string}
+use Rattle.wf_meant.specs.ActionTree.{scope, branch, switch, switch_else, foreach, until, ActionTrees, no_actions, action_then, CaseTrees}
+use Rattle.wf_meant.specs.ActionTree.{no_cases, case_then}
+use Rattle.wf_meant.specs.AllActions.{all_actions, cases_actions, has_number, kind_actions, numbered}
+use Rattle.wf_meant.specs.DefTree.{DefTree}
+use Rattle.wf_meant.specs.Layered.{layered, layered_cases, layered_kind}
 use Rattle.wf_meant.specs.Points.{graph_of}
-use Rattle.wf_loops.proofs.HeldLemmas.{not_first, not_own, passed}
+use Rattle.wf_meant.proofs.HeldLemmas.{not_first, not_own, passed}
 use Rattle.wf_instance.proofs.PlacedLemmas.{once_last}
 use Rattle.wf_instance.proofs.LookLemmas.{all_joined}
 

@@ -1,3 +1,6 @@
+pub use Rattle.wf_meant.proofs.NumberLemmas
+pub use Rattle.wf_meant.proofs.TellLemmas
+pub use Rattle.wf_meant.proofs.Terms
 pub mod VariableLemmas
 pub mod ViewLemmas
 pub mod NamedLemmas

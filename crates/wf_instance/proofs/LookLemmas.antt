@@ -12,27 +12,27 @@ use Rattle.wf_layers.specs.Address.{Address, Table, address, starts, SeenIn}
 use Rattle.wf_layers.specs.Seen.{Once}
 use Rattle.wf_layers.specs.Source.{Agrees}
 use Rattle.wf_layers.proofs.Basics.{and_of, same_self, starts_self, or_first, or_second}
-use Rattle.wf_look.specs.Told.{Told}
-use Rattle.wf_eval_expr.specs.Uses.{Use, names, asks, asks_moment, asks_words, Agree, AgreeAt}
-use Rattle.wf_def.specs.ActionTree.{ActionTree, action, action_kind, action_name, action_number, KindTree, compose, connector, wait}
-use Rattle.wf_def.specs.ActionTree.{response, terminate, select, query, join, parse_json, initialize, set_to, increment, decrement}
-use Rattle.wf_def.specs.ActionTree.{append_array, append_string, scope, branch, switch, switch_else, foreach, until, ActionTrees}
-use Rattle.wf_def.specs.ActionTree.{no_actions, action_then, CaseTrees, no_cases, case_then, actions_in}
-use Rattle.wf_def.specs.DefTree.{DefTree}
-use Rattle.wf_def.specs.Layered.{layered, layered_kind, layered_cases}
+use Rattle.wf_meant.specs.Told.{Told}
+use Rattle.wf_meant.specs.Uses.{Use, names, asks, asks_moment, asks_words, Agree, AgreeAt}
+use Rattle.wf_meant.specs.ActionTree.{ActionTree, action, action_kind, action_name, action_number, KindTree, compose, connector, wait}
+use Rattle.wf_meant.specs.ActionTree.{response, terminate, select, query, join, parse_json, initialize, set_to, increment, decrement}
+use Rattle.wf_meant.specs.ActionTree.{append_array, append_string, scope, branch, switch, switch_else, foreach, until, ActionTrees}
+use Rattle.wf_meant.specs.ActionTree.{no_actions, action_then, CaseTrees, no_cases, case_then, actions_in}
+use Rattle.wf_meant.specs.DefTree.{DefTree}
+use Rattle.wf_meant.specs.Layered.{layered, layered_kind, layered_cases}
 use Rattle.wf_layers.specs.Definition as layers
-use Rattle.wf_order.specs.Indexes.{HaveSameIndexes}
+use Rattle.wf_accepted_laws.specs.Indexes.{HaveSameIndexes}
 use Rattle.wf_accepted_laws.specs.Instances.{Sees}
-use Rattle.wf_trigger.specs.Starts.{StartTree}
-use Rattle.wf_environment.specs.Environment.{Facts}
-use Rattle.wf_loops.specs.Loops.{left_round, paces_round}
-use Rattle.wf_loops.proofs.InsideLemmas.{seen_inside}
-use Rattle.wf_loops.proofs.LeftLemmas.{left_seen, first_is, nothing_first}
+use Rattle.wf_meant.specs.Starts.{StartTree}
+use Rattle.wf_meant.specs.Environment.{Facts}
+use Rattle.wf_meant.specs.Loops.{left_round, paces_round}
+use Rattle.wf_meant.proofs.InsideLemmas.{seen_inside}
+use Rattle.wf_meant.proofs.LeftLemmas.{left_seen, first_is, nothing_first}
 use Rattle.wf_meant.specs.Look.{Item, told_by}
 use Rattle.wf_meant.specs.Points.{action_named, graph_of, point_of, sees}
 use Rattle.wf_meant.specs.References.{by_name, first_level, in_cases, loop_itself, own_loop, result_by, shared, view_by}
 use Rattle.wf_record.specs.Record.{Row}
-use Rattle.wf_loops.proofs.EarlierLemmas.{many_of}
+use Rattle.wf_meant.proofs.EarlierLemmas.{many_of}
 use Rattle.wf_instance.proofs.NamedLemmas.{AllNamed, Named}
 use Rattle.wf_instance.proofs.VariableLemmas.{variable_same}
 use Rattle.wf_instance.proofs.ViewLemmas.{AllSame, SameLoop, SameRows, view_same, result_same}

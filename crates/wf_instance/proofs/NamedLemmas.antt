@@ -7,14 +7,14 @@ use Rattle.std.specs.List.{find, list_any}
 use Rattle.wf_val.specs.NameOrder.{bytes_cmp}
 use Rattle.wf_val.specs.declared.function.Fun.{Fun}
 use Rattle.wf_layers.proofs.Basics.{two, and_of, or_first, or_second, same_self, when, unless}
-use Rattle.wf_eval_expr.specs.Uses.{Use, names, asks, asks_moment, asks_words}
-use Rattle.wf_def.specs.ActionTree.{ActionTree}
-use Rattle.wf_def.specs.AllActions.{all_actions}
-use Rattle.wf_def.specs.DefTree.{DefTree}
-use Rattle.wf_uses.specs.UsesTree.{ordered, uses_tree}
-use Rattle.wf_done.specs.Uses.{beneath}
-use Rattle.wf_standing.specs.Standing.{StandingTree, standings_of}
-use Rattle.wf_standing.specs.Whole.{has_name}
+use Rattle.wf_meant.specs.Uses.{Use, names, asks, asks_moment, asks_words}
+use Rattle.wf_meant.specs.ActionTree.{ActionTree}
+use Rattle.wf_meant.specs.AllActions.{all_actions}
+use Rattle.wf_meant.specs.DefTree.{DefTree}
+use Rattle.wf_meant.specs.UsesTree.{ordered, uses_tree}
+use Rattle.wf_meant.specs.DoneUses.{beneath}
+use Rattle.wf_accepted_laws.specs.Standing.{StandingTree, standings_of}
+use Rattle.wf_accepted_laws.specs.Whole.{has_name}
 use Rattle.wf_meant.specs.Points.{action_named, has_action_name}
 
 -- ---- the action of a name is the one that the rules find

@@ -2,13 +2,13 @@
 use Rattle.std.proofs.Common.{◌≡◌, ℕ, true, List, [], ◌∷◌, ◌++◌, length, refl, sym, ap, ◌∙◌, subst, arith, append_assoc, length-append}
 use Rattle.wf_layers.specs.Address.{Address, Table, address, starts, SeenIn}
 use Rattle.wf_layers.specs.Source.{Agrees}
-use Rattle.wf_order.specs.Order.{Contains}
-use Rattle.wf_def.specs.DefTree.{DefTree}
+use Rattle.wf_accepted_laws.specs.Order.{Contains}
+use Rattle.wf_meant.specs.DefTree.{DefTree}
 use Rattle.wf_record.specs.Record.{Row}
-use Rattle.wf_environment.specs.Environment.{Environment}
-use Rattle.wf_loops.specs.Loops.{loops_of}
-use Rattle.wf_loops.proofs.PrefixLemmas.{starts_front}
-use Rattle.wf_loops.proofs.RoundLemmas.{split_of}
+use Rattle.wf_meant.specs.Environment.{Environment}
+use Rattle.wf_meant.specs.Loops.{loops_of}
+use Rattle.wf_meant.proofs.PrefixLemmas.{starts_front}
+use Rattle.wf_meant.proofs.RoundLemmas.{split_of}
 use Rattle.wf_meant.specs.Points.{graph_of}
 use Rattle.wf_instance.proofs.ItemLemmas.{DecisionsAreLocal, Kept, Opened}
 

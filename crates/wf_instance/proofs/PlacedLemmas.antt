@@ -9,20 +9,22 @@ use Rattle.wf_layers.specs.Laws.{IsInstance}
 use Rattle.wf_layers.specs.Seen.{Once, OnceAny, OnceIn}
 use Rattle.wf_layers.proofs.Basics.{two, or_first, or_second, same_self, when, unless}
 use Rattle.wf_layers.proofs.Seen.{answers_sound}
-use Rattle.wf_order.specs.Order.{Contains}
-use Rattle.wf_def.specs.ActionTree.{ActionTree, action, action_kind, KindTree, compose, connector, wait, response, terminate, select, query}
-use Rattle.wf_def.specs.ActionTree.{join, parse_json, initialize, set_to, increment, decrement, append_array, append_string, scope, branch}
-use Rattle.wf_def.specs.ActionTree.{switch, switch_else, foreach, until, ActionTrees, no_actions, action_then, CaseTrees, no_cases}
-use Rattle.wf_def.specs.ActionTree.{case_then}
-use Rattle.wf_def.specs.AllActions.{all_actions, cases_actions, kind_actions, numbered}
-use Rattle.wf_def.specs.DefTree.{DefTree}
-use Rattle.wf_def.specs.Layered.{layered, layered_cases, layered_kind}
-use Rattle.wf_environment.specs.Environment.{Environment}
-use Rattle.wf_loops.specs.Loops.{loops_any, loops_in, loops_of}
+use Rattle.wf_accepted_laws.specs.Order.{Contains}
+use Rattle.wf_meant.specs.ActionTree.{ActionTree, action, action_kind, KindTree, compose, connector}
+use Rattle.wf_meant.specs.ActionTree.{wait, response, terminate, select, query}
+use Rattle.wf_meant.specs.ActionTree.{join, parse_json, initialize, set_to, increment, decrement}
+use Rattle.wf_meant.specs.ActionTree.{append_array, append_string, scope, branch}
+use Rattle.wf_meant.specs.ActionTree.{switch, switch_else, foreach, until, ActionTrees, no_actions, action_then, CaseTrees, no_cases}
+use Rattle.wf_meant.specs.ActionTree.{case_then}
+use Rattle.wf_meant.specs.AllActions.{all_actions, cases_actions, kind_actions, numbered}
+use Rattle.wf_meant.specs.DefTree.{DefTree}
+use Rattle.wf_meant.specs.Layered.{layered, layered_cases, layered_kind}
+use Rattle.wf_meant.specs.Environment.{Environment}
+use Rattle.wf_meant.specs.Loops.{loops_any, loops_in, loops_of}
 use Rattle.wf_meant.specs.Points.{graph_of}
 use Rattle.wf_meant.specs.Source.{source}
 use Rattle.wf_instance.proofs.AnswerLemmas.{Laws, Rules}
-use Rattle.wf_loops.proofs.RoundLemmas.{loops_none}
+use Rattle.wf_meant.proofs.RoundLemmas.{loops_none}
 use Rattle.wf_instance.proofs.TestLemmas.{Tests}
 use Rattle.wf_instance.proofs.WalkLemmas.{IsFound, Placed, PlacedCases, PlacedIn, answers}
 

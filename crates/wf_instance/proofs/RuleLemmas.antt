@@ -6,18 +6,18 @@ use Rattle.wf_layers.specs.Address.{Address, SeenIn, address, starts}
 use Rattle.wf_layers.specs.Definition.{Closed, IsDepth, Kind, Turns, has, holds, kind_of}
 use Rattle.wf_layers.specs.Laws.{IsInstance}
 use Rattle.wf_layers.specs.Seen.{Once}
-use Rattle.wf_order.specs.Indexes.{HaveSameIndexes, loops_round}
-use Rattle.wf_order.specs.Order.{Before, Contains}
-use Rattle.wf_def.specs.ActionTree.{ActionTree, action_kind, action_number}
-use Rattle.wf_def.specs.AllActions.{all_actions, numbered}
-use Rattle.wf_def.specs.DefTree.{DefTree}
-use Rattle.wf_def.specs.Names.{graph_names}
-use Rattle.wf_uses.specs.UsesTree.{ordered}
-use Rattle.wf_standing.specs.Standing.{standings_of}
+use Rattle.wf_accepted_laws.specs.Indexes.{HaveSameIndexes, loops_round}
+use Rattle.wf_accepted_laws.specs.Order.{Before, Contains}
+use Rattle.wf_meant.specs.ActionTree.{ActionTree, action_kind, action_number}
+use Rattle.wf_meant.specs.AllActions.{all_actions, numbered}
+use Rattle.wf_meant.specs.DefTree.{DefTree}
+use Rattle.wf_meant.specs.Names.{graph_names}
+use Rattle.wf_meant.specs.UsesTree.{ordered}
+use Rattle.wf_accepted_laws.specs.Standing.{standings_of}
 use Rattle.wf_accepted_laws.specs.Instances.{InstancesAreSeen}
-use Rattle.wf_environment.specs.Environment.{Environment}
-use Rattle.wf_loops.proofs.EarlierLemmas.{earlier_seen}
-use Rattle.wf_loops.proofs.FewLemmas.{few_of}
+use Rattle.wf_meant.specs.Environment.{Environment}
+use Rattle.wf_meant.proofs.EarlierLemmas.{earlier_seen}
+use Rattle.wf_meant.proofs.FewLemmas.{few_of}
 use Rattle.wf_meant.specs.Containers.{is_terminate}
 use Rattle.wf_meant.specs.Points.{graph_of, is_before}
 use Rattle.wf_meant.specs.Record.{depth_of}

@@ -8,30 +8,30 @@ use Rattle.std.specs.Option.{option_and_then}
 use Rattle.wf_template.specs.DataTree.{DataTree, data_members}
 use Rattle.wf_layers.specs.Definition.{Kind, holds, kind_of}
 use Rattle.wf_layers.proofs.Basics.{two, or_first, or_second, when, unless}
-use Rattle.wf_eval_expr.specs.Uses.{Use, names}
+use Rattle.wf_meant.specs.Uses.{Use, names}
 use Rattle.wf_val.specs.declared.function.Fun.{Fun}
-use Rattle.wf_eval.specs.Uses.{members_uses, template_uses, tree_uses}
-use Rattle.wf_def.specs.ActionTree.{ActionTree, action, action_kind, action_number, InitialTree, KindTree, compose, connector, wait}
-use Rattle.wf_def.specs.ActionTree.{response}
-use Rattle.wf_def.specs.ActionTree.{terminate, select, query, join, parse_json, initialize, set_to, increment, decrement, append_array}
-use Rattle.wf_def.specs.ActionTree.{append_string, scope, branch, switch, switch_else, foreach, until}
-use Rattle.wf_def.specs.AllActions.{all_actions, has_number, numbered}
-use Rattle.wf_def.specs.DefTree.{DefTree}
-use Rattle.wf_def.specs.Layered.{layered_kind}
-use Rattle.wf_order.specs.Order.{Contains}
-use Rattle.wf_uses.specs.UsesTree.{UsesTree, ordered, uses_tree}
-use Rattle.wf_refs.specs.Sites as sites
-use Rattle.wf_refs.specs.Sites.{inputs_uses, items_uses, test_uses, uses_at_inputs, uses_at_items, uses_at_test, uses_at_tracked, uses_of}
-use Rattle.wf_refs.specs.Sites.{writes_of}
-use Rattle.wf_refs.specs.declared.site.Site.{Site}
-use Rattle.wf_standing.specs.Inside.{is_test}
-use Rattle.wf_standing.specs.Standing.{StandingTree, kind_at, number_at, standings_of}
-use Rattle.wf_standing.specs.Whole.{has_name}
+use Rattle.wf_meant.specs.EvalUses.{members_uses, template_uses, tree_uses}
+use Rattle.wf_meant.specs.ActionTree.{ActionTree, action, action_kind, action_number, InitialTree, KindTree, compose, connector, wait}
+use Rattle.wf_meant.specs.ActionTree.{response}
+use Rattle.wf_meant.specs.ActionTree.{terminate, select, query, join, parse_json, initialize, set_to, increment, decrement, append_array}
+use Rattle.wf_meant.specs.ActionTree.{append_string, scope, branch, switch, switch_else, foreach, until}
+use Rattle.wf_meant.specs.AllActions.{all_actions, has_number, numbered}
+use Rattle.wf_meant.specs.DefTree.{DefTree}
+use Rattle.wf_meant.specs.Layered.{layered_kind}
+use Rattle.wf_accepted_laws.specs.Order.{Contains}
+use Rattle.wf_meant.specs.UsesTree.{UsesTree, ordered, uses_tree}
+use Rattle.wf_meant.specs.Sites as sites
+use Rattle.wf_meant.specs.Sites.{inputs_uses, items_uses, test_uses, uses_at_inputs, uses_at_items, uses_at_test, uses_at_tracked, uses_of}
+use Rattle.wf_meant.specs.Sites.{writes_of}
+use Rattle.wf_meant.specs.Site.{Site}
+use Rattle.wf_accepted_laws.specs.Inside.{is_test}
+use Rattle.wf_accepted_laws.specs.Standing.{StandingTree, kind_at, number_at, standings_of}
+use Rattle.wf_accepted_laws.specs.Whole.{has_name}
 use Rattle.wf_accepted_laws.specs.Instances.{InstancesAreSeen, IsSeenAt, MayLookAt, Sees}
 use Rattle.wf_accepted_laws.specs.Seen.{IsNamedAt, IsSiteOf, at_inputs, at_items, at_test, at_tracked}
-use Rattle.wf_done.specs.Uses as done
-use Rattle.wf_done.specs.Uses.{beneath, kind_uses}
-use Rattle.wf_opening.specs.Uses.{opening_uses}
+use Rattle.wf_meant.specs.DoneUses as done
+use Rattle.wf_meant.specs.DoneUses.{beneath, kind_uses}
+use Rattle.wf_meant.specs.OpeningUses.{opening_uses}
 use Rattle.wf_meant.specs.Points.{action_named, graph_of, held_by, is_inside}
 use Rattle.wf_meant.specs.Source.{tracked_of}
 use Rattle.wf_instance.proofs.KindLemmas.{HasKind}

@@ -12,32 +12,32 @@ use Rattle.wf_layers.specs.Address.{Address, Table, address, starts, SeenIn}
 use Rattle.wf_layers.specs.Source.{Agrees, AgreesIn}
 use Rattle.wf_layers.proofs.Basics.{two, and_of, when, unless, starts_self, same_self}
 use Rattle.wf_layers.proofs.Tables.{has_in}
-use Rattle.wf_look.specs.Told.{Told}
-use Rattle.wf_eval_expr.specs.Uses.{Use, names, asks, asks_moment, asks_words, Agree, AgreeAt}
-use Rattle.wf_def.specs.ActionTree.{ActionTree, action_kind, action_number, KindTree, foreach, until}
-use Rattle.wf_def.specs.AllActions.{numbered}
-use Rattle.wf_def.specs.DefTree.{DefTree}
-use Rattle.wf_def.specs.Layered.{layered, layered_kind}
-use Rattle.wf_def.specs.ActionTree.{ActionTrees}
+use Rattle.wf_meant.specs.Told.{Told}
+use Rattle.wf_meant.specs.Uses.{Use, names, asks, asks_moment, asks_words, Agree, AgreeAt}
+use Rattle.wf_meant.specs.ActionTree.{ActionTree, action_kind, action_number, KindTree, foreach, until}
+use Rattle.wf_meant.specs.AllActions.{numbered}
+use Rattle.wf_meant.specs.DefTree.{DefTree}
+use Rattle.wf_meant.specs.Layered.{layered, layered_kind}
+use Rattle.wf_meant.specs.ActionTree.{ActionTrees}
 use Rattle.wf_layers.specs.Source.{TestLocal}
-use Rattle.wf_order.specs.Order.{Contains}
+use Rattle.wf_accepted_laws.specs.Order.{Contains}
 use Rattle.wf_template.specs.CondTree.{CondTree}
-use Rattle.wf_opening.specs.Verdicts.{VerdictTree, tested_from}
-use Rattle.wf_eval.specs.Uses.{cond_uses}
-use Rattle.wf_refs.specs.Sites.{test_uses}
+use Rattle.wf_meant.specs.Verdicts.{VerdictTree, tested_from}
+use Rattle.wf_meant.specs.EvalUses.{cond_uses}
+use Rattle.wf_meant.specs.Sites.{test_uses}
 use Rattle.wf_meant.specs.Containers.{tested}
 use Rattle.wf_meant.specs.Source.{source, test_of}
 use Rattle.wf_instance.proofs.OpenedLemmas.{opened_loops}
 use Rattle.wf_accepted_laws.specs.Instances.{Sees}
-use Rattle.wf_environment.specs.Environment.{Environment, facts_of}
-use Rattle.wf_loops.specs.Loops.{is_earlier, is_in_turn, left_round, loops_of, paces_round}
-use Rattle.wf_loops.proofs.LeftLemmas.{first_is, loops_has, nothing_first}
+use Rattle.wf_meant.specs.Environment.{Environment, facts_of}
+use Rattle.wf_meant.specs.Loops.{is_earlier, is_in_turn, left_round, loops_of, paces_round}
+use Rattle.wf_meant.proofs.LeftLemmas.{first_is, loops_has, nothing_first}
 use Rattle.wf_meant.specs.Look.{Item, instance, items_at, name_of, told_by, told_in_test}
 use Rattle.wf_meant.specs.Points.{Point, action_named, graph_of, held_by, is_before, is_inside, point_of, point_of_test, sees}
 use Rattle.wf_meant.specs.References.{first_level, loop_itself, own_loop, result_by, shared, view_by}
 use Rattle.wf_record.specs.Record.{Row}
 use Rattle.wf_instance.proofs.AnswerLemmas.{Laws, Rules}
-use Rattle.wf_loops.proofs.HeldLemmas as inner
+use Rattle.wf_meant.proofs.HeldLemmas as inner
 use Rattle.wf_instance.proofs.ItemLemmas.{Alike, Opened, items_same}
 use Rattle.wf_instance.proofs.LookLemmas.{InIf, all_more, all_put, inner_held, inner_rows, loop_there, rows_there}
 use Rattle.wf_instance.proofs.NamedLemmas.{AllNamed, Named}

@@ -3,16 +3,16 @@ use Rattle.std.proofs.Common.{◌≡◌, ℕ, true, List, Option, None, inl, inr
 use Rattle.wf_val.specs.ValueTree.{ValueTree}
 use Rattle.wf_layers.specs.Address.{Address, Table}
 use Rattle.wf_layers.proofs.Basics.{two, when, unless}
-use Rattle.wf_def.specs.DefTree.{DefTree}
+use Rattle.wf_meant.specs.DefTree.{DefTree}
 use Rattle.wf_meant.specs.Points.{Point, sees}
 use Rattle.wf_record.specs.Record.{Row}
 use Rattle.wf_meant.specs.Variables.{seen_by, variable_at, last_from, written_at, writes, indexes_from}
 use Rattle.wf_meant.specs.Points.{graph_of}
-use Rattle.wf_loops.specs.Loops.{loops_of}
+use Rattle.wf_meant.specs.Loops.{loops_of}
 use Rattle.wf_layers.specs.Address.{address}
 use Rattle.std.specs.Prelude.{[], map, flat_map, filter, filter_map, option_map}
-use Rattle.wf_def.specs.ActionTree.{action_number}
-use Rattle.wf_def.specs.AllActions.{all_actions}
+use Rattle.wf_meant.specs.ActionTree.{action_number}
+use Rattle.wf_meant.specs.AllActions.{all_actions}
 
 module _ (d : DefTree) (p : Point) (t u : Table Row) (same : (x : Address) → sees p x ≡ true → t x ≡ u x) where
   seen_one : (x : Address) → seen_by p t x ≡ seen_by p u x

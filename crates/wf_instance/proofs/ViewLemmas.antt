@@ -4,12 +4,12 @@ use Rattle.std.specs.Option.{option_and_then}
 use Rattle.std.specs.Prelude.{flat_map}
 use Rattle.std.specs.List.{AllByRecursion}
 use Rattle.wf_val.specs.ValueTree.{ValueTree, list, trees}
-use Rattle.wf_look.specs.Looked.{or_null}
+use Rattle.wf_meant.specs.Looked.{or_null}
 use Rattle.wf_layers.specs.Address.{Table, address, starts}
-use Rattle.wf_def.specs.ActionTree.{ActionTree, action_kind, action_name, action_number, KindTree, foreach, until}
-use Rattle.wf_def.specs.AllActions.{numbered}
-use Rattle.wf_def.specs.DefTree.{DefTree}
-use Rattle.wf_loops.proofs.PrefixLemmas.{starts_front}
+use Rattle.wf_meant.specs.ActionTree.{ActionTree, action_kind, action_name, action_number, KindTree, foreach, until}
+use Rattle.wf_meant.specs.AllActions.{numbered}
+use Rattle.wf_meant.specs.DefTree.{DefTree}
+use Rattle.wf_meant.proofs.PrefixLemmas.{starts_front}
 use Rattle.wf_layers.proofs.Basics.{starts_self}
 use Rattle.wf_meant.specs.Points.{Point}
 use Rattle.wf_meant.specs.References.{Spots, one, every, latest, by_name, first_level, last_of, own_loop, places_in, result_by, result_in}

@@ -5,19 +5,21 @@ use Rattle.wf_layers.specs.Definition as layers
 use Rattle.wf_layers.specs.Address.{Address, Table, address, starts, SeenIn}
 use Rattle.wf_layers.specs.Seen.{Answers, AnswersAny, AnswersIn}
 use Rattle.wf_layers.specs.Source.{Agrees, AgreesInside, CloseLocal, DecideLocal, Source}
-use Rattle.wf_order.specs.Order.{Contains}
-use Rattle.wf_def.specs.ActionTree.{ActionTree, action, action_kind, action_number, KindTree, compose, connector, wait, response, terminate}
-use Rattle.wf_def.specs.ActionTree.{select, query, join, parse_json, initialize, set_to, increment, decrement, append_array, append_string}
-use Rattle.wf_def.specs.ActionTree.{scope, branch, switch, switch_else, foreach, until, ActionTrees, no_actions, action_then, CaseTrees}
-use Rattle.wf_def.specs.ActionTree.{no_cases, case_then}
-use Rattle.wf_def.specs.AllActions.{numbered}
-use Rattle.wf_def.specs.DefTree.{DefTree}
-use Rattle.wf_def.specs.Layered.{layered, layered_cases, layered_kind}
-use Rattle.wf_environment.specs.Environment.{Environment}
-use Rattle.wf_loops.specs.Loops.{loops_of}
-use Rattle.wf_opening.specs.Decisions.{DecisionTree}
-use Rattle.wf_opening.specs.Verdicts.{VerdictTree}
-use Rattle.wf_done.specs.Leaf.{BegunTree}
+use Rattle.wf_accepted_laws.specs.Order.{Contains}
+use Rattle.wf_meant.specs.ActionTree.{ActionTree, action, action_kind, action_number, KindTree, compose}
+use Rattle.wf_meant.specs.ActionTree.{connector, wait, response, terminate}
+use Rattle.wf_meant.specs.ActionTree.{select, query, join, parse_json, initialize, set_to}
+use Rattle.wf_meant.specs.ActionTree.{increment, decrement, append_array, append_string}
+use Rattle.wf_meant.specs.ActionTree.{scope, branch, switch, switch_else, foreach, until, ActionTrees, no_actions, action_then, CaseTrees}
+use Rattle.wf_meant.specs.ActionTree.{no_cases, case_then}
+use Rattle.wf_meant.specs.AllActions.{numbered}
+use Rattle.wf_meant.specs.DefTree.{DefTree}
+use Rattle.wf_meant.specs.Layered.{layered, layered_cases, layered_kind}
+use Rattle.wf_meant.specs.Environment.{Environment}
+use Rattle.wf_meant.specs.Loops.{loops_of}
+use Rattle.wf_meant.specs.Decisions.{DecisionTree}
+use Rattle.wf_meant.specs.Verdicts.{VerdictTree}
+use Rattle.wf_meant.specs.Leaf.{BegunTree}
 use Rattle.wf_meant.specs.Points.{graph_of}
 use Rattle.wf_record.specs.Record.{Row}
 use Rattle.wf_meant.specs.Source.{close_of, source}

@@ -1,3 +1,4 @@
+pub use Rattle.wf_schema.proofs.PointerLemmas
 mod ConditionRows
 mod ContainerRows
 mod InputRows

@@ -1,3 +1,8 @@
+pub use Rattle.wf_retry.specs.declared.policy.Policy
+pub use Rattle.wf_retry.specs.declared.policy.PolicyFault
+pub use Rattle.wf_retry.specs.Reading
+pub use Rattle.wf_schema.specs.Follow
+pub use Rattle.wf_schema.specs.Pointer
 pub mod ActionType
 pub mod Conditions
 pub mod Containers

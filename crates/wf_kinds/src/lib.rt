@@ -23,3 +23,5 @@ pub use condition::{comparison_named, is_condition};
 pub use containers::{limit, repetitions};
 pub use members::{action_has_members, output_has_members, trigger_has_members};
 pub use parts::input;
+pub use wf_retry::Policy;
+pub use wf_schema::pointer;

@@ -1,7 +1,7 @@
 -- A number that has its range is read as it is written.
 use Rattle.std.proofs.Common.{◌≡◌, ℕ, Bool, true, cond, sym, ap, Some, pos, negsuc, true≢false}
 use Rattle.wf_val.specs.ValueTree.{ValueTree, null, boolean, number, text, list, object}
-use Rattle.wf_kinds.specs.Parts.{is_whole_from_to}
+use Rattle.wf_reading.specs.Parts.{is_whole_from_to}
 use Rattle.wf_reading.specs.Graphs.{number_in}
 
 pub read_as_accepted : (least most absent : ℕ) (v : ValueTree) → is_whole_from_to least most v ≡ true

@@ -1,10 +1,10 @@
 -- What follows of a definition that was read, from the rule on `runAfter`.
 use Rattle.std.proofs.Common.{◌≡◌, ℕ, List, [], subst}
-use Rattle.wf_form.specs.Fault.{inner_of, offences}
-use Rattle.wf_form.specs.Whole.{whole_of}
-use Rattle.wf_form.specs.declared.rule.Rule.{Rule}
-use Rattle.wf_def.specs.ActionTree.{ActionTrees}
-use Rattle.wf_def.specs.DefTree.{DefTree}
+use Rattle.wf_reading.specs.Fault.{inner_of, offences}
+use Rattle.wf_reading.specs.Whole.{whole_of}
+use Rattle.wf_reading.specs.Rule.{Rule}
+use Rattle.wf_reading.specs.ActionTree.{ActionTrees}
+use Rattle.wf_reading.specs.DefTree.{DefTree}
 use Rattle.wf_reading.specs.Facts.{HasDepths}
 use Rattle.wf_reading.specs.Meant.{names_of}
 use Rattle.wf_reading.specs.Numbers.{number_among}

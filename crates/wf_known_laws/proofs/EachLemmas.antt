@@ -14,23 +14,23 @@ use Rattle.wf_json.specs.Pointer.{member_step}
 use Rattle.wf_retry.specs.Reading.{are_intervals, number_in as count_in, policy_by, policy_by_count, policy_of, policy_of_type}
 use Rattle.wf_retry.specs.declared.policy.Policy.{Policy}
 use Rattle.wf_retry.specs.declared.policy.PolicyFault.{PolicyFault}
-use Rattle.wf_kinds.specs.ActionType.{type_of}
-use Rattle.wf_kinds.specs.Containers.{limit, repetitions}
-use Rattle.wf_kinds.specs.Parts.{input}
-use Rattle.wf_kinds.specs.declared.action_type.ActionType.{ActionType}
-use Rattle.wf_after.specs.Waits.{bad_run_after}
-use Rattle.wf_form.specs.Judge.{run_after}
-use Rattle.wf_form.specs.Places.{in_members}
-use Rattle.wf_form.specs.Role.{holder_of}
-use Rattle.wf_form.specs.Whole.{Whole}
-use Rattle.wf_form.specs.declared.role.Role.{Role}
-use Rattle.wf_form.specs.declared.rule.Rule.{Rule}
-use Rattle.wf_def.specs.ActionTree.{ActionTree, action_after, action_name, action_number, ActionTrees, no_actions, actions_in, CaseTree}
-use Rattle.wf_def.specs.declared.after.After.{After}
+use Rattle.wf_reading.specs.ActionType.{type_of}
+use Rattle.wf_reading.specs.Containers.{limit, repetitions}
+use Rattle.wf_reading.specs.Parts.{input}
+use Rattle.wf_reading.specs.KindsActionType.{ActionType}
+use Rattle.wf_reading.specs.Waits.{bad_run_after}
+use Rattle.wf_reading.specs.Judge.{run_after}
+use Rattle.wf_reading.specs.Places.{in_members}
+use Rattle.wf_reading.specs.Role.{holder_of}
+use Rattle.wf_reading.specs.Whole.{Whole}
+use Rattle.wf_reading.specs.FormRole.{Role}
+use Rattle.wf_reading.specs.Rule.{Rule}
+use Rattle.wf_reading.specs.ActionTree.{ActionTree, action_after, action_name, action_number, ActionTrees, no_actions, actions_in, CaseTree}
+use Rattle.wf_reading.specs.After.{After}
 use Rattle.wf_reading.specs.Afters.{after_of, entries}
 use Rattle.wf_reading.specs.Facts.{HasDepths}
 use Rattle.wf_reading.specs.Graphs.{graph_of, has_option, kind_at, kind_with, number_in, repetitions_of, switch_of, within}
-use Rattle.wf_leaves.specs.Leaves.{leaf_of, or_standard, policy_in}
+use Rattle.wf_reading.specs.Leaves.{leaf_of, or_standard, policy_in}
 use Rattle.wf_reading.proofs.DepthLemmas.{PathsAreExact}
 use Rattle.wf_reading.proofs.PartLemmas.{equal_keys}
 use Rattle.wf_reading.proofs.RunAfterLemmas.{append-first, graph-depths}

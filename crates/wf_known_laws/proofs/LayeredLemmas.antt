@@ -4,12 +4,12 @@ use Rattle.std.specs.Prelude.{◌||◌}
 use Rattle.std.specs.List.{list_any}
 use Rattle.std.proofs.Math.Bool.{or-false}
 use Rattle.std.proofs.lemmas.Bool.{eq-eqb, eqb-true}
-use Rattle.wf_layers.specs.Definition as layers
-use Rattle.wf_layers.specs.Seen.{Once, OnceAny, OnceIn}
-use Rattle.wf_def.specs.ActionTree.{action, KindTree, compose, connector, wait, response, terminate, select, query, join, parse_json}
-use Rattle.wf_def.specs.ActionTree.{initialize, set_to, increment, decrement, append_array, append_string, scope, branch, switch}
-use Rattle.wf_def.specs.ActionTree.{switch_else, foreach, until, ActionTrees, no_actions, action_then, CaseTrees, no_cases, case_then}
-use Rattle.wf_def.specs.Layered.{layered, layered_cases, layered_kind}
+use Rattle.wf_reading.specs.Definition as layers
+use Rattle.wf_reading.specs.Seen.{Once, OnceAny, OnceIn}
+use Rattle.wf_reading.specs.ActionTree.{action, KindTree, compose, connector, wait, response, terminate, select, query, join, parse_json}
+use Rattle.wf_reading.specs.ActionTree.{initialize, set_to, increment, decrement, append_array, append_string, scope, branch, switch}
+use Rattle.wf_reading.specs.ActionTree.{switch_else, foreach, until, ActionTrees, no_actions, action_then, CaseTrees, no_cases, case_then}
+use Rattle.wf_reading.specs.Layered.{layered, layered_cases, layered_kind}
 use Rattle.wf_reading.specs.Facts.{cases_numbers, graph_numbers, kind_numbers}
 use Rattle.wf_paths.proofs.PathLemmas.{or_left, or_right}
 use Rattle.wf_order.proofs.OrderLaws.{clash, two}

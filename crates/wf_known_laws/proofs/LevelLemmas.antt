@@ -4,15 +4,15 @@ use Rattle.std.specs.Prelude.{nat_lt}
 use Rattle.std.proofs.lemmas.Bool.{ltb-false}
 use Rattle.wf_val.specs.ValueTree.{ValueTree, null, boolean, number, text, list, object}
 use Rattle.wf_json.specs.Pointer.{here}
-use Rattle.wf_kinds.specs.declared.action_type.ActionType.{ActionType}
-use Rattle.wf_form.specs.Limits.{limits}
-use Rattle.wf_form.specs.Places.{in_members}
-use Rattle.wf_form.specs.Role.{deeper, holder_of}
-use Rattle.wf_form.specs.Whole.{Whole}
-use Rattle.wf_form.specs.declared.role.Role.{Role}
-use Rattle.wf_form.specs.declared.rule.Rule.{Rule}
-use Rattle.wf_def.specs.ActionTree.{ActionTrees, KindTree, CaseTrees}
-use Rattle.wf_leaves.specs.Leaves.{leaf_of}
+use Rattle.wf_reading.specs.KindsActionType.{ActionType}
+use Rattle.wf_reading.specs.Limits.{limits}
+use Rattle.wf_reading.specs.Places.{in_members}
+use Rattle.wf_reading.specs.Role.{deeper, holder_of}
+use Rattle.wf_reading.specs.Whole.{Whole}
+use Rattle.wf_reading.specs.FormRole.{Role}
+use Rattle.wf_reading.specs.Rule.{Rule}
+use Rattle.wf_reading.specs.ActionTree.{ActionTrees, KindTree, CaseTrees}
+use Rattle.wf_reading.specs.Leaves.{leaf_of}
 use Rattle.wf_reading.proofs.RunAfterLemmas.{append-first}
 use Rattle.wf_known_laws.specs.Held.{levels, levels_among, levels_in}
 use Rattle.wf_known_laws.proofs.WalkLemmas.{Fine, Steps}

@@ -4,14 +4,14 @@ use Rattle.std.proofs.Common.{true≢false}
 use Rattle.std.specs.Prelude.{◌||◌}
 use Rattle.std.specs.List.{AllByRecursion}
 use Rattle.std.proofs.lemmas.Bool.{eq-eqb}
-use Rattle.wf_layers.specs.Definition as layers
-use Rattle.wf_layers.specs.Seen.{Once, OnceAny, OnceIn}
-use Rattle.wf_def.specs.ActionTree.{ActionTree, action, action_after, action_name, action_number, KindTree, compose, connector, wait}
-use Rattle.wf_def.specs.ActionTree.{response, terminate, select, query, join, parse_json, initialize, set_to, increment, decrement}
-use Rattle.wf_def.specs.ActionTree.{append_array, append_string, scope, branch, switch, switch_else, foreach, until, ActionTrees}
-use Rattle.wf_def.specs.ActionTree.{no_actions, action_then, actions_in, CaseTrees, no_cases, case_then}
-use Rattle.wf_def.specs.Layered.{layered, layered_cases, layered_kind, need_of}
-use Rattle.wf_def.specs.declared.after.After.{After}
+use Rattle.wf_reading.specs.Definition as layers
+use Rattle.wf_reading.specs.Seen.{Once, OnceAny, OnceIn}
+use Rattle.wf_reading.specs.ActionTree.{ActionTree, action, action_after, action_name, action_number, KindTree, compose, connector, wait}
+use Rattle.wf_reading.specs.ActionTree.{response, terminate, select, query, join, parse_json, initialize, set_to, increment, decrement}
+use Rattle.wf_reading.specs.ActionTree.{append_array, append_string, scope, branch, switch, switch_else, foreach, until, ActionTrees}
+use Rattle.wf_reading.specs.ActionTree.{no_actions, action_then, actions_in, CaseTrees, no_cases, case_then}
+use Rattle.wf_reading.specs.Layered.{layered, layered_cases, layered_kind, need_of}
+use Rattle.wf_reading.specs.After.{After}
 use Rattle.wf_paths.proofs.PathLemmas.{or_left, or_right, or_split}
 use Rattle.wf_reading.specs.Facts.{HasDepths, is_named}
 use Rattle.wf_reading.proofs.PartLemmas.{equal_keys}

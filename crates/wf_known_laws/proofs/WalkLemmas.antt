@@ -11,21 +11,21 @@ use Rattle.wf_template.specs.CondTree.{CondTree}
 use Rattle.wf_template.specs.DataTree.{DataTree}
 use Rattle.wf_template.specs.TemplateTree.{TemplateTree}
 use Rattle.wf_json.specs.Pointer.{member_step}
-use Rattle.wf_kinds.specs.ActionType.{type_of}
-use Rattle.wf_kinds.specs.declared.action_type.ActionType.{ActionType}
-use Rattle.wf_form.specs.Actions.{in_part}
-use Rattle.wf_form.specs.Judge.{judge}
-use Rattle.wf_form.specs.Places.{in_members, places}
-use Rattle.wf_form.specs.Role.{child, deeper, holder_by, holder_of}
-use Rattle.wf_form.specs.Whole.{Whole}
-use Rattle.wf_form.specs.declared.role.Role.{Role}
-use Rattle.wf_form.specs.declared.role.Holder.{Holder}
-use Rattle.wf_form.specs.declared.rule.Rule.{Rule}
-use Rattle.wf_def.specs.ActionTree.{KindTree, scope, branch, switch, switch_else, foreach, until, ActionTrees, no_actions, action_then}
-use Rattle.wf_def.specs.ActionTree.{CaseTree, case_trees, CaseTrees, no_cases, case_then}
+use Rattle.wf_reading.specs.ActionType.{type_of}
+use Rattle.wf_reading.specs.KindsActionType.{ActionType}
+use Rattle.wf_reading.specs.Actions.{in_part}
+use Rattle.wf_reading.specs.Judge.{judge}
+use Rattle.wf_reading.specs.Places.{in_members, places}
+use Rattle.wf_reading.specs.Role.{child, deeper, holder_by, holder_of}
+use Rattle.wf_reading.specs.Whole.{Whole}
+use Rattle.wf_reading.specs.FormRole.{Role}
+use Rattle.wf_reading.specs.Holder.{Holder}
+use Rattle.wf_reading.specs.Rule.{Rule}
+use Rattle.wf_reading.specs.ActionTree.{KindTree, scope, branch, switch, switch_else, foreach, until, ActionTrees, no_actions, action_then}
+use Rattle.wf_reading.specs.ActionTree.{CaseTree, case_trees, CaseTrees, no_cases, case_then}
 use Rattle.wf_reading.specs.Graphs.{action_with, branch_in, branch_of, cases_in, cases_of, each_case, graph_in, graph_of, kind_at}
 use Rattle.wf_reading.specs.Graphs.{kind_with, switch_of}
-use Rattle.wf_leaves.specs.Leaves.{leaf_of, nothing}
+use Rattle.wf_reading.specs.Leaves.{leaf_of, nothing}
 use Rattle.wf_reading.specs.Meant.{top_at}
 use Rattle.wf_reading.proofs.GraphLemmas.{value_of-here, value_of-later}
 use Rattle.wf_reading.proofs.PartLemmas.{equal_keys}

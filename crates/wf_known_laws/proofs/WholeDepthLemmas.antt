@@ -2,10 +2,10 @@
 use Rattle.std.proofs.Common.{◌≡◌, ◌<◌, ℕ, Bool, true, false, cond, ◌⊎◌, inl, inr, nat_eq, sym, ap, subst, ◌∙◌}
 use Rattle.std.specs.Prelude.{◌||◌, List}
 use Rattle.std.proofs.lemmas.Bool.{eqb-true}
-use Rattle.wf_layers.specs.Definition.{Need, Names, Kind, Leaf, Scope, Choice, Foreach, Until, Branches, no_branch, branch, Graph, done}
-use Rattle.wf_layers.specs.Definition.{add, holds, has, has_any, has_own, needs_in, needs_any, needs_of, IsDepth, Closed, ClosedIn}
-use Rattle.wf_layers.specs.Definition.{ClosedAny}
-use Rattle.wf_layers.specs.Seen.{Once, OnceIn, OnceAny}
+use Rattle.wf_reading.specs.Definition.{Need, Names, Kind, Leaf, Scope, Choice, Foreach, Until, Branches, no_branch, branch, Graph, done}
+use Rattle.wf_reading.specs.Definition.{add, holds, has, has_any, has_own, needs_in, needs_any, needs_of, IsDepth, Closed, ClosedIn}
+use Rattle.wf_reading.specs.Definition.{ClosedAny}
+use Rattle.wf_reading.specs.Seen.{Once, OnceIn, OnceAny}
 use Rattle.wf_paths.proofs.PathLemmas.{or_left, or_right}
 use Rattle.wf_order.proofs.OrderLaws.{branch_passed, first_passed, kind_passed, not_first, renamed, at_first, in_first, behind_first}
 use Rattle.wf_order.proofs.OrderLaws.{stands, two}

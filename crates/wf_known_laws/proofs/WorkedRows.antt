@@ -6,8 +6,9 @@ use Rattle.wf_template.specs.TemplateTree.{plain}
 use Rattle.wf_template.specs.DataTree.{null}
 use Rattle.wf_template.specs.CondTree.{CondTree, holds}
 use Rattle.wf_retry.specs.declared.policy.Policy.{Policy}
-use Rattle.wf_def.specs.ActionTree.{ActionTree, action, KindTree, compose, connector, scope, branch, switch, switch_else, foreach, until}
-use Rattle.wf_def.specs.ActionTree.{ActionTrees, no_actions, action_then, actions_in, CaseTrees, no_cases, case_then}
+use Rattle.wf_reading.specs.ActionTree.{ActionTree, action, KindTree, compose, connector, scope}
+use Rattle.wf_reading.specs.ActionTree.{branch, switch, switch_else, foreach, until}
+use Rattle.wf_reading.specs.ActionTree.{ActionTrees, no_actions, action_then, actions_in, CaseTrees, no_cases, case_then}
 use Rattle.wf_known_laws.specs.Each.{EachGraph}
 use Rattle.wf_known_laws.specs.Held.{AreInRange, levels}
 

@@ -1,7 +1,7 @@
 -- What holds of a graph of actions, and of each graph in its actions, at any depth.
-use Rattle.wf_def.specs.ActionTree.{action, KindTree, compose, connector, wait, response, terminate, select, query, join, parse_json}
-use Rattle.wf_def.specs.ActionTree.{initialize, set_to, increment, decrement, append_array, append_string, scope, branch, switch}
-use Rattle.wf_def.specs.ActionTree.{switch_else, foreach, until, ActionTrees, no_actions, action_then, CaseTrees, no_cases, case_then}
+use Rattle.wf_reading.specs.ActionTree.{action, KindTree, compose, connector, wait, response, terminate, select, query, join, parse_json}
+use Rattle.wf_reading.specs.ActionTree.{initialize, set_to, increment, decrement, append_array, append_string, scope, branch, switch}
+use Rattle.wf_reading.specs.ActionTree.{switch_else, foreach, until, ActionTrees, no_actions, action_then, CaseTrees, no_cases, case_then}
 
 module _ (Holds : ActionTrees → Type 0) where
   abbrev mutual

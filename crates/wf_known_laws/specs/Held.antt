@@ -2,11 +2,13 @@
 use Rattle.std.specs.Prelude.{◌≡◌, ℕ, ◌+◌, ◌≤◌, max, true, bytes_eq}
 use Rattle.std.specs.List.{AllByRecursion}
 use Rattle.wf_retry.specs.declared.policy.Policy.{Policy}
-use Rattle.wf_def.specs.ActionTree.{ActionTree, action, action_after, action_kind, action_name, action_number, KindTree, compose, connector}
-use Rattle.wf_def.specs.ActionTree.{wait, response, terminate, select, query, join, parse_json, initialize, set_to, increment, decrement}
-use Rattle.wf_def.specs.ActionTree.{append_array, append_string, scope, branch, switch, switch_else, foreach, until, ActionTrees}
-use Rattle.wf_def.specs.ActionTree.{no_actions, action_then, actions_in, CaseTrees, no_cases, case_then}
-use Rattle.wf_def.specs.declared.after.After.{After}
+use Rattle.wf_reading.specs.ActionTree.{ActionTree, action, action_after, action_kind, action_name}
+use Rattle.wf_reading.specs.ActionTree.{action_number, KindTree, compose, connector}
+use Rattle.wf_reading.specs.ActionTree.{wait, response, terminate, select, query, join}
+use Rattle.wf_reading.specs.ActionTree.{parse_json, initialize, set_to, increment, decrement}
+use Rattle.wf_reading.specs.ActionTree.{append_array, append_string, scope, branch, switch, switch_else, foreach, until, ActionTrees}
+use Rattle.wf_reading.specs.ActionTree.{no_actions, action_then, actions_in, CaseTrees, no_cases, case_then}
+use Rattle.wf_reading.specs.After.{After}
 
 -- a request is sent again at most 90 times, and once at least where the number is told
 abbrev pub IsPolicyInRange : Policy → Type 0

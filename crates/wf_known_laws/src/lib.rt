@@ -12,20 +12,26 @@
 
 ghost use Rattle.std.specs.Prelude.{◌≡◌, ◌≤◌, ℕ, Bool, List, Some, codes, false, length, nat_eq, pos, true};
 ghost use Rattle.std.specs.List.{list_any};
-ghost use Rattle.wf_def.specs.ActionTree.{ActionTrees};
-ghost use Rattle.wf_def.specs.DefTree.{DefTree};
-ghost use Rattle.wf_def.specs.Layered.{layered};
-ghost use Rattle.wf_def.specs.Names.{graph_names};
-ghost use Rattle.wf_kinds.specs.Containers.{is_concurrency, is_turns, limit, repetitions};
+ghost use Rattle.wf_reading.specs.ActionTree.{ActionTrees};
+ghost use Rattle.wf_reading.specs.DefTree.{DefTree};
+ghost use Rattle.wf_reading.specs.Layered.{layered};
+ghost use Rattle.wf_reading.specs.Names.{graph_names};
+ghost use Rattle.wf_reading.specs.Containers.{is_concurrency, is_turns, limit, repetitions};
 ghost use Rattle.wf_known_laws.specs.Each.{EachGraph};
 ghost use Rattle.wf_known_laws.specs.Held.{AreInRange, EntriesAreNumbered, levels};
-ghost use Rattle.wf_layers.specs.Definition.{Closed, IsDepth, has};
-ghost use Rattle.wf_layers.specs.Seen.{Once};
+ghost use Rattle.wf_reading.specs.Definition.{Closed, IsDepth, has};
+ghost use Rattle.wf_reading.specs.Seen.{Once};
 ghost use Rattle.wf_order.specs.Order.{IsBelow};
 ghost use Rattle.wf_reading.specs.Facts.{HasDepths, graph_numbers};
 ghost use Rattle.wf_reading.specs.Graphs.{count_of, has_option, repetitions_of};
 ghost use Rattle.wf_reading.specs.Read.{IsRead};
 ghost use Rattle.wf_val.specs.ValueTree.{ValueTree, number};
+
+pub use wf_order::{
+    accesses_are_in_order, before_is_an_order, no_loop_is_round_two, order_is_exact,
+    what_a_container_sees_is_seen_inside, what_is_before_is_seen, what_stands_inside_goes_along,
+};
+pub use wf_reading::{Def, loops_may_turn, names_stand_once, numbers_are_places};
 
 /// The graph of a definition has the numbers of all its actions, at any depth, and no other.
 pub fn numbers_are_had()
@@ -53,7 +59,7 @@ pub fn each_graph_has_depths()
     ensures { (d : DefTree) → IsRead d → EachGraph HasDepths d.top }
 {
     wf_paths::paths_are_exact();
-    wf_form::the_first_fault();
+    wf_reading::the_first_fault();
 }
 
 /// In each graph of a definition an entry of a `runAfter` has the number of the action that it names.
@@ -61,7 +67,7 @@ pub fn entries_are_numbered()
     ensures { (d : DefTree) → IsRead d → EachGraph EntriesAreNumbered d.top }
 {
     wf_paths::paths_are_exact();
-    wf_form::the_first_fault();
+    wf_reading::the_first_fault();
 }
 
 /// So an action waits only for actions of its own graph.
@@ -69,7 +75,7 @@ pub fn entries_stay_in_their_graph()
     ensures { (d : DefTree) → IsRead d → Closed (layered d.top) (layered d.top) }
 {
     wf_paths::paths_are_exact();
-    wf_form::the_first_fault();
+    wf_reading::the_first_fault();
     numbers_stand_once();
 }
 
@@ -78,7 +84,7 @@ pub fn actions_have_depths()
     ensures { (d : DefTree) → IsRead d → (depth : ℕ → ℕ) × IsDepth (layered d.top) depth }
 {
     wf_paths::paths_are_exact();
-    wf_form::the_first_fault();
+    wf_reading::the_first_fault();
     numbers_stand_once();
 }
 
@@ -86,14 +92,14 @@ pub fn actions_have_depths()
 pub fn levels_are_few()
     ensures { (d : DefTree) → IsRead d → levels d.top ≤ 8 }
 {
-    wf_form::the_first_fault();
+    wf_reading::the_first_fault();
 }
 
 /// The numbers of each action have their ranges, at any depth.
 pub fn numbers_have_their_ranges()
     ensures { (d : DefTree) → IsRead d → EachGraph AreInRange d.top }
 {
-    wf_form::the_first_fault();
+    wf_reading::the_first_fault();
 }
 
 /// The number of repetitions that the rules on forms accept is the one that is read, where iterations don't go in turn: the two have the

@@ -7,7 +7,7 @@ use Rattle.wf_layers.specs.Listed.{Among}
 use Rattle.wf_layers.specs.Seen.{Once}
 use Rattle.wf_layers.proofs.Basics.{or_first, or_second, same_self}
 use Rattle.wf_layers.proofs.Waiting.{own_has}
-use Rattle.wf_meant.specs.References.{upto}
+use Rattle.wf_meant_laws.specs.References.{upto}
 use Rattle.wf_meant_laws.proofs.ListLemmas.{in_upto}
 
 abbrev pub size : Graph → ℕ

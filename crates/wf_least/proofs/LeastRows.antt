@@ -2,7 +2,7 @@
 use Rattle.std.proofs.Common.{◌≡◌, [], ◌∷◌, refl}
 use Rattle.wf_def.specs.ActionTree.{action_trees, compose, scope}
 use Rattle.wf_least.specs.Least.{least_cost}
-use Rattle.wf_meant.proofs.Terms.{act, nat, of_actions, success_of}
+use Rattle.wf_meant_laws.proofs.Terms.{act, nat, of_actions, success_of}
 
 -- for itself, where it has no action
 without_actions : least_cost (of_actions []) ≡ 64

@@ -15,10 +15,10 @@ use Rattle.wf_def.specs.Layered.{layered}
 use Rattle.wf_loops.specs.Loops.{loops_in, loops_of}
 use Rattle.wf_record.specs.Cost.{row_cost}
 use Rattle.wf_record.specs.Record.{Row, RowTree}
-use Rattle.wf_meant.specs.Look.{instance}
-use Rattle.wf_meant.specs.Points.{graph_of, point_of_outputs}
-use Rattle.wf_meant.specs.Record.{row_at}
-use Rattle.wf_meant.specs.Variables.{indexes_from, instances_at, seen_by}
+use Rattle.wf_meant_laws.specs.Look.{instance}
+use Rattle.wf_meant_laws.specs.Points.{graph_of, point_of_outputs}
+use Rattle.wf_meant_laws.specs.Record.{row_at}
+use Rattle.wf_meant_laws.specs.Variables.{indexes_from, instances_at, seen_by}
 use Rattle.wf_least.specs.Least.{EachHasARow}
 use Rattle.wf_least.proofs.CountLemmas.{size}
 

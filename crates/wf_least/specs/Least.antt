@@ -5,7 +5,7 @@ use Rattle.wf_layers.specs.Definition.{has_own}
 use Rattle.wf_def.specs.ActionTree.{actions_in}
 use Rattle.wf_def.specs.DefTree.{DefTree}
 use Rattle.wf_record.specs.Record.{Row}
-use Rattle.wf_meant.specs.Points.{graph_of}
+use Rattle.wf_meant_laws.specs.Points.{graph_of}
 
 -- 64 for itself, and 64 for the row of each action of the graph at the top: that of one which didn't run is there as well
 abbrev pub least_cost : DefTree → ℕ

@@ -7,13 +7,13 @@
 #![tactic(auto)]
 
 ghost use Rattle.std.specs.Prelude.{◌≡◌, ◌≤◌, None};
-ghost use Rattle.wf_accepted_laws.specs.Broken.{broken_of};
+ghost use Rattle.wf_meant_laws.specs.Broken.{broken_of};
 ghost use Rattle.wf_def.specs.DefTree.{DefTree};
-ghost use Rattle.wf_environment.specs.Environment.{Environment};
+ghost use Rattle.wf_meant_laws.specs.Environment.{Environment};
 ghost use Rattle.wf_least.specs.Least.{EachHasARow, least_cost};
-ghost use Rattle.wf_meant.specs.Record.{depth_of, meaning};
-ghost use Rattle.wf_meant.specs.Source.{table_of};
-ghost use Rattle.wf_reading.specs.Read.{IsRead};
+ghost use Rattle.wf_meant_laws.specs.Record.{depth_of, meaning};
+ghost use Rattle.wf_meant_laws.specs.Source.{table_of};
+ghost use Rattle.wf_meant_laws.specs.Read.{IsRead};
 ghost use Rattle.wf_record.specs.Cost.{cost};
 
 /// A run of an accepted definition leaves a row of each action of the graph at the top.
@@ -27,8 +27,8 @@ pub fn a_run_leaves_a_row_of_each_action()
 pub fn a_run_costs_at_least_so_much()
     ensures { (d : DefTree) → IsRead d → broken_of d ≡ None → (e : Environment) → least_cost d ≤ cost (meaning d e) }
 {
-    wf_known_laws::numbers_stand_once();
-    wf_known_laws::numbers_are_below();
-    wf_meant::a_record_is_of_the_table();
+    wf_meant_laws::numbers_stand_once();
+    wf_meant_laws::numbers_are_below();
+    wf_meant_laws::a_record_is_of_the_table();
     a_run_leaves_a_row_of_each_action();
 }

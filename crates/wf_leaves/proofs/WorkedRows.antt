@@ -7,7 +7,7 @@ use Rattle.wf_val.specs.declared.function.Fun.{Fun}
 use Rattle.wf_template.specs.CondTree.{holds, all_of, any_of, not_of, compare_by, cond_trees}
 use Rattle.wf_template.specs.DataTree as datum
 use Rattle.wf_template.specs.TemplateTree.{TemplateTree}
-use Rattle.wf_retry.specs.declared.policy.Policy.{Policy}
+use Rattle.wf_kinds.specs.Policy.{Policy}
 use Rattle.wf_kinds.specs.ActionType.{type_of}
 use Rattle.wf_kinds.specs.declared.action_type.ActionType.{ActionType}
 use Rattle.wf_def.specs.ActionTree.{InitialTree, KindTree, compose, connector, wait, response, terminate, select, query, join, parse_json, initialize, set_to, increment, decrement, append_array, append_string}

@@ -6,9 +6,9 @@ use Rattle.wf_val.specs.Get.{get, without}
 use Rattle.wf_template.specs.DataTree as datum
 use Rattle.wf_kinds.specs.Parts.{input}
 use Rattle.wf_kinds.specs.declared.action_type.ActionType.{ActionType}
-use Rattle.wf_retry.specs.declared.policy.Policy.{Policy}
-use Rattle.wf_retry.specs.declared.policy.PolicyFault.{PolicyFault}
-use Rattle.wf_retry.specs.Reading.{policy_of}
+use Rattle.wf_kinds.specs.Policy.{Policy}
+use Rattle.wf_kinds.specs.PolicyFault.{PolicyFault}
+use Rattle.wf_kinds.specs.Reading.{policy_of}
 use Rattle.wf_schema.specs.Reading.{SchemaTree, schema_of}
 use Rattle.wf_schema.specs.declared.fault.SchemaFault.{SchemaFault}
 use Rattle.wf_def.specs.ActionTree.{InitialTree, KindTree, compose, connector, wait, response, terminate, select, query, join, parse_json, initialize, set_to, increment, decrement, append_array, append_string}

@@ -17,3 +17,4 @@ pub use conditions::condition_at;
 pub use leaves::{leaf_of, nothing};
 pub use options::lists_option;
 pub use texts::{data_in, members_of, str_in, template_at, template_of};
+pub use wf_kinds::{ActionType, limit, repetitions};

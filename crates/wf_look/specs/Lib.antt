@@ -1,3 +1,10 @@
+pub use Rattle.wf_functions.specs.Collected
+pub use Rattle.wf_functions.specs.declared.draw.Draw
+pub use Rattle.wf_functions.specs.Draws
+pub use Rattle.wf_functions.specs.declared.draw.GuidForm
+pub use Rattle.wf_functions.specs.Timed
+pub use Rattle.wf_functions.specs.Words
+pub use Rattle.wf_json.specs.Json
 pub use Rattle.wf_functions.specs.Rows
 pub mod Told
 pub mod Outcomes

@@ -28,5 +28,5 @@ pub use laws::words_are_by_place;
 pub use look::{Look, Over};
 pub use measured::{Measured, as_text};
 pub use named::{named_by, told_row};
-pub use wf_functions::{strict_row, word_of};
+pub use wf_functions::{Collected, strict_row, timed_row, word_of};
 pub use words::drawn_by;

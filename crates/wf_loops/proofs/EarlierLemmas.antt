@@ -2,11 +2,11 @@
 use Rattle.std.proofs.Common.{◌≡◌, ℕ, suc, Bool, true, false, ◌&&◌, cond, List, [], ◌∷◌, length, ◌⊎◌, inl, inr, refl, sym, ap, ◌∙◌}
 use Rattle.std.proofs.Common.{true≢false, nat_eq}
 use Rattle.std.specs.Prelude.{nat_lt}
-use Rattle.wf_layers.specs.Definition.{Pace, Kind, Leaf, Scope, Choice, Foreach, Until, Branches, no_branch, branch, Graph, done, add}
-use Rattle.wf_layers.specs.Definition.{holds, has, IsBefore}
-use Rattle.wf_layers.specs.Address.{Address, starts, SeenIn}
-use Rattle.wf_layers.specs.Seen.{Once}
-use Rattle.wf_layers.proofs.Basics.{two, and_of, when, unless, same_self}
+use Rattle.wf_order.specs.Definition.{Pace, Kind, Leaf, Scope, Choice, Foreach, Until, Branches, no_branch, branch, Graph, done, add}
+use Rattle.wf_order.specs.Definition.{holds, has, IsBefore}
+use Rattle.wf_order.specs.Address.{Address, starts, SeenIn}
+use Rattle.wf_order.specs.Seen.{Once}
+use Rattle.wf_order.proofs.Basics.{two, and_of, when, unless, same_self}
 use Rattle.wf_order.specs.Indexes.{HaveSameIndexes, loops_any, loops_in, loops_round}
 use Rattle.wf_order.specs.Order.{Before}
 use Rattle.wf_loops.specs.Loops.{is_earlier, is_in_turn, paces_any, paces_in, paces_round}

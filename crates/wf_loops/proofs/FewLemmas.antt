@@ -1,10 +1,10 @@
 -- No more loops are round two actions than round one of them.
 use Rattle.std.proofs.Common.{◌≡◌, ℕ, ◌≤◌, Bool, true, false, ◌&&◌, ◌||◌, [], length, inl, inr, refl, ap, ◌∙◌, arith, true≢false}
 use Rattle.std.proofs.Common.{nat_eq}
-use Rattle.wf_layers.specs.Definition.{Kind, Leaf, Scope, Choice, Foreach, Until, Branches, no_branch, branch, Graph, done, add, holds, has}
-use Rattle.wf_layers.specs.Definition.{has_any}
-use Rattle.wf_layers.specs.Seen.{Once, OnceAny, OnceIn}
-use Rattle.wf_layers.proofs.Basics.{two, and_of, or_second, when, unless}
+use Rattle.wf_order.specs.Definition.{Kind, Leaf, Scope, Choice, Foreach, Until, Branches, no_branch, branch, Graph, done, add, holds, has}
+use Rattle.wf_order.specs.Definition.{has_any}
+use Rattle.wf_order.specs.Seen.{Once, OnceAny, OnceIn}
+use Rattle.wf_order.proofs.Basics.{two, and_of, or_second, when, unless}
 use Rattle.wf_loops.specs.Loops.{loops_any, loops_in, loops_of, paces_any, paces_in, paces_round}
 use Rattle.wf_loops.proofs.HeldLemmas.{paces_none}
 

@@ -2,11 +2,11 @@
 use Rattle.std.proofs.Common.{◌≡◌, ℕ, suc, Bool, true, false, ◌&&◌, ◌||◌, cond, List, [], length, Option, Some, ◌⊎◌, inl, inr, refl, sym}
 use Rattle.std.proofs.Common.{ap, ◌∙◌, subst, true≢false, nat_eq, eqb-true}
 use Rattle.std.proofs.lemmas.Option.{none-some}
-use Rattle.wf_layers.specs.Definition.{Pace, Kind, Leaf, Scope, Choice, Foreach, Until, Branches, no_branch, branch, Graph, done, add}
-use Rattle.wf_layers.specs.Definition.{holds, has, has_any, kind_in, kind_any, kind_of}
-use Rattle.wf_layers.specs.Seen.{Once, OnceIn, OnceAny}
-use Rattle.wf_layers.proofs.Basics.{two, and_of, or_first, or_second, when, unless}
-use Rattle.wf_layers.proofs.Tables.{has_in, any_in, holds_in}
+use Rattle.wf_order.specs.Definition.{Pace, Kind, Leaf, Scope, Choice, Foreach, Until, Branches, no_branch, branch, Graph, done, add}
+use Rattle.wf_order.specs.Definition.{holds, has, has_any, kind_in, kind_any, kind_of}
+use Rattle.wf_order.specs.Seen.{Once, OnceIn, OnceAny}
+use Rattle.wf_order.proofs.Basics.{two, and_of, or_first, or_second, when, unless}
+use Rattle.wf_order.proofs.Tables.{has_in, any_in, holds_in}
 use Rattle.wf_loops.specs.Loops.{left_any, left_in, left_round, loops_any, loops_in, loops_of, paces_any, paces_in, paces_round}
 use Rattle.wf_loops.proofs.InsideLemmas.{at_first, in_first, behind_first, stands, kind_has}
 use Rattle.wf_loops.proofs.RoundLemmas.{loops_none}

@@ -2,12 +2,12 @@
 use Rattle.std.proofs.Common.{◌≡◌, ℕ, true, false, ◌||◌, cond, List, [], ◌∷◌, ◌++◌, Option, Some, ◌⊎◌, inl, inr, refl, sym, ◌∙◌, subst}
 use Rattle.std.proofs.Common.{true≢false, nat_eq, eqb-true}
 use Rattle.std.proofs.lemmas.Option.{none-some}
-use Rattle.wf_layers.specs.Definition.{Kind, Leaf, Scope, Choice, Foreach, Until, Branches, no_branch, branch, Graph, done, add, holds, has}
-use Rattle.wf_layers.specs.Definition.{has_any, kind_in, kind_any, kind_of, IsBefore}
-use Rattle.wf_layers.specs.Address.{Address, starts, is_in, is_within, owner, Lower, earlier_in, earlier_any, together, SeenIn}
-use Rattle.wf_layers.specs.Seen.{Once, OnceIn, OnceAny}
-use Rattle.wf_layers.proofs.Basics.{two, and_in, and_of, or_first, or_second, when, unless}
-use Rattle.wf_layers.proofs.Tables.{has_in, holds_in}
+use Rattle.wf_order.specs.Definition.{Kind, Leaf, Scope, Choice, Foreach, Until, Branches, no_branch, branch, Graph, done, add, holds, has}
+use Rattle.wf_order.specs.Definition.{has_any, kind_in, kind_any, kind_of, IsBefore}
+use Rattle.wf_order.specs.Address.{Address, starts, is_in, is_within, owner, Lower, earlier_in, earlier_any, together, SeenIn}
+use Rattle.wf_order.specs.Seen.{Once, OnceIn, OnceAny}
+use Rattle.wf_order.proofs.Basics.{two, and_in, and_of, or_first, or_second, when, unless}
+use Rattle.wf_order.proofs.Tables.{has_in, holds_in}
 use Rattle.wf_loops.proofs.NameLemmas.{not_in, within_starts, earlier_has, earlier_has_any, together_has}
 use Rattle.wf_loops.proofs.PrefixLemmas.{starts_along}
 

@@ -2,11 +2,11 @@
 -- it had.
 use Rattle.std.proofs.Common.{◌≡◌, ℕ, ◌+◌, Bool, true, ◌&&◌, ◌||◌, cond, List, [], ◌∷◌, ◌++◌, length, Option, Some, ◌⊎◌, inl, inr, refl}
 use Rattle.std.proofs.Common.{sym, ap, ◌∙◌, subst, arith, true≢false, nat_eq, eq-eqb, length-append}
-use Rattle.wf_layers.specs.Definition.{Pace, InTurn, Kind, Leaf, Scope, Choice, Foreach, Until, Branches, no_branch, branch, Graph, done}
-use Rattle.wf_layers.specs.Definition.{add, holds, has, has_any, IsBefore}
-use Rattle.wf_layers.specs.Address.{Address, address, starts, is_in, is_within, owner, Lower, earlier_in, earlier_any, together, SeenIn}
-use Rattle.wf_layers.specs.Seen.{Once, OnceIn, OnceAny}
-use Rattle.wf_layers.proofs.Basics.{two, and_of, or_first, or_second, when, unless}
+use Rattle.wf_order.specs.Definition.{Pace, InTurn, Kind, Leaf, Scope, Choice, Foreach, Until, Branches, no_branch, branch, Graph, done}
+use Rattle.wf_order.specs.Definition.{add, holds, has, has_any, IsBefore}
+use Rattle.wf_order.specs.Address.{Address, address, starts, is_in, is_within, owner, Lower, earlier_in, earlier_any, together, SeenIn}
+use Rattle.wf_order.specs.Seen.{Once, OnceIn, OnceAny}
+use Rattle.wf_order.proofs.Basics.{two, and_of, or_first, or_second, when, unless}
 use Rattle.wf_loops.specs.Loops.{loops_any, loops_in, loops_of, left_any, left_in, left_round, paces_any, paces_in, paces_round}
 use Rattle.wf_loops.proofs.NameLemmas.{not_in, within_has, within_starts, earlier_has, earlier_has_any, together_has}
 use Rattle.wf_loops.proofs.PrefixLemmas.{starts_shorter}

@@ -1,3 +1,4 @@
+pub use Rattle.wf_order.proofs.RelationLemmas
 pub mod PrefixLemmas
 pub mod NameLemmas
 pub mod TurnLemmas

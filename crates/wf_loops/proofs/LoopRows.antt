@@ -1,7 +1,7 @@
 -- Worked loops. Names are the numbers: 0; a Foreach 1, one iteration after the other, of 2 and a Foreach 3 of 4, side by side; an Until 5
 -- of a Scope 6 of 7; an If 8 of 9, and otherwise of an Until 10 of 11.
 use Rattle.std.proofs.Common.{◌≡◌, [], ◌∷◌, true, false, refl}
-use Rattle.wf_layers.specs.Definition.{InTurn, AtMost, Leaf, Scope, Choice, Foreach, Until, no_branch, branch, Graph, done, add}
+use Rattle.wf_order.specs.Definition.{InTurn, AtMost, Leaf, Scope, Choice, Foreach, Until, no_branch, branch, Graph, done, add}
 use Rattle.wf_loops.specs.Loops.{is_earlier, left_round, loops_of, paces_round}
 
 abbrev worked : Graph

@@ -1,9 +1,9 @@
 -- Which actions are named where something is earlier.
 use Rattle.std.proofs.Common.{◌≡◌, ℕ, Bool, true, false, ◌&&◌, ◌||◌, List, [], ◌∷◌, ◌++◌, inl, inr, sym, ap, ◌∙◌, true≢false, nat_eq}
-use Rattle.wf_layers.specs.Definition.{Kind, Leaf, Scope, Choice, Foreach, Until, Branches, no_branch, branch, Graph, done, add, holds, has}
-use Rattle.wf_layers.specs.Definition.{has_any}
-use Rattle.wf_layers.specs.Address.{Address, starts, is_in, is_within, earlier_in, earlier_any, together}
-use Rattle.wf_layers.proofs.Basics.{two, and_in, or_first, or_second}
+use Rattle.wf_order.specs.Definition.{Kind, Leaf, Scope, Choice, Foreach, Until, Branches, no_branch, branch, Graph, done, add, holds, has}
+use Rattle.wf_order.specs.Definition.{has_any}
+use Rattle.wf_order.specs.Address.{Address, starts, is_in, is_within, earlier_in, earlier_any, together}
+use Rattle.wf_order.proofs.Basics.{two, and_in, or_first, or_second}
 
 pub not_in : (n : ℕ) (kind : Kind) (rest : Graph) (i : List ℕ) (y : Address)
     → ((m : ℕ) → (nat_eq n m || holds kind m) ≡ true → has rest m ≡ false) → has rest y.name ≡ true → is_in n kind i y ≡ false

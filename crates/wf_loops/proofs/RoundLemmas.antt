@@ -1,9 +1,9 @@
 -- A loop round an action contains it, and the loops round it are those that stand before it in the action's list.
 use Rattle.std.proofs.Common.{◌≡◌, ℕ, true, false, ◌||◌, cond, List, [], ◌∷◌, ◌++◌, ◌⊎◌, inl, inr, refl, sym, ap, ◌∙◌, subst, true≢false}
 use Rattle.std.proofs.Common.{nat_eq, eqb-true}
-use Rattle.wf_layers.specs.Definition.{Kind, Leaf, Scope, Choice, Foreach, Until, Branches, no_branch, branch, Graph, done, add, holds, has}
-use Rattle.wf_layers.specs.Seen.{Once, OnceIn, OnceAny}
-use Rattle.wf_layers.proofs.Basics.{two, or_first, or_second, when, unless, same_self}
+use Rattle.wf_order.specs.Definition.{Kind, Leaf, Scope, Choice, Foreach, Until, Branches, no_branch, branch, Graph, done, add, holds, has}
+use Rattle.wf_order.specs.Seen.{Once, OnceIn, OnceAny}
+use Rattle.wf_order.proofs.Basics.{two, or_first, or_second, when, unless, same_self}
 use Rattle.wf_order.specs.Order.{Among, around, around_any, around_in}
 use Rattle.wf_order.proofs.RelationLemmas.{around_has, branch_has}
 use Rattle.wf_loops.specs.Loops.{loops_any, loops_in, loops_of}

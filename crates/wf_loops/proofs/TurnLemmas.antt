@@ -3,11 +3,11 @@ use Rattle.std.proofs.Common.{◌≡◌, ℕ, ◌<◌, true, false, ◌&&◌, �
 use Rattle.std.proofs.Common.{true≢false, nat_eq, eqb-true, append_assoc}
 use Rattle.std.specs.Prelude.{nat_lt}
 use Rattle.std.proofs.lemmas.Bool.{ltb-true}
-use Rattle.wf_layers.specs.Definition.{Pace, InTurn, AtMost, Kind, Leaf, Scope, Choice, Foreach, Until, Branches, no_branch, branch, Graph}
-use Rattle.wf_layers.specs.Definition.{done, add, holds, has, has_any}
-use Rattle.wf_layers.specs.Address.{Address, starts, is_within, earlier_in, earlier_any, together}
-use Rattle.wf_layers.specs.Seen.{Once, OnceIn, OnceAny}
-use Rattle.wf_layers.proofs.Basics.{two, and_in, and_of, or_first, or_second, when, unless}
+use Rattle.wf_order.specs.Definition.{Pace, InTurn, AtMost, Kind, Leaf, Scope, Choice, Foreach, Until, Branches, no_branch, branch, Graph}
+use Rattle.wf_order.specs.Definition.{done, add, holds, has, has_any}
+use Rattle.wf_order.specs.Address.{Address, starts, is_within, earlier_in, earlier_any, together}
+use Rattle.wf_order.specs.Seen.{Once, OnceIn, OnceAny}
+use Rattle.wf_order.proofs.Basics.{two, and_in, and_of, or_first, or_second, when, unless}
 use Rattle.wf_loops.specs.Loops.{is_earlier, is_in_turn, paces_any, paces_in, paces_round}
 use Rattle.wf_loops.proofs.NameLemmas.{not_in}
 use Rattle.wf_loops.proofs.PrefixLemmas.{starts_front}

@@ -1,7 +1,7 @@
 -- What the loops round actions say of what is seen.
 use Rattle.std.specs.Prelude.{◌≡◌, ℕ, Bool, true, List, ◌∷◌, length}
-use Rattle.wf_layers.specs.Address.{Address, starts}
-use Rattle.wf_layers.specs.Definition.{Graph, Kind}
+use Rattle.wf_order.specs.Address.{Address, starts}
+use Rattle.wf_order.specs.Definition.{Graph, Kind}
 use Rattle.wf_order.specs.Order.{Before, Contains}
 use Rattle.wf_loops.specs.Loops.{is_earlier, left_round, loops_in, loops_of, paces_round}
 

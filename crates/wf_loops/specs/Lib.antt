@@ -1,2 +1,13 @@
+pub use Rattle.wf_order.specs.ActionTree
+pub use Rattle.wf_order.specs.AllActions
+pub use Rattle.wf_order.specs.DefTree
+pub use Rattle.wf_order.specs.Indexes
+pub use Rattle.wf_order.specs.Layered
+pub use Rattle.wf_order.specs.Names
+pub use Rattle.wf_order.specs.Order
+pub use Rattle.wf_order.specs.OrderSeen
+pub use Rattle.wf_order.specs.Sort
+pub use Rattle.wf_order.specs.Table
+pub use Rattle.wf_order.specs.Turns
 pub mod Loops
 pub mod Laws

@@ -11,14 +11,15 @@
 #![tactic(auto)]
 
 ghost use Rattle.std.specs.Prelude.{◌≡◌, ◌≤◌, ◌++◌, ◌∷◌, ℕ, Bool, List, Some, length, true};
-ghost use Rattle.wf_layers.specs.Address.{Address, SeenIn, address, starts};
-ghost use Rattle.wf_layers.specs.Definition.{Closed, Graph, Kind, holds, kind_of};
-ghost use Rattle.wf_layers.specs.Seen.{Once};
+ghost use Rattle.wf_order.specs.Address.{Address, SeenIn, address, starts};
+ghost use Rattle.wf_order.specs.Definition.{Closed, Graph, Kind, holds, kind_of};
+ghost use Rattle.wf_order.specs.Seen.{Once};
 ghost use Rattle.wf_order.specs.Indexes.{loops_round};
 ghost use Rattle.wf_loops.specs.Laws.{IsEarlierBy, IsLeftFirst, IsRound, StandsIn};
 ghost use Rattle.wf_loops.specs.Loops.{loops_of, paces_round};
 
 use wf_order::what_is_before_is_seen;
+pub use wf_order::{Order, before_is_an_order, order_is_exact, what_stands_inside_goes_along};
 
 /// What is earlier by the loops round two actions is seen: where an index differs in a loop that goes one iteration after the other, the
 /// lesser one is earlier; where none differs, what is before.

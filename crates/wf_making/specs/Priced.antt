@@ -8,9 +8,9 @@ use Rattle.wf_kept.specs.Reached.{IsReached}
 use Rattle.wf_asks.specs.Instances.{instance_cmp}
 use Rattle.wf_asks.specs.declared.known.OpenAt.{OpenAt}
 use Rattle.wf_asks.specs.declared.known.RowAt.{RowAt}
-use Rattle.wf_tables.specs.Tables.{state_of}
-use Rattle.wf_tables.specs.declared.entries.LeafAt.{LeafAt}
-use Rattle.wf_meter.specs.Cost.{opens_cost, rows_cost, running_cost}
+use Rattle.wf_metered.specs.Tables.{state_of}
+use Rattle.wf_metered.specs.LeafAt.{LeafAt}
+use Rattle.wf_metered.specs.Cost.{opens_cost, rows_cost, running_cost}
 
 module _ {Row Begun Decision Verdict Kept Started Decided Told : Type 0} (see : Row → Kept) (started : Begun → Started)
     (decided : Decision → Decided) (told : Verdict → Told) (d : Graph) (depth : ℕ → ℕ) (m : Source Kept Started Decided Told)

@@ -7,11 +7,11 @@ ghost use Rattle.wf_layers.specs.Variables.{IsLastWritten};
 ghost use Rattle.wf_kept.specs.Reached.{IsResumption};
 ghost use Rattle.wf_asks.specs.Instances.{rows_in};
 ghost use Rattle.wf_asks.specs.Known.{store_in, writer};
-ghost use Rattle.wf_plan.specs.PlanSeen.{plan_tree};
-ghost use Rattle.wf_tables.specs.Tables.{event_tree};
-ghost use Rattle.wf_steps.specs.Kept.{AreEnabled, IsPlanned};
-ghost use Rattle.wf_steps.specs.Rest.{IsRest};
-ghost use Rattle.wf_steps.specs.Shown.{shown};
+ghost use Rattle.wf_metered.specs.PlanSeen.{plan_tree};
+ghost use Rattle.wf_metered.specs.Tables.{event_tree};
+ghost use Rattle.wf_metered.specs.Kept.{AreEnabled, IsPlanned};
+ghost use Rattle.wf_metered.specs.Rest.{IsRest};
+ghost use Rattle.wf_metered.specs.Shown.{shown};
 ghost use Rattle.wf_metered.specs.Sums.{AreSumsOf};
 ghost use Rattle.wf_drive.specs.Driven.{IsFirst};
 ghost use Rattle.wf_making.specs.Priced.{lists_cost};
@@ -22,11 +22,8 @@ use std::alloc::{AllocError, Global};
 use std::marker::Model;
 use wf_asks::{Acts, Opens, Rows, Store};
 use wf_drive::Machine;
-use wf_metered::{Metered, MeteredRest as Rest};
-use wf_plan::Plan;
+use wf_metered::{EventAt, Metered, MeteredRest as Rest, Plan, State as Kept};
 use wf_room::Roomy;
-use wf_steps::State as Kept;
-use wf_tables::EventAt;
 
 /// A state of a run with its cost, to be driven on.
 #[derive(Drop)]
@@ -39,7 +36,7 @@ impl<'a, A: Acts> Model for Making<'a, A> {
     ghost use Rattle.wf_asks.specs.declared.known.OpenAt.{OpenAt};
     ghost use Rattle.wf_asks.specs.declared.known.RowAt.{RowAt};
     ghost use Rattle.wf_asks.specs.declared.known.WriterAt.{WriterAt};
-    ghost use Rattle.wf_tables.specs.declared.entries.LeafAt.{LeafAt};
+    ghost use Rattle.wf_metered.specs.LeafAt.{LeafAt};
 
     ghost Value = { A × (List (RowAt A.Row) × (List (LeafAt A.Begun) × (List (OpenAt A.Decision A.Verdict) × List WriterAt))) };
 

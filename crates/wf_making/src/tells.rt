@@ -4,12 +4,12 @@ ghost use Rattle.wf_layers.specs.Machine.{Event};
 ghost use Rattle.wf_layers.specs.Meaning.{meaning};
 ghost use Rattle.wf_scheduled.specs.Happened.{HasHappened};
 ghost use Rattle.wf_asks.specs.Known.{open_tree};
-ghost use Rattle.wf_tables.specs.Tables.{event_tree, leaf_tree};
+ghost use Rattle.wf_metered.specs.Tables.{event_tree, leaf_tree};
 ghost use Rattle.wf_making.specs.Standing.{standing};
 
 use std::alloc::{AllocError, Global};
 use wf_asks::{Acts, OpenAt};
-use wf_tables::{EventAt, LeafAt};
+use wf_metered::{EventAt, LeafAt};
 
 /// Actions of which a trace has something to tell.
 pub trait Tells: Acts {

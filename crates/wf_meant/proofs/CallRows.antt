@@ -8,15 +8,15 @@ use Rattle.wf_template.specs.ExprTree.{member}
 use Rattle.wf_template.specs.TemplateTree.{whole}
 use Rattle.wf_retry.specs.declared.policy.Policy.{Policy}
 use Rattle.wf_retry.specs.declared.policy.Outcome.{Outcome}
-use Rattle.wf_def.specs.ActionTree.{compose, connector, select, query, join, scope, foreach, action_trees}
-use Rattle.wf_def.specs.DefTree.{DefTree}
-use Rattle.wf_record.specs.declared.attempt.Try.{Try}
-use Rattle.wf_record.specs.declared.status.Status.TheVariants.{Succeeded, Failed, TimedOut}
+use Rattle.wf_refs.specs.ActionTree.{compose, connector, select, query, join, scope, foreach, action_trees}
+use Rattle.wf_refs.specs.DefTree.{DefTree}
+use Rattle.wf_environment.specs.Try.{Try}
+use Rattle.wf_environment.specs.Status.TheVariants.{Succeeded, Failed, TimedOut}
 use Rattle.wf_meant.proofs.Terms.{act, after, alone, apply, ask, called, ended, failure_of, fell, fields, many, nat, num, obj, of}
 use Rattle.wf_meant.proofs.Terms.{of_actions, ran, replied, rows_in, say, success_of, tracked_as, tracking, txt, unrun, value, values}
 use Rattle.wf_meant.proofs.Terms.{words}
 use Rattle.std.specs.Prelude.{List}
-use Rattle.wf_answers.specs.AnswerTree.{AnswerTree}
+use Rattle.wf_done.specs.AnswerTree.{AnswerTree}
 
 -- A connector whose first attempt is repeated.
 abbrev calls : DefTree

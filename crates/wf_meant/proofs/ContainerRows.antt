@@ -8,10 +8,10 @@ use Rattle.wf_val.specs.declared.function.Fun.{Fun}
 use Rattle.wf_template.specs.ExprTree.{index}
 use Rattle.wf_template.specs.TemplateTree.{plain, whole}
 use Rattle.wf_template.specs.CondTree.{holds, all_of, not_of, compare_by, cond_trees}
-use Rattle.wf_def.specs.ActionTree.{compose, scope, branch, switch, switch_else, foreach, action_trees, case_trees}
-use Rattle.wf_def.specs.DefTree.{DefTree}
-use Rattle.wf_record.specs.declared.status.Status.TheVariants.{Failed}
-use Rattle.wf_record.specs.declared.status.RunStatus.{RunStatus}
+use Rattle.wf_refs.specs.ActionTree.{compose, scope, branch, switch, switch_else, foreach, action_trees, case_trees}
+use Rattle.wf_refs.specs.DefTree.{DefTree}
+use Rattle.wf_environment.specs.Status.TheVariants.{Failed}
+use Rattle.wf_environment.specs.RunStatus.{RunStatus}
 use Rattle.wf_meant.specs.Record.{meaning}
 use Rattle.wf_meant.proofs.Terms.{act, after, apply, answered, ask, ended, failure_of, fell, fields, many, nat, num, of, of_actions, ran}
 use Rattle.wf_meant.proofs.Terms.{record_is, rows_in, say, success_of, txt, unrun, value, values, words}

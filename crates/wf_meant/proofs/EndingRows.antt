@@ -8,10 +8,10 @@ use Rattle.wf_val.specs.declared.function.Fun.{Fun}
 use Rattle.wf_template.specs.ExprTree.{member}
 use Rattle.wf_template.specs.TemplateTree.{whole}
 use Rattle.wf_template.specs.CondTree.{compare_by}
-use Rattle.wf_def.specs.ActionTree.{compose, response, terminate, scope, branch, switch, foreach, action_trees, case_trees}
-use Rattle.wf_def.specs.DefTree.{DefTree}
-use Rattle.wf_record.specs.declared.status.Status.TheVariants.{Failed, Cancelled}
-use Rattle.wf_record.specs.declared.status.RunStatus.{RunStatus}
+use Rattle.wf_refs.specs.ActionTree.{compose, response, terminate, scope, branch, switch, foreach, action_trees, case_trees}
+use Rattle.wf_refs.specs.DefTree.{DefTree}
+use Rattle.wf_environment.specs.Status.TheVariants.{Failed, Cancelled}
+use Rattle.wf_environment.specs.RunStatus.{RunStatus}
 use Rattle.wf_meant.specs.Record.{meaning}
 use Rattle.wf_meant.proofs.Terms.{act, after, alone, apply, answered, ask, ended, failure_of, fell, fields, giving, many, nat, num, obj}
 use Rattle.wf_meant.proofs.Terms.{of, of_actions, ran, record_is, say, success_of, txt, unrun, value, values, words}

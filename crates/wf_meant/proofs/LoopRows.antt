@@ -8,10 +8,10 @@ use Rattle.wf_val.specs.declared.function.Fun.{Fun}
 use Rattle.wf_template.specs.ExprTree.{index}
 use Rattle.wf_template.specs.TemplateTree.{whole}
 use Rattle.wf_template.specs.CondTree.{holds}
-use Rattle.wf_def.specs.ActionTree.{compose, initialize, increment, scope, foreach, until, action_trees}
-use Rattle.wf_def.specs.DefTree.{DefTree}
-use Rattle.wf_def.specs.declared.sort.Sort.{Sort}
-use Rattle.wf_record.specs.declared.status.Status.TheVariants.{Failed}
+use Rattle.wf_refs.specs.ActionTree.{compose, initialize, increment, scope, foreach, until, action_trees}
+use Rattle.wf_refs.specs.DefTree.{DefTree}
+use Rattle.wf_refs.specs.Sort.{Sort}
+use Rattle.wf_environment.specs.Status.TheVariants.{Failed}
 use Rattle.wf_meant.proofs.Terms.{act, after, alone, astray, apply, ask, ended, failure_of, fell, fields, initial, many, nat, num, of}
 use Rattle.wf_meant.proofs.Terms.{of_actions, ran, rows_in, say, success_of, unrun, value, values, words}
 

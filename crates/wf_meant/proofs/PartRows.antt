@@ -11,16 +11,16 @@ use Rattle.wf_template.specs.ExprTree.{member}
 use Rattle.wf_template.specs.TemplateTree.{whole}
 use Rattle.wf_retry.specs.declared.policy.Outcome.{Outcome}
 use Rattle.wf_retry.specs.declared.policy.Policy.{Policy}
-use Rattle.wf_answers.specs.AnswerTree.{AnswerTree}
+use Rattle.wf_done.specs.AnswerTree.{AnswerTree}
 use Rattle.wf_template.specs.CondTree.{holds}
-use Rattle.wf_layers.specs.Address.{Table, address}
-use Rattle.wf_def.specs.ActionTree.{compose, connector, scope, switch_else, foreach, until, action_trees, no_cases, no_actions}
-use Rattle.wf_def.specs.DefTree.{DefTree}
-use Rattle.wf_record.specs.Record.{RecordTree, Row, RowTree}
-use Rattle.wf_record.specs.declared.attempt.Try.{Try}
-use Rattle.wf_record.specs.declared.status.RunStatus.{RunStatus}
-use Rattle.wf_record.specs.declared.status.Status.{Status}
-use Rattle.wf_record.specs.declared.status.Status.TheVariants.{Succeeded, Failed, Skipped, TimedOut, Cancelled}
+use Rattle.wf_refs.specs.Address.{Table, address}
+use Rattle.wf_refs.specs.ActionTree.{compose, connector, scope, switch_else, foreach, until, action_trees, no_cases, no_actions}
+use Rattle.wf_refs.specs.DefTree.{DefTree}
+use Rattle.wf_environment.specs.Record.{RecordTree, Row, RowTree}
+use Rattle.wf_environment.specs.Try.{Try}
+use Rattle.wf_environment.specs.RunStatus.{RunStatus}
+use Rattle.wf_environment.specs.Status.{Status}
+use Rattle.wf_environment.specs.Status.TheVariants.{Succeeded, Failed, Skipped, TimedOut, Cancelled}
 use Rattle.wf_says.specs.Decisions.{nothing, chosen, each, too_many, faulty}
 use Rattle.wf_says.specs.Verdicts.{met, astray}
 use Rattle.wf_done.specs.Done as done

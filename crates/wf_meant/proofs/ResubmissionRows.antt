@@ -8,17 +8,17 @@ use Rattle.wf_template.specs.TemplateTree.{whole}
 use Rattle.wf_template.specs.CondTree.{compare_by}
 use Rattle.wf_retry.specs.declared.policy.Policy.{Policy}
 use Rattle.wf_retry.specs.declared.policy.Outcome.{Outcome}
-use Rattle.wf_def.specs.ActionTree.{compose, connector, scope, branch, switch, action_trees, case_trees}
-use Rattle.wf_def.specs.DefTree.{DefTree}
-use Rattle.wf_record.specs.declared.attempt.Try.{Try}
-use Rattle.wf_record.specs.declared.status.Status.TheVariants.{Succeeded, Failed}
-use Rattle.wf_record.specs.declared.status.RunStatus.{RunStatus}
+use Rattle.wf_refs.specs.ActionTree.{compose, connector, scope, branch, switch, action_trees, case_trees}
+use Rattle.wf_refs.specs.DefTree.{DefTree}
+use Rattle.wf_environment.specs.Try.{Try}
+use Rattle.wf_environment.specs.Status.TheVariants.{Succeeded, Failed}
+use Rattle.wf_environment.specs.RunStatus.{RunStatus}
 use Rattle.wf_meant.proofs.Terms.{act, after, alone, ask, called, ended, failure_of, fields, nat, obj, of, of_actions, ran, record_is}
 use Rattle.wf_meant.proofs.Terms.{replied, say, success_of, txt, unrun, value, words, inputs_again, as_second}
-use Rattle.wf_record.specs.Record.{RecordTree}
+use Rattle.wf_environment.specs.Record.{RecordTree}
 use Rattle.wf_meant.specs.Resubmitted.{pinned}
 use Rattle.std.specs.Prelude.{List}
-use Rattle.wf_answers.specs.AnswerTree.{AnswerTree}
+use Rattle.wf_done.specs.AnswerTree.{AnswerTree}
 
 -- What comes before and beside is kept, with its attempts, and what comes after is redone by the new answers.
 abbrev from-middle : DefTree

@@ -1,12 +1,12 @@
 -- The row with which a loop closes says how many iterations it had.
 use Rattle.std.proofs.Common.{◌≡◌, ℕ, Bool, true, false, List, length, Option, Some, None, refl, ap}
 use Rattle.wf_val.proofs.ValueTreeLemmas.{items-trees}
-use Rattle.wf_layers.specs.Address.{Table}
-use Rattle.wf_def.specs.ActionTree.{ActionTrees}
+use Rattle.wf_refs.specs.Address.{Table}
+use Rattle.wf_refs.specs.ActionTree.{ActionTrees}
 use Rattle.wf_says.specs.Decisions.{DecisionTree, nothing, held, chosen, each, too_many, faulty, items_of}
 use Rattle.wf_says.specs.Verdicts.{VerdictTree, met, astray}
-use Rattle.wf_record.specs.Record.{Row}
-use Rattle.wf_record.specs.declared.status.Status.{Status}
+use Rattle.wf_environment.specs.Record.{Row}
+use Rattle.wf_environment.specs.Status.{Status}
 use Rattle.wf_says.specs.Told.{count_items, count_told, told_rounds}
 use Rattle.wf_meant.specs.Containers.{close_foreach, close_until, iterations_value}
 

@@ -8,17 +8,17 @@ use Rattle.wf_template.specs.DataTree.{DataTree, DataMember}
 use Rattle.wf_template.specs.ExprTree.{ExprTree, literal, call, no_exprs, expr_then, expr_trees}
 use Rattle.wf_template.specs.TemplateTree.{plain, whole}
 use Rattle.wf_retry.specs.declared.policy.Outcome.{Outcome}
-use Rattle.wf_answers.specs.AnswerTree.{AnswerTree}
-use Rattle.wf_answers.specs.Inputs.{InputsTree}
+use Rattle.wf_done.specs.AnswerTree.{AnswerTree}
+use Rattle.wf_done.specs.Inputs.{InputsTree}
 use Rattle.wf_environment.specs.Starts.{StartTree}
-use Rattle.wf_def.specs.ActionTree.{ActionTree, action, InitialTree, KindTree, action_trees}
-use Rattle.wf_def.specs.DefTree.{DefTree}
-use Rattle.wf_def.specs.declared.after.After.{After}
-use Rattle.wf_def.specs.declared.sort.Sort.{Sort}
-use Rattle.wf_record.specs.Record.{RecordTree, RowTree}
-use Rattle.wf_record.specs.declared.attempt.Try.{Try}
-use Rattle.wf_record.specs.declared.status.Status.{Status}
-use Rattle.wf_record.specs.declared.status.RunStatus.{RunStatus}
+use Rattle.wf_refs.specs.ActionTree.{ActionTree, action, InitialTree, KindTree, action_trees}
+use Rattle.wf_refs.specs.DefTree.{DefTree}
+use Rattle.wf_refs.specs.After.{After}
+use Rattle.wf_refs.specs.Sort.{Sort}
+use Rattle.wf_environment.specs.Record.{RecordTree, RowTree}
+use Rattle.wf_environment.specs.Try.{Try}
+use Rattle.wf_environment.specs.Status.{Status}
+use Rattle.wf_environment.specs.RunStatus.{RunStatus}
 use Rattle.wf_done.specs.Done as done
 use Rattle.wf_environment.specs.Environment.{Environment, fresh}
 use Rattle.wf_meant.specs.Record.{depth_of, rows_of}

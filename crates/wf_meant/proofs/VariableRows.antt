@@ -7,10 +7,10 @@ use Rattle.wf_val.specs.declared.fault.EvalFault.{EvalFault}
 use Rattle.wf_val.specs.declared.function.Fun.{Fun}
 use Rattle.wf_template.specs.TemplateTree.{plain}
 use Rattle.wf_template.specs.CondTree.{compare_by}
-use Rattle.wf_def.specs.ActionTree.{compose, initialize, set_to, increment, append_array, append_string, branch, switch, foreach}
-use Rattle.wf_def.specs.ActionTree.{action_trees, case_trees}
-use Rattle.wf_def.specs.DefTree.{DefTree}
-use Rattle.wf_def.specs.declared.sort.Sort.{Sort}
+use Rattle.wf_refs.specs.ActionTree.{compose, initialize, set_to, increment, append_array, append_string, branch, switch, foreach}
+use Rattle.wf_refs.specs.ActionTree.{action_trees, case_trees}
+use Rattle.wf_refs.specs.DefTree.{DefTree}
+use Rattle.wf_refs.specs.Sort.{Sort}
 use Rattle.wf_meant.proofs.Terms.{act, alone, ask, failure_of, fell, fields, initial, many, nat, of, of_actions, ran, rows_in, say}
 use Rattle.wf_meant.proofs.Terms.{success_of, txt, unrun, value, values, words}
 

@@ -1,13 +1,13 @@
 -- THE SOURCES OF A DEFINITION'S ROWS, whatever rows they keep of an older run: that of a run of its own keeps none, that of a resubmission
 -- some.
 use Rattle.std.specs.Prelude.{◌≡◌, ℕ, true, false, Option, Some}
-use Rattle.wf_layers.specs.Address.{Address, Table}
-use Rattle.wf_layers.specs.Definition.{Kind, Foreach, Until, kind_of}
-use Rattle.wf_layers.specs.Meaning as layered_meaning
-use Rattle.wf_layers.specs.Source.{Source}
-use Rattle.wf_def.specs.AllActions.{numbered}
-use Rattle.wf_def.specs.DefTree.{DefTree}
-use Rattle.wf_record.specs.Record.{Row}
+use Rattle.wf_refs.specs.Address.{Address, Table}
+use Rattle.wf_refs.specs.Definition.{Kind, Foreach, Until, kind_of}
+use Rattle.wf_refs.specs.Meaning as layered_meaning
+use Rattle.wf_refs.specs.Source.{Source}
+use Rattle.wf_refs.specs.AllActions.{numbered}
+use Rattle.wf_refs.specs.DefTree.{DefTree}
+use Rattle.wf_environment.specs.Record.{Row}
 use Rattle.wf_says.specs.Decisions.{DecisionTree}
 use Rattle.wf_says.specs.Verdicts.{VerdictTree}
 use Rattle.wf_done.specs.Leaf.{BegunTree}

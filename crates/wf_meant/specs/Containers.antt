@@ -5,15 +5,15 @@ use Rattle.std.specs.List.{list_any}
 use Rattle.wf_val.specs.Arguments.{wrong_type}
 use Rattle.wf_val.specs.ValueTree.{ValueTree, null, boolean, number, list, object, members, trees}
 use Rattle.wf_val.specs.declared.function.Fun.{Fun}
-use Rattle.wf_look.specs.Told.{Told}
-use Rattle.wf_layers.specs.Address.{Table, address}
-use Rattle.wf_def.specs.ActionTree.{ActionTree, action_kind, action_number, KindTree, terminate, scope, branch, switch, switch_else}
-use Rattle.wf_def.specs.ActionTree.{foreach}
-use Rattle.wf_def.specs.ActionTree.{until, ActionTrees, CaseTrees, no_cases, case_then, actions_in}
-use Rattle.wf_def.specs.AllActions.{kind_actions}
-use Rattle.wf_record.specs.Record.{Row}
-use Rattle.wf_record.specs.declared.status.Status.{Status}
-use Rattle.wf_record.specs.declared.status.Status.TheVariants.{Succeeded, Failed, Cancelled}
+use Rattle.wf_refs.specs.Told.{Told}
+use Rattle.wf_refs.specs.Address.{Table, address}
+use Rattle.wf_refs.specs.ActionTree.{ActionTree, action_kind, action_number, KindTree, terminate, scope, branch, switch, switch_else}
+use Rattle.wf_refs.specs.ActionTree.{foreach}
+use Rattle.wf_refs.specs.ActionTree.{until, ActionTrees, CaseTrees, no_cases, case_then, actions_in}
+use Rattle.wf_refs.specs.AllActions.{kind_actions}
+use Rattle.wf_environment.specs.Record.{Row}
+use Rattle.wf_environment.specs.Status.{Status}
+use Rattle.wf_environment.specs.Status.TheVariants.{Succeeded, Failed, Cancelled}
 use Rattle.wf_says.specs.Decisions.{DecisionTree, held, chosen, each, too_many, faulty, taken}
 use Rattle.wf_says.specs.Verdicts.{VerdictTree, met, astray, tested_from}
 use Rattle.wf_done.specs.Done.{DoneTree, faulted}

@@ -1,3 +1,50 @@
+pub use Rattle.wf_done.specs.AnswerTree
+pub use Rattle.wf_done.specs.DoneSeen
+pub use Rattle.wf_done.specs.Uses as DoneUses
+pub use Rattle.wf_done.specs.Given
+pub use Rattle.wf_done.specs.Initials
+pub use Rattle.wf_done.specs.Last
+pub use Rattle.wf_done.specs.Leaf
+pub use Rattle.wf_done.specs.Sorts
+pub use Rattle.wf_done.specs.Tracked
+pub use Rattle.wf_done.specs.Rows as VariablesRows
+pub use Rattle.wf_done.specs.Writing
+pub use Rattle.wf_environment.specs.Ending
+pub use Rattle.wf_environment.specs.Environment
+pub use Rattle.wf_environment.specs.Runs
+pub use Rattle.wf_environment.specs.Start
+pub use Rattle.wf_environment.specs.Starts
+pub use Rattle.wf_environment.specs.StartsSeen
+pub use Rattle.wf_environment.specs.Statuses
+pub use Rattle.wf_environment.specs.TriggerFault
+pub use Rattle.wf_loops.specs.Loops
+pub use Rattle.wf_refs.specs.ActionTree
+pub use Rattle.wf_refs.specs.AllActions
+pub use Rattle.wf_refs.specs.DefTree
+pub use Rattle.wf_refs.specs.EvalUses
+pub use Rattle.wf_refs.specs.Layered
+pub use Rattle.wf_refs.specs.Looked
+pub use Rattle.wf_refs.specs.Names
+pub use Rattle.wf_refs.specs.Read
+pub use Rattle.wf_refs.specs.ReadSeen
+pub use Rattle.wf_refs.specs.declared.site.Site
+pub use Rattle.wf_refs.specs.TemplateValue
+pub use Rattle.wf_refs.specs.Told
+pub use Rattle.wf_refs.specs.TreeValue
+pub use Rattle.wf_refs.specs.Truth
+pub use Rattle.wf_refs.specs.Uses
+pub use Rattle.wf_refs.specs.UsesTree
+pub use Rattle.wf_says.specs.Decision
+pub use Rattle.wf_says.specs.DecisionSeen
+pub use Rattle.wf_says.specs.Decisions
+pub use Rattle.wf_says.specs.Laws
+pub use Rattle.wf_says.specs.Made
+pub use Rattle.wf_says.specs.Uses as OpeningUses
+pub use Rattle.wf_says.specs.Says
+pub use Rattle.wf_says.specs.Told as SaysTold
+pub use Rattle.wf_says.specs.Simple
+pub use Rattle.wf_says.specs.Verdict
+pub use Rattle.wf_says.specs.Verdicts
 pub use Rattle.wf_refs.specs.Sites
 pub use Rattle.wf_done.specs.Done
 pub mod Points

@@ -5,13 +5,13 @@ use Rattle.wf_val.specs.Address.{address_text}
 use Rattle.wf_val.specs.Get.{value_of}
 use Rattle.wf_val.specs.ValueTree.{ValueTree}
 use Rattle.wf_val.specs.declared.address.Address as named
-use Rattle.wf_look.specs.Told.{Told}
-use Rattle.wf_layers.specs.Address.{Address, Table, address}
-use Rattle.wf_def.specs.ActionTree.{ActionTree, action_kind, action_name}
-use Rattle.wf_def.specs.AllActions.{numbered}
-use Rattle.wf_def.specs.DefTree.{DefTree}
+use Rattle.wf_refs.specs.Told.{Told}
+use Rattle.wf_refs.specs.Address.{Address, Table, address}
+use Rattle.wf_refs.specs.ActionTree.{ActionTree, action_kind, action_name}
+use Rattle.wf_refs.specs.AllActions.{numbered}
+use Rattle.wf_refs.specs.DefTree.{DefTree}
 use Rattle.wf_environment.specs.Starts.{StartTree}
-use Rattle.wf_record.specs.Record.{Row}
+use Rattle.wf_environment.specs.Record.{Row}
 use Rattle.wf_says.specs.Decisions.{DecisionTree, nothing, each, decided}
 use Rattle.wf_done.specs.Tracked.{with_own}
 use Rattle.wf_environment.specs.Environment.{Environment, Facts, facts_of, last_facts}

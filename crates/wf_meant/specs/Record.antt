@@ -3,14 +3,14 @@ use Rattle.std.specs.Prelude.{ℕ, Bool, true, false, ◌&&◌, List, [], ◌∷
 use Rattle.std.specs.Prelude.{option_map, codes, if◌then◌else◌}
 use Rattle.wf_val.specs.Get.{get}
 use Rattle.wf_val.specs.ValueTree.{ValueTree, null, object, no_members}
-use Rattle.wf_look.specs.Looked.{or_null}
-use Rattle.wf_layers.specs.Address.{Address, Table, address}
-use Rattle.wf_def.specs.ActionTree.{ActionTree, action_kind, action_number, KindTree, response, actions_in}
-use Rattle.wf_def.specs.AllActions.{all_actions}
-use Rattle.wf_def.specs.DefTree.{DefTree}
-use Rattle.wf_def.specs.Names.{graph_names}
-use Rattle.wf_record.specs.Record.{RecordTree, Row, RowTree}
-use Rattle.wf_record.specs.declared.status.RunStatus.{RunStatus}
+use Rattle.wf_refs.specs.Looked.{or_null}
+use Rattle.wf_refs.specs.Address.{Address, Table, address}
+use Rattle.wf_refs.specs.ActionTree.{ActionTree, action_kind, action_number, KindTree, response, actions_in}
+use Rattle.wf_refs.specs.AllActions.{all_actions}
+use Rattle.wf_refs.specs.DefTree.{DefTree}
+use Rattle.wf_refs.specs.Names.{graph_names}
+use Rattle.wf_environment.specs.Record.{RecordTree, Row, RowTree}
+use Rattle.wf_environment.specs.RunStatus.{RunStatus}
 use Rattle.wf_says.specs.Simple.{run_status_of}
 use Rattle.wf_environment.specs.Ending.{Ending, ending, section}
 use Rattle.wf_environment.specs.Environment.{Environment, last_facts}

@@ -3,15 +3,15 @@ use Rattle.std.specs.Prelude.{ℕ, zero, suc, List, [], ◌∷◌, ◌++◌, map
 use Rattle.std.specs.Option.{option_and_then}
 use Rattle.wf_val.specs.NameOrder.{put_named}
 use Rattle.wf_val.specs.ValueTree.{ValueTree, null, list, trees}
-use Rattle.wf_look.specs.Looked.{or_null}
-use Rattle.wf_layers.specs.Address.{Table, address}
-use Rattle.wf_def.specs.ActionTree.{ActionTree, action_name, action_number, action_kind, KindTree, scope, branch, switch, switch_else}
-use Rattle.wf_def.specs.ActionTree.{foreach, until, CaseTrees, no_cases, case_then, actions_in}
-use Rattle.wf_def.specs.AllActions.{numbered}
-use Rattle.wf_def.specs.DefTree.{DefTree}
+use Rattle.wf_refs.specs.Looked.{or_null}
+use Rattle.wf_refs.specs.Address.{Table, address}
+use Rattle.wf_refs.specs.ActionTree.{ActionTree, action_name, action_number, action_kind, KindTree, scope, branch, switch, switch_else}
+use Rattle.wf_refs.specs.ActionTree.{foreach, until, CaseTrees, no_cases, case_then, actions_in}
+use Rattle.wf_refs.specs.AllActions.{numbered}
+use Rattle.wf_refs.specs.DefTree.{DefTree}
 use Rattle.wf_meant.specs.Points.{Point, action_named}
 use Rattle.wf_meant.specs.Rows.{turns_at, view_of}
-use Rattle.wf_record.specs.Record.{Row}
+use Rattle.wf_environment.specs.Record.{Row}
 
 -- the numbers below n
 abbrev pub upto : ℕ → List ℕ

@@ -1,16 +1,16 @@
 -- WHAT A RESUBMISSION MEANS: the record of a run that does a set of actions of an older run anew, and all that depends on them.
 use Rattle.std.specs.Prelude.{ℕ, Bool, List, Option, None, Some, Ok, option_map, nat_eq}
 use Rattle.std.specs.List.{list_any}
-use Rattle.wf_layers.specs.Address.{Address, Table}
-use Rattle.wf_layers.specs.Meaning as layered_meaning
-use Rattle.wf_layers.specs.Redo.{closed_again, redone}
-use Rattle.wf_layers.specs.Resubmission.{pin}
-use Rattle.wf_layers.specs.Source.{Source}
-use Rattle.wf_def.specs.ActionTree.{ActionTree, action_kind, KindTree, branch, switch, switch_else}
-use Rattle.wf_def.specs.AllActions.{numbered}
-use Rattle.wf_def.specs.DefTree.{DefTree}
-use Rattle.wf_answers.specs.Inputs.{InputsTree}
-use Rattle.wf_record.specs.Record.{RecordTree, Row, RowTree, find_row}
+use Rattle.wf_refs.specs.Address.{Address, Table}
+use Rattle.wf_refs.specs.Meaning as layered_meaning
+use Rattle.wf_refs.specs.Redo.{closed_again, redone}
+use Rattle.wf_refs.specs.Resubmission.{pin}
+use Rattle.wf_refs.specs.Source.{Source}
+use Rattle.wf_refs.specs.ActionTree.{ActionTree, action_kind, KindTree, branch, switch, switch_else}
+use Rattle.wf_refs.specs.AllActions.{numbered}
+use Rattle.wf_refs.specs.DefTree.{DefTree}
+use Rattle.wf_done.specs.Inputs.{InputsTree}
+use Rattle.wf_environment.specs.Record.{RecordTree, Row, RowTree, find_row}
 use Rattle.wf_says.specs.Decisions.{DecisionTree, nothing, chosen_as, held_as}
 use Rattle.wf_says.specs.Verdicts.{VerdictTree}
 use Rattle.wf_done.specs.Leaf.{BegunTree}

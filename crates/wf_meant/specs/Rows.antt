@@ -1,12 +1,12 @@
 -- What is known of an action that has ended: the row of a record, and what it tells.
 use Rattle.std.specs.Prelude.{ℕ, List, [], Option, Some, None}
 use Rattle.wf_val.specs.ValueTree.{ValueTree, object, no_members}
-use Rattle.wf_layers.specs.Address.{Table, address}
-use Rattle.wf_def.specs.ActionTree.{ActionTree, action_kind, KindTree, foreach, until}
-use Rattle.wf_def.specs.AllActions.{numbered}
-use Rattle.wf_def.specs.DefTree.{DefTree}
-use Rattle.wf_record.specs.Record.{Row}
-use Rattle.wf_record.specs.declared.attempt.Try.{Try}
+use Rattle.wf_refs.specs.Address.{Table, address}
+use Rattle.wf_refs.specs.ActionTree.{ActionTree, action_kind, KindTree, foreach, until}
+use Rattle.wf_refs.specs.AllActions.{numbered}
+use Rattle.wf_refs.specs.DefTree.{DefTree}
+use Rattle.wf_environment.specs.Record.{Row}
+use Rattle.wf_environment.specs.Try.{Try}
 use Rattle.wf_done.specs.Done as done
 use Rattle.wf_done.specs.Done.{DoneTree}
 use Rattle.wf_says.specs.Told.{items_said, rounds_said}

@@ -4,14 +4,14 @@ use Rattle.std.specs.List.{list_any}
 use Rattle.wf_val.specs.ValueTree.{object, no_members}
 use Rattle.wf_val.specs.declared.fault.EvalFault.{EvalFault}
 use Rattle.wf_template.specs.DataTree.{DataMember}
-use Rattle.wf_layers.specs.Address.{Address, Table, address}
-use Rattle.wf_layers.specs.Meaning as layered_meaning
-use Rattle.wf_layers.specs.Source.{Source}
-use Rattle.wf_def.specs.ActionTree.{ActionTree, action, action_kind, action_name, action_number}
-use Rattle.wf_def.specs.AllActions.{all_actions, numbered}
-use Rattle.wf_def.specs.DefTree.{DefTree}
-use Rattle.wf_record.specs.Record.{Row}
-use Rattle.wf_record.specs.declared.attempt.Try.{Try}
+use Rattle.wf_refs.specs.Address.{Address, Table, address}
+use Rattle.wf_refs.specs.Meaning as layered_meaning
+use Rattle.wf_refs.specs.Source.{Source}
+use Rattle.wf_refs.specs.ActionTree.{ActionTree, action, action_kind, action_name, action_number}
+use Rattle.wf_refs.specs.AllActions.{all_actions, numbered}
+use Rattle.wf_refs.specs.DefTree.{DefTree}
+use Rattle.wf_environment.specs.Record.{Row}
+use Rattle.wf_environment.specs.Try.{Try}
 use Rattle.wf_says.specs.Decisions.{DecisionTree, items_of, taken}
 use Rattle.wf_says.specs.Verdicts.{VerdictTree, met, ends}
 use Rattle.wf_done.specs.Done as done

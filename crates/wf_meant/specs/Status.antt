@@ -1,12 +1,12 @@
 -- How a graph ends at given indexes, from the rows of its actions there.
 use Rattle.std.specs.Prelude.{ℕ, zero, suc, Bool, true, false, not, ◌&&◌, List, length, Option, None, Some, if◌then◌else◌, nat_eq}
 use Rattle.std.specs.List.{find, list_any}
-use Rattle.wf_layers.specs.Address.{Table, address}
-use Rattle.wf_def.specs.ActionTree.{ActionTree, action_after, action_number}
-use Rattle.wf_def.specs.AllActions.{has_number}
-use Rattle.wf_record.specs.declared.status.Status.{Status}
-use Rattle.wf_record.specs.declared.status.Status.TheVariants.{Succeeded, Failed, Skipped, TimedOut, Cancelled}
-use Rattle.wf_record.specs.Record.{Row}
+use Rattle.wf_refs.specs.Address.{Table, address}
+use Rattle.wf_refs.specs.ActionTree.{ActionTree, action_after, action_number}
+use Rattle.wf_refs.specs.AllActions.{has_number}
+use Rattle.wf_environment.specs.Status.{Status}
+use Rattle.wf_environment.specs.Status.TheVariants.{Succeeded, Failed, Skipped, TimedOut, Cancelled}
+use Rattle.wf_environment.specs.Record.{Row}
 
 -- An action whose row is judged fails its graph by its status; a Skipped one hands the judgement on.
 abbrev pub judge : Status → Bool → Bool

@@ -4,18 +4,18 @@ use Rattle.std.specs.Prelude.{bytes_eq, nat_eq, if◌then◌else◌}
 use Rattle.std.specs.List.{list_any}
 use Rattle.std.specs.Option.{option_and_then}
 use Rattle.wf_val.specs.ValueTree.{ValueTree}
-use Rattle.wf_layers.specs.Address.{Address, Table, address}
-use Rattle.wf_def.specs.ActionTree.{ActionTree, action_kind, action_number}
-use Rattle.wf_def.specs.AllActions.{all_actions}
-use Rattle.wf_def.specs.DefTree.{DefTree}
+use Rattle.wf_refs.specs.Address.{Address, Table, address}
+use Rattle.wf_refs.specs.ActionTree.{ActionTree, action_kind, action_number}
+use Rattle.wf_refs.specs.AllActions.{all_actions}
+use Rattle.wf_refs.specs.DefTree.{DefTree}
 use Rattle.wf_refs.specs.Sites.{writes_of}
-use Rattle.wf_record.specs.declared.status.Status.{Status}
+use Rattle.wf_environment.specs.Status.{Status}
 use Rattle.wf_done.specs.Given.{gives}
 use Rattle.wf_loops.specs.Loops.{loops_of}
 use Rattle.wf_meant.specs.Points.{Point, graph_of, point_of, sees}
 use Rattle.wf_meant.specs.References.{upto}
 use Rattle.wf_meant.specs.Rows.{turns_at}
-use Rattle.wf_record.specs.Record.{Row}
+use Rattle.wf_environment.specs.Record.{Row}
 
 -- what a point sees of the rows
 abbrev pub seen_by : Point → Table Row → Table Row

@@ -18,12 +18,22 @@
 #![tactic(auto)]
 
 ghost use Rattle.std.specs.Prelude.{◌≡◌};
-ghost use Rattle.wf_def.specs.DefTree.{DefTree};
+ghost use Rattle.wf_refs.specs.DefTree.{DefTree};
 ghost use Rattle.wf_environment.specs.Environment.{Environment};
 ghost use Rattle.wf_meant.specs.Record.{depth_of, meaning, record_of_table, rows_of};
 ghost use Rattle.wf_meant.specs.Source.{table_of};
 
-pub use wf_says::{items_said, rounds_said};
+pub use wf_done::{
+    Begun, Done, begin, ended_by, skipped, the_last_attempt_is_the_least, tracked, value_given,
+    view, what_an_action_does_is_local, what_is_given_is_found, what_is_initialized_is_given,
+    what_is_written_keeps_its_type, what_ran_is_not_skipped,
+};
+pub use wf_environment::{Start, TriggerFault};
+pub use wf_refs::{Look, names_are_those_named, read_actions_have_their_numbers, word_of};
+pub use wf_says::{
+    Decision, Verdict, a_skipped_row_says_nothing, branch_said, fits, is_skipped, items_said, open,
+    rounds_said, taken, test, what_a_container_decides_is_local,
+};
 
 /// A definition means the record of its table, whose depths are how many actions are before an action; the record has the rows of the
 /// table.

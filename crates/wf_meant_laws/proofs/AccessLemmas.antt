@@ -9,22 +9,22 @@ use Rattle.wf_layers.specs.Definition.{Kind, Leaf, Skipped, kind_of}
 use Rattle.wf_layers.specs.Seen.{Once}
 use Rattle.wf_layers.specs.Variables.{HasOrder, IsIdle, IsOrdered, OneOrder}
 use Rattle.wf_layers.proofs.Basics.{own_in, two, unless}
-use Rattle.wf_def.specs.ActionTree.{ActionTree, action, action_kind, KindTree, initialize, set_to, increment, decrement, append_array}
-use Rattle.wf_def.specs.ActionTree.{append_string}
-use Rattle.wf_def.specs.AllActions.{numbered}
-use Rattle.wf_def.specs.DefTree.{DefTree}
-use Rattle.wf_def.specs.Layered.{layered_kind}
-use Rattle.wf_refs.specs.Sites.{uses_at_inputs, writes_of}
-use Rattle.wf_uses.specs.UsesTree.{ordered}
+use Rattle.wf_seen_laws.specs.ActionTree.{ActionTree, action, action_kind, KindTree, initialize, set_to, increment, decrement, append_array}
+use Rattle.wf_seen_laws.specs.ActionTree.{append_string}
+use Rattle.wf_seen_laws.specs.AllActions.{numbered}
+use Rattle.wf_seen_laws.specs.DefTree.{DefTree}
+use Rattle.wf_seen_laws.specs.Layered.{layered_kind}
+use Rattle.wf_instance.specs.Sites.{uses_at_inputs, writes_of}
+use Rattle.wf_instance.specs.UsesTree.{ordered}
 use Rattle.wf_instance.specs.Pairs.{writes_if}
 use Rattle.wf_instance.specs.Variables.{VariablesAreInOneOrder, WritesIt}
 use Rattle.wf_record.specs.Record.{Row}
 use Rattle.wf_record.specs.declared.status.Status.{Status}
-use Rattle.wf_environment.specs.Environment.{Environment}
-use Rattle.wf_environment.specs.Statuses.{status_tree}
-use Rattle.wf_meant.specs.Answering.{AnswersAs, RowSource}
-use Rattle.wf_meant.specs.Points.{graph_of}
-use Rattle.wf_meant.specs.Variables.{given_as, given_by}
+use Rattle.wf_instance.specs.Environment.{Environment}
+use Rattle.wf_instance.specs.Statuses.{status_tree}
+use Rattle.wf_instance.specs.Answering.{AnswersAs, RowSource}
+use Rattle.wf_instance.specs.Points.{graph_of}
+use Rattle.wf_instance.specs.MeantVariables.{given_as, given_by}
 use Rattle.wf_instance.proofs.KindLemmas.{kinds}
 use Rattle.wf_meant_laws.specs.Last.{AccessesHaveOrder}
 use Rattle.wf_meant_laws.specs.Tables.{StandAtInstances}

@@ -1,9 +1,9 @@
 -- The source of a definition answers as itself: it keeps nothing, and closes nothing again.
 use Rattle.std.proofs.Common.{refl, sym, true≢false}
-use Rattle.wf_def.specs.DefTree.{DefTree}
-use Rattle.wf_environment.specs.Environment.{Environment}
-use Rattle.wf_meant.specs.Answering.{AnswersAs}
-use Rattle.wf_meant.specs.Source.{source}
+use Rattle.wf_seen_laws.specs.DefTree.{DefTree}
+use Rattle.wf_instance.specs.Environment.{Environment}
+use Rattle.wf_instance.specs.Answering.{AnswersAs}
+use Rattle.wf_instance.specs.Source.{source}
 
 pub answers_itself : (d : DefTree) (e : Environment) → AnswersAs d e (source d e)
 answers_itself d e = record {

@@ -12,30 +12,31 @@ use Rattle.wf_val.specs.declared.fault.EvalFault.{EvalFault}
 use Rattle.wf_val.specs.declared.function.Fun.{Fun}
 use Rattle.wf_val.proofs.ValueTreeLemmas.{items-trees}
 use Rattle.wf_json.specs.Json as json_text
-use Rattle.wf_answers.specs.AnswerTree.{AnswerTree}
+use Rattle.wf_instance.specs.AnswerTree.{AnswerTree}
 use Rattle.wf_layers.specs.Address.{Address, Table}
 use Rattle.wf_layers.proofs.Basics.{either}
-use Rattle.wf_look.specs.Looked.{or_no_value}
-use Rattle.wf_look.specs.Told.{Told}
-use Rattle.wf_def.specs.ActionTree.{ActionTree, InitialTree, KindTree, action_kind, action_name, append_array, append_string, decrement}
-use Rattle.wf_def.specs.ActionTree.{increment, initialize, set_to}
-use Rattle.wf_def.specs.DefTree.{DefTree}
-use Rattle.wf_refs.specs.Sites.{writes_of}
-use Rattle.wf_data.specs.Made.{MadeTree, fitting, one_member}
-use Rattle.wf_variables.specs.Given.{gives, item_value, items_value, or_else}
-use Rattle.wf_variables.specs.Initials.{body_of, given_item, made_initialize}
-use Rattle.wf_variables.specs.Rows.{AreItems, GivesAll}
-use Rattle.wf_variables.specs.Sorts.{are_alike}
-use Rattle.wf_variables.specs.Writing as writing
-use Rattle.wf_variables.specs.Writing.{Change}
-use Rattle.wf_done.specs.Done.{DoneTree, faulted, succeeded}
-use Rattle.wf_done.specs.Leaf.{begun_from, done_of, ended, made_by}
+use Rattle.wf_instance.specs.Looked.{or_no_value}
+use Rattle.wf_instance.specs.Told.{Told}
+use Rattle.wf_seen_laws.specs.ActionTree.{ActionTree, InitialTree, KindTree, action_kind, action_name}
+use Rattle.wf_seen_laws.specs.ActionTree.{append_array, append_string, decrement}
+use Rattle.wf_seen_laws.specs.ActionTree.{increment, initialize, set_to}
+use Rattle.wf_seen_laws.specs.DefTree.{DefTree}
+use Rattle.wf_instance.specs.Sites.{writes_of}
+use Rattle.wf_instance.specs.Made.{MadeTree, fitting, one_member}
+use Rattle.wf_instance.specs.Given.{gives, item_value, items_value, or_else}
+use Rattle.wf_instance.specs.Initials.{body_of, given_item, made_initialize}
+use Rattle.wf_instance.specs.VariablesRows.{AreItems, GivesAll}
+use Rattle.wf_instance.specs.Sorts.{are_alike}
+use Rattle.wf_instance.specs.Writing as writing
+use Rattle.wf_instance.specs.Writing.{Change}
+use Rattle.wf_instance.specs.Done.{DoneTree, faulted, succeeded}
+use Rattle.wf_instance.specs.Leaf.{begun_from, done_of, ended, made_by}
 use Rattle.wf_record.specs.Record.{Row}
 use Rattle.wf_record.specs.declared.status.Status.{Status}
-use Rattle.wf_environment.specs.Environment.{Environment, facts_of}
-use Rattle.wf_meant.specs.Look.{instance, told_at}
-use Rattle.wf_meant.specs.Source.{begun, finished}
-use Rattle.wf_meant.specs.Variables.{given_as, given_by}
+use Rattle.wf_instance.specs.Environment.{Environment, facts_of}
+use Rattle.wf_instance.specs.Look.{instance, told_at}
+use Rattle.wf_instance.specs.Source.{begun, finished}
+use Rattle.wf_instance.specs.MeantVariables.{given_as, given_by}
 use Rattle.wf_meant_laws.specs.Writers.{writes_if}
 
 same_name : (k n : List ℕ) → bytes_eq k n ≡ true → k ≡ n

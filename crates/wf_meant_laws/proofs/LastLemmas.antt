@@ -5,9 +5,9 @@ use Rattle.std.specs.Prelude.{if◌then◌else◌}
 use Rattle.std.specs.List.{AllByRecursion}
 use Rattle.wf_layers.specs.Address.{Address, SeenIn}
 use Rattle.wf_layers.specs.Listed.{Among}
-use Rattle.wf_def.specs.DefTree.{DefTree}
-use Rattle.wf_meant.specs.Points.{graph_of, point_of, sees}
-use Rattle.wf_meant.specs.Variables.{Written, last_from, later_of}
+use Rattle.wf_seen_laws.specs.DefTree.{DefTree}
+use Rattle.wf_instance.specs.Points.{graph_of, point_of, sees}
+use Rattle.wf_instance.specs.MeantVariables.{Written, last_from, later_of}
 
 module _ (d : DefTree) (y : Address) (Told : Written → Type 0)
     (told : (x z : Address) → SeenIn (graph_of d) z x → sees (point_of d z) x ≡ true)

@@ -1,3 +1,8 @@
+pub use Rattle.wf_instance.proofs.CloseLemmas
+pub use Rattle.wf_instance.proofs.ExactLemmas
+pub use Rattle.wf_instance.proofs.KindLemmas
+pub use Rattle.wf_instance.proofs.NumberLemmas
+pub use Rattle.wf_instance.proofs.Terms
 pub mod AnswerLemmas
 pub mod ListLemmas
 pub mod PointLemmas

@@ -7,7 +7,7 @@ use Rattle.std.proofs.lemmas.Bool.{eqb-false}
 use Rattle.std.proofs.lemmas.Option.{none-some}
 use Rattle.wf_layers.specs.Listed.{Among}
 use Rattle.wf_layers.proofs.Basics.{two}
-use Rattle.wf_meant.specs.References.{upto}
+use Rattle.wf_instance.specs.References.{upto}
 
 pub in_front : {A : Type 0} (xs ys : List A) (x : A) → Among xs x → Among (xs ++ ys) x
 in_front [] ys x i = absurd i

@@ -15,16 +15,16 @@ use Rattle.wf_layers.specs.Address.{Address, Table, address}
 use Rattle.wf_layers.specs.Definition.{has}
 use Rattle.wf_layers.specs.Listed.{Among}
 use Rattle.wf_layers.specs.Record.{key}
-use Rattle.wf_def.specs.DefTree.{DefTree}
-use Rattle.wf_def.specs.Names.{graph_names}
-use Rattle.wf_loops.specs.Loops.{loops_of}
+use Rattle.wf_seen_laws.specs.DefTree.{DefTree}
+use Rattle.wf_seen_laws.specs.Names.{graph_names}
+use Rattle.wf_seen_laws.specs.Loops.{loops_of}
 use Rattle.wf_record.specs.Record.{Row, RowTree}
-use Rattle.wf_meant.specs.Look.{instance}
-use Rattle.wf_meant.specs.Points.{Point, graph_of, point_of_outputs}
-use Rattle.wf_meant.specs.Record.{row_at}
-use Rattle.wf_meant.specs.References.{upto}
-use Rattle.wf_meant.specs.Rows.{turns_at}
-use Rattle.wf_meant.specs.Variables.{indexes_from, instances_at, seen_by}
+use Rattle.wf_instance.specs.Look.{instance}
+use Rattle.wf_instance.specs.Points.{Point, graph_of, point_of_outputs}
+use Rattle.wf_instance.specs.Record.{row_at}
+use Rattle.wf_instance.specs.References.{upto}
+use Rattle.wf_instance.specs.Rows.{turns_at}
+use Rattle.wf_instance.specs.MeantVariables.{indexes_from, instances_at, seen_by}
 use Rattle.wf_seen_laws.proofs.RoundLemmas.{none_split}
 use Rattle.wf_meant_laws.specs.Listed.{Entry, StandFor, told_as}
 use Rattle.wf_meant_laws.specs.Tables.{AreWhole}

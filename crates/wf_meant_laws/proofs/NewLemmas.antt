@@ -6,18 +6,18 @@ use Rattle.wf_layers.specs.Address.{Address, Table}
 use Rattle.wf_layers.specs.Rule.{Obeys}
 use Rattle.wf_layers.specs.Seen.{Once}
 use Rattle.wf_layers.specs.Source.{leaf}
-use Rattle.wf_def.specs.AllActions.{numbered}
-use Rattle.wf_def.specs.DefTree.{DefTree}
+use Rattle.wf_seen_laws.specs.AllActions.{numbered}
+use Rattle.wf_seen_laws.specs.DefTree.{DefTree}
 use Rattle.wf_seen_laws.specs.Laws.{IsKept}
 use Rattle.wf_seen_laws.proofs.LeafLemmas.{new_leaf}
 use Rattle.wf_record.specs.Record.{Row}
 use Rattle.wf_record.specs.declared.status.Status.{Status}
-use Rattle.wf_environment.specs.Environment.{Environment}
-use Rattle.wf_meant.specs.Answering.{AnswersAs, RowSource}
-use Rattle.wf_meant.specs.Points.{graph_of}
-use Rattle.wf_meant.specs.Rows.{skipped}
-use Rattle.wf_meant.specs.Source.{source}
-use Rattle.wf_meant.specs.Variables.{given_by}
+use Rattle.wf_instance.specs.Environment.{Environment}
+use Rattle.wf_instance.specs.Answering.{AnswersAs, RowSource}
+use Rattle.wf_instance.specs.Points.{graph_of}
+use Rattle.wf_instance.specs.Rows.{skipped}
+use Rattle.wf_instance.specs.Source.{source}
+use Rattle.wf_instance.specs.MeantVariables.{given_by}
 use Rattle.wf_meant_laws.specs.Answered.{NewGiveWhatTheyWrite}
 use Rattle.wf_meant_laws.specs.Writers.{is_writer}
 use Rattle.wf_meant_laws.proofs.AccessLemmas.{writer_is_leaf}

@@ -6,15 +6,15 @@ use Rattle.std.specs.Prelude.{flat_map, if◌then◌else◌}
 use Rattle.wf_layers.specs.Address.{Address, Table, address}
 use Rattle.wf_layers.specs.Listed.{Among}
 use Rattle.wf_layers.proofs.Basics.{two, same_self, when, unless}
-use Rattle.wf_def.specs.AllActions.{numbered}
-use Rattle.wf_def.specs.DefTree.{DefTree}
-use Rattle.wf_loops.specs.Loops.{loops_of}
+use Rattle.wf_seen_laws.specs.AllActions.{numbered}
+use Rattle.wf_seen_laws.specs.DefTree.{DefTree}
+use Rattle.wf_seen_laws.specs.Loops.{loops_of}
 use Rattle.wf_record.specs.Record.{Row}
 use Rattle.wf_seen_laws.specs.Laws.{IsInTurnOf}
-use Rattle.wf_meant.specs.Points.{Point, graph_of, sees}
-use Rattle.wf_meant.specs.References.{upto}
-use Rattle.wf_meant.specs.Rows.{iterations_of, turns_at}
-use Rattle.wf_meant.specs.Variables.{indexes_from, seen_by}
+use Rattle.wf_instance.specs.Points.{Point, graph_of, sees}
+use Rattle.wf_instance.specs.References.{upto}
+use Rattle.wf_instance.specs.Rows.{iterations_of, turns_at}
+use Rattle.wf_instance.specs.MeantVariables.{indexes_from, seen_by}
 use Rattle.wf_meant_laws.proofs.ListLemmas.{cancel, in_flat, in_upto}
 
 pub append_none : (xs : List ℕ) → xs ++ [] ≡ xs

@@ -3,8 +3,8 @@ use Rattle.std.proofs.Common.{◌≡◌, ℕ, Bool, true, false, List, [], ◌�
 use Rattle.std.specs.Prelude.{◌||◌}
 use Rattle.std.specs.List.{find, list_any}
 use Rattle.wf_layers.proofs.Basics.{two, when, unless}
-use Rattle.wf_def.specs.ActionTree.{ActionTree, action_number}
-use Rattle.wf_def.specs.AllActions.{has_number}
+use Rattle.wf_seen_laws.specs.ActionTree.{ActionTree, action_number}
+use Rattle.wf_seen_laws.specs.AllActions.{has_number}
 
 pub some_found : (n : ℕ) (as' : List ActionTree) → list_any (nat_eq n) (map action_number as') ≡ true
     → (a : ActionTree) × (find (has_number n) as' ≡ Some a)

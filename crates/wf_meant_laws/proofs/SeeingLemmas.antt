@@ -9,19 +9,19 @@ use Rattle.wf_layers.specs.Definition.{Graph, InTurn, Kind, Pace, Until, has, ki
 use Rattle.wf_layers.specs.Seen.{Once}
 use Rattle.wf_layers.specs.Variables.{SeenByTest}
 use Rattle.wf_layers.proofs.Basics.{two, and_in, and_of, or_second, same_self, when, unless}
-use Rattle.wf_def.specs.ActionTree.{action_number}
-use Rattle.wf_def.specs.AllActions.{all_actions, numbered}
-use Rattle.wf_def.specs.DefTree.{DefTree}
-use Rattle.wf_order.specs.Order.{Contains}
-use Rattle.wf_loops.specs.Loops.{is_earlier, is_in_turn, loops_of, paces_round}
-use Rattle.wf_loops.proofs.FewLemmas.{few_of}
-use Rattle.wf_loops.proofs.HeldLemmas.{told_of}
-use Rattle.wf_loops.proofs.PrefixLemmas.{starts_front}
-use Rattle.wf_loops.proofs.RoundLemmas.{split_of}
+use Rattle.wf_seen_laws.specs.ActionTree.{action_number}
+use Rattle.wf_seen_laws.specs.AllActions.{all_actions, numbered}
+use Rattle.wf_seen_laws.specs.DefTree.{DefTree}
+use Rattle.wf_seen_laws.specs.Order.{Contains}
+use Rattle.wf_seen_laws.specs.Loops.{is_earlier, is_in_turn, loops_of, paces_round}
+use Rattle.wf_seen_laws.proofs.FewLemmas.{few_of}
+use Rattle.wf_seen_laws.proofs.HeldLemmas.{told_of}
+use Rattle.wf_seen_laws.proofs.PrefixLemmas.{starts_front}
+use Rattle.wf_seen_laws.proofs.LoopsRoundLemmas.{split_of}
 use Rattle.wf_seen_laws.specs.Laws.{IsInTurnFrom, IsInTurnOf}
 use Rattle.wf_seen_laws.proofs.InnerLemmas.{loops_inside}
 use Rattle.wf_seen_laws.proofs.RoundLemmas.{loop_has, none_split, rest_of}
-use Rattle.wf_meant.specs.Points.{Point, graph_of, held_by, is_before, is_inside, point_of, point_of_test, sees}
+use Rattle.wf_instance.specs.Points.{Point, graph_of, held_by, is_before, is_inside, point_of, point_of_test, sees}
 use Rattle.wf_meant_laws.proofs.PointLemmas.{Seeing, StandsFrom}
 
 -- what is known of a definition

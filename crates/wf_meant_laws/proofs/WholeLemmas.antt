@@ -7,30 +7,32 @@ use Rattle.wf_layers.specs.Definition as layers
 use Rattle.wf_layers.specs.Definition.{Branches, Graph, Kind, Pace, Foreach, Until, done, add, holds, has, kind_of, no_branch, branch}
 use Rattle.wf_layers.specs.Instances.{loop_count, loop_count_any, loop_count_in}
 use Rattle.wf_layers.specs.Meaning.{last}
-use Rattle.wf_order.specs.Indexes as indexes
-use Rattle.wf_order.specs.Indexes.{loops_round}
-use Rattle.wf_loops.specs.Loops.{loops_any, loops_in, loops_of}
-use Rattle.wf_def.specs.ActionTree.{ActionTree, ActionTrees, action, action_kind, KindTree, compose, connector, wait, response, terminate}
-use Rattle.wf_def.specs.ActionTree.{select, query, join, parse_json, initialize, set_to, increment, decrement, append_array, append_string}
-use Rattle.wf_def.specs.ActionTree.{scope, switch, switch_else, foreach, until}
-use Rattle.wf_def.specs.ActionTree as tree
-use Rattle.wf_def.specs.AllActions.{numbered}
-use Rattle.wf_def.specs.DefTree.{DefTree}
-use Rattle.wf_def.specs.Layered.{layered_kind}
-use Rattle.wf_opening.specs.Decisions.{DecisionTree, items_of}
-use Rattle.wf_opening.specs.Verdicts.{VerdictTree}
+use Rattle.wf_seen_laws.specs.Indexes as indexes
+use Rattle.wf_seen_laws.specs.Indexes.{loops_round}
+use Rattle.wf_seen_laws.specs.Loops.{loops_any, loops_in, loops_of}
+use Rattle.wf_seen_laws.specs.ActionTree.{ActionTree, ActionTrees, action, action_kind, KindTree, compose}
+use Rattle.wf_seen_laws.specs.ActionTree.{connector, wait, response, terminate}
+use Rattle.wf_seen_laws.specs.ActionTree.{select, query, join, parse_json, initialize, set_to}
+use Rattle.wf_seen_laws.specs.ActionTree.{increment, decrement, append_array, append_string}
+use Rattle.wf_seen_laws.specs.ActionTree.{scope, switch, switch_else, foreach, until}
+use Rattle.wf_seen_laws.specs.ActionTree as tree
+use Rattle.wf_seen_laws.specs.AllActions.{numbered}
+use Rattle.wf_seen_laws.specs.DefTree.{DefTree}
+use Rattle.wf_seen_laws.specs.Layered.{layered_kind}
+use Rattle.wf_instance.specs.Decisions.{DecisionTree, items_of}
+use Rattle.wf_instance.specs.Verdicts.{VerdictTree}
 use Rattle.wf_record.specs.Record.{Row}
-use Rattle.wf_says.specs.Laws.{IsForeach, IsUntil}
+use Rattle.wf_instance.specs.Laws.{IsForeach, IsUntil}
 use Rattle.wf_layers.specs.Seen.{Once}
-use Rattle.wf_order.specs.Turns.{IsInstance}
-use Rattle.wf_loops.proofs.InsideLemmas.{kind_has}
-use Rattle.wf_environment.specs.Environment.{Environment}
-use Rattle.wf_meant.specs.Answering.{AnswersAs, RowSource}
-use Rattle.wf_meant.specs.Containers.{last_status}
-use Rattle.wf_meant.specs.Points.{graph_of}
-use Rattle.wf_meant.specs.Rows.{iterations_of, turns_at}
-use Rattle.wf_meant.specs.Source.{close_of}
-use Rattle.wf_meant.proofs.TellLemmas.{items_back, rounds_back}
+use Rattle.wf_seen_laws.specs.Turns.{IsInstance}
+use Rattle.wf_seen_laws.proofs.InsideLemmas.{kind_has}
+use Rattle.wf_instance.specs.Environment.{Environment}
+use Rattle.wf_instance.specs.Answering.{AnswersAs, RowSource}
+use Rattle.wf_instance.specs.Containers.{last_status}
+use Rattle.wf_instance.specs.Points.{graph_of}
+use Rattle.wf_instance.specs.Rows.{iterations_of, turns_at}
+use Rattle.wf_instance.specs.Source.{close_of}
+use Rattle.wf_instance.proofs.TellLemmas.{items_back, rounds_back}
 use Rattle.wf_instance.proofs.KindLemmas.{kinds}
 use Rattle.wf_seen_laws.specs.Laws.{HadMore, HadTurn}
 use Rattle.wf_meant_laws.specs.Tables.{StandAtInstances}

@@ -10,15 +10,16 @@ use Rattle.wf_layers.specs.Address.{Address, SeenIn, Table, address}
 use Rattle.wf_layers.specs.Listed.{Among}
 use Rattle.wf_layers.specs.Variables.{IsLastSeen, write_at}
 use Rattle.wf_layers.proofs.Basics.{two, when, unless}
-use Rattle.wf_def.specs.ActionTree.{ActionTree, action_number}
-use Rattle.wf_def.specs.AllActions.{all_actions, has_number, numbered}
-use Rattle.wf_def.specs.DefTree.{DefTree}
-use Rattle.wf_loops.specs.Loops.{loops_of}
+use Rattle.wf_seen_laws.specs.ActionTree.{ActionTree, action_number}
+use Rattle.wf_seen_laws.specs.AllActions.{all_actions, has_number, numbered}
+use Rattle.wf_seen_laws.specs.DefTree.{DefTree}
+use Rattle.wf_seen_laws.specs.Loops.{loops_of}
 use Rattle.wf_record.specs.Record.{Row}
-use Rattle.wf_meant.specs.Answering.{RowSource}
-use Rattle.wf_meant.specs.Points.{Point, graph_of, sees}
-use Rattle.wf_meant.specs.Variables.{Written, given_by, indexes_from, instances_at, last_from, seen_by, variable_at, writes, written_at}
-use Rattle.wf_meant.specs.Variables.{written_before}
+use Rattle.wf_instance.specs.Answering.{RowSource}
+use Rattle.wf_instance.specs.Points.{Point, graph_of, sees}
+use Rattle.wf_instance.specs.MeantVariables.{Written, given_by, indexes_from, instances_at, last_from}
+use Rattle.wf_instance.specs.MeantVariables.{seen_by, variable_at, writes, written_at}
+use Rattle.wf_instance.specs.MeantVariables.{written_before}
 use Rattle.wf_instance.proofs.VariableLemmas.{variable_same}
 use Rattle.wf_meant_laws.specs.Tables.{LoopsTell}
 use Rattle.wf_meant_laws.specs.Writers.{is_writer, value_at, writes_if, writes_to}

@@ -3,12 +3,12 @@ use Rattle.std.proofs.Common.{◌≡◌, [], ◌∷◌, refl}
 use Rattle.std.specs.Prelude.{None, Some, codes}
 use Rattle.wf_val.specs.ValueTree.{ValueTree, no_members, null, object}
 use Rattle.wf_layers.specs.Address.{Table, address}
-use Rattle.wf_def.specs.ActionTree.{action_trees, append_array, compose, foreach, initialize}
-use Rattle.wf_def.specs.DefTree.{DefTree}
-use Rattle.wf_def.specs.declared.sort.Sort.{Sort}
+use Rattle.wf_seen_laws.specs.ActionTree.{action_trees, append_array, compose, foreach, initialize}
+use Rattle.wf_seen_laws.specs.DefTree.{DefTree}
+use Rattle.wf_seen_laws.specs.Sort.{Sort}
 use Rattle.wf_record.specs.Record.{Row}
 use Rattle.wf_record.specs.declared.status.Status.{Status}
-use Rattle.wf_meant.proofs.Terms.{act, alone, fields, initial, many, nat, of, of_actions, success_of, txt, value, words}
+use Rattle.wf_instance.proofs.Terms.{act, alone, fields, initial, many, nat, of, of_actions, success_of, txt, value, words}
 use Rattle.wf_meant_laws.specs.Writers.{value_at, writes_to}
 
 -- C tells the same as an action on variables would, but is none; P writes in each iteration of L; V makes two variables.

@@ -2,12 +2,12 @@
 use Rattle.std.specs.Prelude.{◌≡◌, ℕ, Bool, true, false, List, None, Some}
 use Rattle.wf_layers.specs.Address.{Address, Table}
 use Rattle.wf_layers.specs.Resubmission.{kept}
-use Rattle.wf_def.specs.DefTree.{DefTree}
+use Rattle.wf_seen_laws.specs.DefTree.{DefTree}
 use Rattle.wf_record.specs.Record.{Row}
 use Rattle.wf_record.specs.declared.status.Status.TheVariants.{Succeeded}
-use Rattle.wf_environment.specs.Environment.{Environment}
-use Rattle.wf_meant.specs.Answering.{AnswersAs, RowSource, table_by}
-use Rattle.wf_meant.specs.Variables.{given_by}
+use Rattle.wf_instance.specs.Environment.{Environment}
+use Rattle.wf_instance.specs.Answering.{AnswersAs, RowSource, table_by}
+use Rattle.wf_instance.specs.MeantVariables.{given_by}
 use Rattle.wf_meant_laws.specs.Tables.{AreWhole}
 use Rattle.wf_meant_laws.specs.Writers.{is_writer}
 

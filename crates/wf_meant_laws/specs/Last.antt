@@ -4,13 +4,13 @@ use Rattle.std.specs.Prelude.{◌≡◌, ◌⊎◌, ℕ, List, Option, Some}
 use Rattle.wf_layers.specs.Address.{Address, SeenIn, Table, address}
 use Rattle.wf_layers.specs.Definition.{Graph, Kind, Until, kind_of}
 use Rattle.wf_layers.specs.Variables.{IsLastSeen, SeenByTest, WritersHaveOrder}
-use Rattle.wf_def.specs.DefTree.{DefTree}
-use Rattle.wf_order.specs.Turns.{IsInstance}
+use Rattle.wf_seen_laws.specs.DefTree.{DefTree}
+use Rattle.wf_seen_laws.specs.Turns.{IsInstance}
 use Rattle.wf_instance.specs.Variables.{ReadsIt, WritesIt}
 use Rattle.wf_record.specs.Record.{Row}
-use Rattle.wf_meant.specs.Answering.{RowSource}
-use Rattle.wf_meant.specs.Points.{Point, graph_of, point_of, point_of_test}
-use Rattle.wf_meant.specs.Variables.{variable_at}
+use Rattle.wf_instance.specs.Answering.{RowSource}
+use Rattle.wf_instance.specs.Points.{Point, graph_of, point_of, point_of_test}
+use Rattle.wf_instance.specs.MeantVariables.{variable_at}
 use Rattle.wf_meant_laws.specs.Writers.{value_at, writes_to}
 
 module _ (d : DefTree) (m : RowSource) (rows : Table Row) where

@@ -1,3 +1,36 @@
+pub use Rattle.wf_instance.specs.Variables as AcceptedLawsVariables
+pub use Rattle.wf_instance.specs.Answering
+pub use Rattle.wf_instance.specs.Broken
+pub use Rattle.wf_instance.specs.Checked
+pub use Rattle.wf_instance.specs.Containers
+pub use Rattle.wf_instance.specs.Decisions
+pub use Rattle.wf_instance.specs.DoneUses
+pub use Rattle.wf_instance.specs.Environment
+pub use Rattle.wf_instance.specs.EvalUses
+pub use Rattle.wf_instance.specs.Kinds
+pub use Rattle.wf_instance.specs.Leaf
+pub use Rattle.wf_instance.specs.Look
+pub use Rattle.wf_instance.specs.OpeningUses
+pub use Rattle.wf_instance.specs.Pairs
+pub use Rattle.wf_instance.specs.Points
+pub use Rattle.wf_instance.specs.Read
+pub use Rattle.wf_instance.specs.Record
+pub use Rattle.wf_instance.specs.References
+pub use Rattle.wf_instance.specs.Resubmitted
+pub use Rattle.wf_instance.specs.Rows
+pub use Rattle.wf_instance.specs.Rule
+pub use Rattle.wf_instance.specs.Rules
+pub use Rattle.wf_instance.specs.Site
+pub use Rattle.wf_instance.specs.Sites
+pub use Rattle.wf_instance.specs.Source
+pub use Rattle.wf_instance.specs.Standing
+pub use Rattle.wf_instance.specs.Statuses
+pub use Rattle.wf_instance.specs.Tracked
+pub use Rattle.wf_instance.specs.Uses
+pub use Rattle.wf_instance.specs.UsesTree
+pub use Rattle.wf_instance.specs.MeantVariables as Variables
+pub use Rattle.wf_instance.specs.Verdicts
+pub use Rattle.wf_instance.specs.Whole
 pub mod Writers
 pub mod Tables
 pub mod Last

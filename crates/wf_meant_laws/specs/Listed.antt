@@ -6,10 +6,10 @@ use Rattle.wf_lists.specs.KeyOrder.{IsInKeyOrder}
 use Rattle.wf_layers.specs.Address.{Address, Table}
 use Rattle.wf_layers.specs.Listed.{Lists}
 use Rattle.wf_layers.specs.Record.{key}
-use Rattle.wf_def.specs.DefTree.{DefTree}
+use Rattle.wf_seen_laws.specs.DefTree.{DefTree}
 use Rattle.wf_record.specs.Record.{Row, RowTree}
-use Rattle.wf_meant.specs.Look.{instance}
-use Rattle.wf_meant.specs.Record.{rows_of}
+use Rattle.wf_instance.specs.Look.{instance}
+use Rattle.wf_instance.specs.Record.{rows_of}
 
 -- a row at its address
 abbrev pub Entry : Type 0

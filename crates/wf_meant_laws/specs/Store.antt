@@ -4,17 +4,17 @@ use Rattle.wf_layers.specs.Address.{Address, address}
 use Rattle.wf_layers.specs.Definition.{Graph, Kind, Leaf, Need, Until, kind_of}
 use Rattle.wf_layers.specs.Machine.{Event, IsDecided, IsThere, MayTest, Opening, Running, State, fresh}
 use Rattle.wf_layers.specs.Variables.{Stores}
-use Rattle.wf_def.specs.DefTree.{DefTree}
-use Rattle.wf_order.specs.Turns.{IsInstance}
+use Rattle.wf_seen_laws.specs.DefTree.{DefTree}
+use Rattle.wf_seen_laws.specs.Turns.{IsInstance}
 use Rattle.wf_instance.specs.Variables.{ReadsIt, WritesIt}
-use Rattle.wf_opening.specs.Decisions.{DecisionTree}
-use Rattle.wf_opening.specs.Verdicts.{VerdictTree}
-use Rattle.wf_done.specs.Leaf.{BegunTree}
+use Rattle.wf_instance.specs.Decisions.{DecisionTree}
+use Rattle.wf_instance.specs.Verdicts.{VerdictTree}
+use Rattle.wf_instance.specs.Leaf.{BegunTree}
 use Rattle.wf_record.specs.Record.{Row}
-use Rattle.wf_environment.specs.Environment.{Environment}
-use Rattle.wf_meant.specs.Points.{Point, graph_of, point_of, point_of_test}
-use Rattle.wf_meant.specs.Source.{source}
-use Rattle.wf_meant.specs.Variables.{variable_at}
+use Rattle.wf_instance.specs.Environment.{Environment}
+use Rattle.wf_instance.specs.Points.{Point, graph_of, point_of, point_of_test}
+use Rattle.wf_instance.specs.Source.{source}
+use Rattle.wf_instance.specs.MeantVariables.{variable_at}
 use Rattle.wf_meant_laws.specs.Writers.{value_at, writes_to}
 
 abbrev pub Moment : Type 0

@@ -1,12 +1,12 @@
 -- What is known of the rows of a run, whether they are those of a meaning or of a record that was resubmitted.
 use Rattle.std.specs.Prelude.{◌≡◌, ◌<◌, ℕ, List, Some}
 use Rattle.wf_layers.specs.Address.{Address, Table}
-use Rattle.wf_def.specs.DefTree.{DefTree}
-use Rattle.wf_order.specs.Turns.{IsInstance}
+use Rattle.wf_seen_laws.specs.DefTree.{DefTree}
+use Rattle.wf_seen_laws.specs.Turns.{IsInstance}
 use Rattle.wf_record.specs.Record.{Row}
 use Rattle.wf_seen_laws.specs.Laws.{IsInTurnOf}
-use Rattle.wf_meant.specs.Points.{graph_of}
-use Rattle.wf_meant.specs.Rows.{turns_at}
+use Rattle.wf_instance.specs.Points.{graph_of}
+use Rattle.wf_instance.specs.Rows.{turns_at}
 
 -- each row stands at an instance
 abbrev pub StandAtInstances : DefTree → Table Row → Type 0

@@ -3,11 +3,11 @@ use Rattle.std.specs.Prelude.{ℕ, Bool, false, cond, List, Option, Some, None, 
 use Rattle.std.specs.Option.{option_and_then}
 use Rattle.wf_val.specs.ValueTree.{ValueTree}
 use Rattle.wf_layers.specs.Address.{Address, Table}
-use Rattle.wf_def.specs.ActionTree.{ActionTree}
-use Rattle.wf_def.specs.AllActions.{numbered}
-use Rattle.wf_def.specs.DefTree.{DefTree}
+use Rattle.wf_seen_laws.specs.ActionTree.{ActionTree}
+use Rattle.wf_seen_laws.specs.AllActions.{numbered}
+use Rattle.wf_seen_laws.specs.DefTree.{DefTree}
 use Rattle.wf_record.specs.Record.{Row}
-use Rattle.wf_meant.specs.Variables.{given_by, writes}
+use Rattle.wf_instance.specs.MeantVariables.{given_by, writes}
 
 abbrev pub writes_if : List ℕ → Option ActionTree → Bool
 writes_if v None = false

@@ -18,15 +18,15 @@ ghost use Rattle.wf_layers.specs.Address.{Table};
 ghost use Rattle.wf_layers.specs.Rule.{Obeys};
 ghost use Rattle.wf_layers.specs.Variables.{OneOrder};
 ghost use Rattle.wf_seen_laws.specs.Laws.{IsKept};
-ghost use Rattle.wf_def.specs.DefTree.{DefTree};
-ghost use Rattle.wf_reading.specs.Read.{IsRead};
+ghost use Rattle.wf_seen_laws.specs.DefTree.{DefTree};
+ghost use Rattle.wf_instance.specs.Read.{IsRead};
 ghost use Rattle.wf_record.specs.Record.{Row};
 ghost use Rattle.wf_instance.specs.Broken.{broken_of};
-ghost use Rattle.wf_environment.specs.Environment.{Environment};
-ghost use Rattle.wf_meant.specs.Answering.{AnswersAs, RowSource};
-ghost use Rattle.wf_meant.specs.Points.{graph_of};
-ghost use Rattle.wf_meant.specs.Record.{depth_of};
-ghost use Rattle.wf_meant.specs.Source.{table_of};
+ghost use Rattle.wf_instance.specs.Environment.{Environment};
+ghost use Rattle.wf_instance.specs.Answering.{AnswersAs, RowSource};
+ghost use Rattle.wf_instance.specs.Points.{graph_of};
+ghost use Rattle.wf_instance.specs.Record.{depth_of};
+ghost use Rattle.wf_instance.specs.Source.{table_of};
 ghost use Rattle.wf_meant_laws.specs.Answered.{NewGiveWhatTheyWrite};
 ghost use Rattle.wf_meant_laws.specs.Last.{AccessesHaveOrder, LastIsReadAtInstances, LastIsReadAtTests};
 ghost use Rattle.wf_meant_laws.specs.Listed.{StandFor};
@@ -35,7 +35,11 @@ ghost use Rattle.wf_meant_laws.specs.Tables.{AreWhole, StandAtInstances};
 ghost use Rattle.wf_meant_laws.specs.Writers.{writes_to};
 
 pub use wf_instance::{
-    a_definition_is_an_instance, depths_are_how_many_are_before, standings_are_the_actions,
+    Checked, a_definition_is_an_instance, a_record_is_of_the_table, depths_are_how_many_are_before,
+    entries_stay_in_their_graph, names_are_those_named, numbers_are_below, numbers_are_had,
+    numbers_stand_once, read_actions_have_their_numbers, standings_are_the_actions,
+    the_first_broken_rule, variables_are_in_one_order, what_a_container_decides_is_local,
+    what_an_action_does_is_local,
 };
 
 /// The rows that an accepted definition means stand at instances, each in iterations of which the rows of the loops round it tell.
@@ -43,8 +47,8 @@ pub fn meant_rows_are_whole()
     ensures { (d : DefTree) → IsRead d → broken_of d ≡ None → (e : Environment) → AreWhole d (table_of d e (depth_of d)) }
 {
     wf_instance::a_definition_is_an_instance();
-    wf_known_laws::numbers_stand_once();
-    wf_known_laws::numbers_are_had();
+    wf_instance::numbers_stand_once();
+    wf_instance::numbers_are_had();
 }
 
 /// Writers of a variable are in one order with each other, and each is in what reads or writes the variable, in one order with it, or
@@ -56,8 +60,8 @@ pub fn writers_are_in_one_order()
         → AccessesHaveOrder d m rows }
 {
     wf_instance::variables_are_in_one_order();
-    wf_known_laws::numbers_stand_once();
-    wf_uses::names_are_those_named();
+    wf_instance::numbers_stand_once();
+    wf_instance::names_are_those_named();
 }
 
 /// The value of a variable at a point is what the last writer that the point sees gave it, or none where it sees no writer.
@@ -70,15 +74,15 @@ pub fn the_last_writer_is_read()
     wf_seen_laws::what_is_seen_is_earlier();
     wf_seen_laws::loops_round_what_is_seen_are_seen();
     wf_seen_laws::nobody_sees_who_sees_him();
-    wf_loops::what_is_earlier_is_seen();
+    wf_seen_laws::what_is_earlier_is_seen();
     wf_instance::depths_are_how_many_are_before();
-    wf_order::order_is_exact();
-    wf_order::before_is_an_order();
-    wf_order::what_stands_inside_goes_along();
-    wf_known_laws::numbers_stand_once();
-    wf_known_laws::numbers_are_below();
-    wf_known_laws::entries_stay_in_their_graph();
-    wf_refs::read_actions_have_their_numbers();
+    wf_seen_laws::order_is_exact();
+    wf_seen_laws::before_is_an_order();
+    wf_seen_laws::what_stands_inside_goes_along();
+    wf_instance::numbers_stand_once();
+    wf_instance::numbers_are_below();
+    wf_instance::entries_stay_in_their_graph();
+    wf_instance::read_actions_have_their_numbers();
 }
 
 /// A record's rows are those of the table that it is read from, each once: in the order of the actions' numbers, and of one action in that
@@ -86,7 +90,7 @@ pub fn the_last_writer_is_read()
 pub fn listed_rows_stand_for_the_table()
     ensures { (d : DefTree) → IsRead d → (rows : Table Row) → AreWhole d rows → StandFor d rows }
 {
-    wf_known_laws::numbers_are_below();
+    wf_instance::numbers_are_below();
 }
 
 /// So a store that each writer which ends overwrites with its own address tells the variable, whatever events came: as an action is decided
@@ -105,7 +109,7 @@ pub fn new_rows_give_what_they_write()
     ensures { (d : DefTree) → IsRead d → (e : Environment) (m : RowSource) → AnswersAs d e m → (redo again : ℕ → Bool)
         → IsKept (graph_of d) m redo again → (rows : Table Row) → Obeys m (graph_of d) rows → NewGiveWhatTheyWrite d redo again rows }
 {
-    wf_known_laws::numbers_stand_once();
-    wf_variables::what_is_initialized_is_given();
-    wf_variables::what_is_given_is_found();
+    wf_instance::numbers_stand_once();
+    wf_instance::what_is_initialized_is_given();
+    wf_instance::what_is_given_is_found();
 }

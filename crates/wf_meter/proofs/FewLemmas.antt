@@ -13,10 +13,10 @@ use Rattle.wf_kept.specs.Reached.{IsReached}
 use Rattle.wf_kept.specs.Taken.{HasTaken}
 use Rattle.wf_kept.proofs.Informed.{kinds_are_known, open_stands, reached_facts}
 use Rattle.wf_kept.proofs.Taken.{taken_are_few}
-use Rattle.wf_asks.specs.Instances.{address_of, instance_cmp}
-use Rattle.wf_asks.specs.Known.{open_tree}
-use Rattle.wf_asks.specs.declared.known.OpenAt.{OpenAt}
-use Rattle.wf_asks.specs.declared.known.RowAt.{RowAt}
+use Rattle.wf_tables.specs.Instances.{address_of, instance_cmp}
+use Rattle.wf_tables.specs.Known.{open_tree}
+use Rattle.wf_tables.specs.OpenAt.{OpenAt}
+use Rattle.wf_tables.specs.RowAt.{RowAt}
 use Rattle.wf_tables.specs.Tables.{leaf_tree, state_of}
 use Rattle.wf_tables.specs.declared.entries.LeafAt.{LeafAt}
 use Rattle.wf_meter.specs.Cost.{iterations, leaf_cost, open_cost, opens_cost, rows_cost, running_cost}

@@ -1,3 +1,4 @@
+pub use Rattle.wf_tables.proofs.TableLemmas
 pub mod SumLemmas
 pub mod TouchLemmas
 pub mod MoveLemmas

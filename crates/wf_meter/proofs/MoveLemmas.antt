@@ -7,13 +7,13 @@ use Rattle.wf_layers.specs.Listed.{sum_of}
 use Rattle.wf_layers.specs.Machine.{Event, Opening, Running, State, Step, place_of}
 use Rattle.wf_layers.specs.Source.{Source}
 use Rattle.wf_kept.specs.Reached.{IsReached}
-use Rattle.wf_asks.specs.Instances.{address_of, instance_cmp, rows_in}
-use Rattle.wf_asks.specs.Known.{open_tree, opens_in}
-use Rattle.wf_asks.specs.declared.known.OpenAt.{OpenAt}
-use Rattle.wf_asks.specs.declared.known.RowAt.{RowAt}
-use Rattle.wf_plan.specs.Once.{AreDistinct}
-use Rattle.wf_plan.specs.Plan.{PlanTree}
-use Rattle.wf_plan.specs.PlanOf.{IsPlanOf}
+use Rattle.wf_tables.specs.Instances.{address_of, instance_cmp, rows_in}
+use Rattle.wf_tables.specs.Known.{open_tree, opens_in}
+use Rattle.wf_tables.specs.OpenAt.{OpenAt}
+use Rattle.wf_tables.specs.RowAt.{RowAt}
+use Rattle.wf_tables.specs.Once.{AreDistinct}
+use Rattle.wf_tables.specs.Plan.{PlanTree}
+use Rattle.wf_tables.specs.PlanOf.{IsPlanOf}
 use Rattle.wf_tables.specs.Tables.{leaf_tree, running_in, state_of}
 use Rattle.wf_tables.specs.declared.entries.LeafAt.{LeafAt}
 use Rattle.wf_meter.specs.Parts.{block_of, block_or_none, block_worth, worth}

@@ -13,13 +13,13 @@ use Rattle.wf_layers.specs.Machine.{Opening, State}
 use Rattle.wf_layers.specs.Source.{Source}
 use Rattle.wf_kept.specs.Reached.{IsReached}
 use Rattle.wf_kept.proofs.Informed.{kinds_are_known, open_stands}
-use Rattle.wf_asks.specs.Instances.{address_of, instance_cmp, instance_of, instance_total, table_of}
-use Rattle.wf_asks.specs.Known.{open_tree}
-use Rattle.wf_asks.specs.declared.instance.Instance.{Instance}
-use Rattle.wf_asks.specs.declared.known.OpenAt.{OpenAt}
-use Rattle.wf_asks.specs.declared.known.RowAt.{RowAt}
-use Rattle.wf_plan.specs.Plan.{PlanTree, shape_of}
-use Rattle.wf_plan.specs.PlanOf.{IsPlanOf}
+use Rattle.wf_tables.specs.Instances.{address_of, instance_cmp, instance_of, instance_total, table_of}
+use Rattle.wf_tables.specs.Known.{open_tree}
+use Rattle.wf_tables.specs.Instance.{Instance}
+use Rattle.wf_tables.specs.OpenAt.{OpenAt}
+use Rattle.wf_tables.specs.RowAt.{RowAt}
+use Rattle.wf_tables.specs.Plan.{PlanTree, shape_of}
+use Rattle.wf_tables.specs.PlanOf.{IsPlanOf}
 use Rattle.wf_tables.specs.Tables.{state_of}
 use Rattle.wf_tables.specs.declared.entries.LeafAt.{LeafAt}
 use Rattle.wf_tables.proofs.OpenLemmas.{found_at}

@@ -8,10 +8,10 @@ use Rattle.wf_layers.specs.Address.{Address, Table, address, is_own, same_at}
 use Rattle.wf_layers.specs.Listed.{sum_of}
 use Rattle.wf_layers.specs.Machine.{without}
 use Rattle.wf_layers.proofs.Basics.{two, when, unless}
-use Rattle.wf_asks.specs.Instances.{address_of, instance_cmp, instance_total, table_of}
-use Rattle.wf_asks.specs.Known.{is_among}
-use Rattle.wf_asks.specs.declared.instance.Instance.{Instance}
-use Rattle.wf_plan.specs.Once.{AreDistinct}
+use Rattle.wf_tables.specs.Instances.{address_of, instance_cmp, instance_total, table_of}
+use Rattle.wf_tables.specs.Known.{is_among}
+use Rattle.wf_tables.specs.Instance.{Instance}
+use Rattle.wf_tables.specs.Once.{AreDistinct}
 use Rattle.wf_tables.proofs.OpenLemmas.{found_at}
 use Rattle.wf_tables.proofs.TableLemmas.{table_take}
 use Rattle.wf_meter.specs.Parts.{block_worth, worth}

@@ -3,11 +3,11 @@ use Rattle.std.proofs.Common.{◌≡◌, ℕ, zero, suc, ◌+◌, List, [], ◌�
 use Rattle.std.proofs.lemmas.Option.{none-some}
 use Rattle.wf_val.specs.Cut.{cut_u64}
 use Rattle.wf_layers.specs.Listed.{sum_of}
-use Rattle.wf_asks.specs.Instances.{address_of}
-use Rattle.wf_asks.specs.Known.{open_tree}
-use Rattle.wf_asks.specs.declared.known.OpenAt.{OpenAt}
-use Rattle.wf_asks.specs.declared.known.RowAt.{RowAt}
-use Rattle.wf_plan.specs.Plan.{PlanTree}
+use Rattle.wf_tables.specs.Instances.{address_of}
+use Rattle.wf_tables.specs.Known.{open_tree}
+use Rattle.wf_tables.specs.OpenAt.{OpenAt}
+use Rattle.wf_tables.specs.RowAt.{RowAt}
+use Rattle.wf_tables.specs.Plan.{PlanTree}
 use Rattle.wf_meter.specs.Parts.{decision_part, decisions_sum, row_part, rows_sum, turns_part, turns_sum}
 
 module _ {E : Type 0} (h : E → ℕ) where

@@ -12,9 +12,9 @@ use Rattle.wf_kept.specs.Reached.{IsReached}
 use Rattle.wf_kept.proofs.Informed.{kinds_are_known}
 use Rattle.wf_kept.proofs.Known.{Known, known}
 use Rattle.wf_kept.proofs.Resumed.{inside_is_new}
-use Rattle.wf_asks.specs.Known.{is_among}
-use Rattle.wf_plan.specs.Plan.{PlanTree}
-use Rattle.wf_plan.specs.PlanOf.{IsPlanOf}
+use Rattle.wf_tables.specs.Known.{is_among}
+use Rattle.wf_tables.specs.Plan.{PlanTree}
+use Rattle.wf_tables.specs.PlanOf.{IsPlanOf}
 use Rattle.wf_meter.specs.Parts.{block_of, block_or_none}
 
 pub first_not : (a b c : Bool) → ((a || b) && c) ≡ false → (a && c) ≡ false

@@ -5,10 +5,10 @@ use Rattle.wf_layers.specs.Address.{Address}
 use Rattle.wf_layers.specs.Definition.{Kind, Leaf, Scope, Choice, Foreach, Until, Graph, kind_of}
 use Rattle.wf_layers.specs.Listed.{sum_of}
 use Rattle.wf_layers.specs.Machine.{Opening, Running}
-use Rattle.wf_asks.specs.Instances.{address_of}
-use Rattle.wf_asks.specs.Known.{open_tree}
-use Rattle.wf_asks.specs.declared.known.OpenAt.{OpenAt}
-use Rattle.wf_asks.specs.declared.known.RowAt.{RowAt}
+use Rattle.wf_tables.specs.Instances.{address_of}
+use Rattle.wf_tables.specs.Known.{open_tree}
+use Rattle.wf_tables.specs.OpenAt.{OpenAt}
+use Rattle.wf_tables.specs.RowAt.{RowAt}
 use Rattle.wf_tables.specs.Tables.{leaf_tree}
 use Rattle.wf_tables.specs.declared.entries.LeafAt.{LeafAt}
 

@@ -1,2 +1,10 @@
+pub use Rattle.wf_tables.specs.declared.entries.CountAt
+pub use Rattle.wf_tables.specs.declared.entries.EventAt
+pub use Rattle.wf_tables.specs.declared.entries.EventKind
+pub use Rattle.wf_tables.specs.declared.entries.LeafAt
+pub use Rattle.wf_tables.specs.Plan
+pub use Rattle.wf_tables.specs.PlanOf
+pub use Rattle.wf_tables.specs.PlanSeen
+pub use Rattle.wf_tables.specs.Tables
 pub mod Cost
 pub mod Parts

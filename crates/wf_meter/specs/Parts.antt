@@ -4,12 +4,12 @@ use Rattle.wf_val.specs.Cut.{cut_u64}
 use Rattle.wf_layers.specs.Address.{Address, Table, address}
 use Rattle.wf_layers.specs.Listed.{sum_of}
 use Rattle.wf_layers.specs.Machine.{Opening, Running, Event, Start, Try, End, Skip, Open, Begin, Test, Close}
-use Rattle.wf_asks.specs.Instances.{address_of}
-use Rattle.wf_asks.specs.Known.{open_tree}
-use Rattle.wf_asks.specs.declared.known.OpenAt.{OpenAt}
-use Rattle.wf_asks.specs.declared.known.RowAt.{RowAt}
-use Rattle.wf_plan.specs.Plan.{EntryTree, PlanTree, ShapeTree, leaf, scope, choice, foreach, until}
-use Rattle.wf_plan.specs.PlanSeen.{at_place}
+use Rattle.wf_tables.specs.Instances.{address_of}
+use Rattle.wf_tables.specs.Known.{open_tree}
+use Rattle.wf_tables.specs.OpenAt.{OpenAt}
+use Rattle.wf_tables.specs.RowAt.{RowAt}
+use Rattle.wf_tables.specs.Plan.{EntryTree, PlanTree, ShapeTree, leaf, scope, choice, foreach, until}
+use Rattle.wf_tables.specs.PlanSeen.{at_place}
 use Rattle.wf_tables.specs.Tables.{leaf_tree}
 use Rattle.wf_tables.specs.declared.entries.LeafAt.{LeafAt}
 use Rattle.wf_meter.specs.Cost.{leaf_cost}

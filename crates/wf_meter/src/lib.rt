@@ -26,12 +26,12 @@ ghost use Rattle.wf_layers.specs.Meaning.{meaning};
 ghost use Rattle.wf_layers.specs.Source.{Source};
 ghost use Rattle.wf_kept.specs.Reached.{IsReached};
 ghost use Rattle.wf_kept.specs.Taken.{HasTaken};
-ghost use Rattle.wf_asks.specs.Instances.{address_of, instance_cmp, rows_in};
-ghost use Rattle.wf_asks.specs.Known.{open_tree, opens_in};
-ghost use Rattle.wf_asks.specs.declared.known.OpenAt.{OpenAt};
-ghost use Rattle.wf_asks.specs.declared.known.RowAt.{RowAt};
-ghost use Rattle.wf_plan.specs.Plan.{PlanTree};
-ghost use Rattle.wf_plan.specs.PlanOf.{IsPlanOf};
+ghost use Rattle.wf_tables.specs.Instances.{address_of, instance_cmp, rows_in};
+ghost use Rattle.wf_tables.specs.Known.{open_tree, opens_in};
+ghost use Rattle.wf_tables.specs.OpenAt.{OpenAt};
+ghost use Rattle.wf_tables.specs.RowAt.{RowAt};
+ghost use Rattle.wf_tables.specs.Plan.{PlanTree};
+ghost use Rattle.wf_tables.specs.PlanOf.{IsPlanOf};
 ghost use Rattle.wf_tables.specs.Tables.{leaf_tree, running_in, state_of};
 ghost use Rattle.wf_tables.specs.declared.entries.LeafAt.{LeafAt};
 ghost use Rattle.wf_meter.specs.Cost.{opens_cost, rows_cost, running_cost};
@@ -39,6 +39,7 @@ ghost use Rattle.wf_meter.specs.Parts.{block_of, block_worth, decides, turns_cos
 
 pub use parts::{block, block_part, decides, decision_part, leaf_part, total, turns_part};
 pub use totals::{decisions_total, rows_total, turns_total};
+pub use wf_tables::{EventAt, LeafAt, Plan};
 
 /// As an event is taken, the sum over the rows of a state moves by what its own action, and those inside it that stand in no loop there,
 /// had before and have now, whatever a row is worth.

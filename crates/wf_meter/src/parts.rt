@@ -2,17 +2,15 @@
 ghost use Rattle.std.specs.Prelude.{◌≡◌, ◌<◌, ◌≤◌, ◌+◌, ◌-◌, ◌*◌, ◌^◌, ℕ, List, length};
 ghost use Rattle.wf_val.specs.Cut.{cut_u64};
 ghost use Rattle.wf_layers.specs.Address.{address};
-ghost use Rattle.wf_asks.specs.Instances.{address_of, rows_in};
-ghost use Rattle.wf_asks.specs.Known.{open_tree, opens_in};
-ghost use Rattle.wf_plan.specs.PlanSeen.{at_place, plan_tree, shape_tree};
+ghost use Rattle.wf_tables.specs.Instances.{address_of, rows_in};
+ghost use Rattle.wf_tables.specs.Known.{open_tree, opens_in};
+ghost use Rattle.wf_tables.specs.PlanSeen.{at_place, plan_tree, shape_tree};
 ghost use Rattle.wf_tables.specs.Tables.{event_at, running_in};
 ghost use Rattle.wf_meter.specs.Parts.{block_of, block_worth, decides, decision_part, iterations_by, leaf_part, row_part};
 ghost use Rattle.wf_meter.specs.Parts.{shape_iterations, turns_part, worth};
 
-use wf_asks::{Acts, Instance, OpenAt, Opens, Rows};
-use wf_plan::{Plan, Shape};
 use wf_room::Roomy;
-use wf_tables::{EventKind, LeafAt};
+use wf_tables::{Acts, EventKind, Instance, LeafAt, OpenAt, Opens, Plan, Rows, Shape};
 
 // A part is at most the greatest u64, so a sum of as many as a list may have fits.
 fn cut(cost: u128) -> u128

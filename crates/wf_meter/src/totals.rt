@@ -1,11 +1,10 @@
 //! What all entries of a list come to, where sums begin at lists that are there already.
 ghost use Rattle.std.specs.Prelude.{◌≡◌};
-ghost use Rattle.wf_plan.specs.PlanSeen.{plan_tree};
+ghost use Rattle.wf_tables.specs.PlanSeen.{plan_tree};
 ghost use Rattle.wf_meter.specs.Parts.{decisions_sum, rows_sum, turns_sum};
 
 use crate::parts::turns_of;
-use wf_asks::{Acts, Opens, Rows};
-use wf_plan::Plan;
+use wf_tables::{Acts, Opens, Plan, Rows};
 
 /// The rows.
 pub fn rows_total<A: Acts>(acts: &A, rows: &Rows<A::Row>) -> u128

@@ -1,2 +1,3 @@
+pub use Rattle.wf_meter.proofs.FewLemmas
 pub mod MeteredLemmas
 pub mod RestLemmas

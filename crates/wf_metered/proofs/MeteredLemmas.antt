@@ -12,13 +12,13 @@ use Rattle.wf_asks.specs.Instances.{address_of, instance_cmp}
 use Rattle.wf_asks.specs.Known.{open_tree, opens_in}
 use Rattle.wf_asks.specs.declared.known.OpenAt.{OpenAt}
 use Rattle.wf_asks.specs.declared.known.RowAt.{RowAt}
-use Rattle.wf_plan.specs.Plan.{PlanTree}
-use Rattle.wf_plan.specs.PlanOf.{IsPlanOf}
-use Rattle.wf_tables.specs.Tables.{event_at, event_tree, leaf_tree, state_of}
-use Rattle.wf_tables.specs.declared.entries.EventAt.{EventAt}
-use Rattle.wf_tables.specs.declared.entries.EventKind.{EventKind}
-use Rattle.wf_tables.specs.declared.entries.EventKind.TheVariants.{Start, Try, End, Skip, Open, Begin, Test, Close}
-use Rattle.wf_tables.specs.declared.entries.LeafAt.{LeafAt}
+use Rattle.wf_meter.specs.Plan.{PlanTree}
+use Rattle.wf_meter.specs.PlanOf.{IsPlanOf}
+use Rattle.wf_meter.specs.Tables.{event_at, event_tree, leaf_tree, state_of}
+use Rattle.wf_meter.specs.EventAt.{EventAt}
+use Rattle.wf_meter.specs.EventKind.{EventKind}
+use Rattle.wf_meter.specs.EventKind.TheVariants.{Start, Try, End, Skip, Open, Begin, Test, Close}
+use Rattle.wf_meter.specs.LeafAt.{LeafAt}
 use Rattle.wf_meter.specs.Cost.{leaf_cost, opens_cost, rows_cost, running_cost}
 use Rattle.wf_meter.specs.Parts.{decides, decision_part, leaf_part, row_part, turns_cost, turns_part, worth, decisions_sum, leaves_sum, rows_sum, turns_sum}
 use Rattle.wf_meter.proofs.CutLemmas.{cut_bound, cut_whole}

@@ -10,10 +10,10 @@ use Rattle.wf_asks.specs.Instances.{address_of, instance_cmp}
 use Rattle.wf_asks.specs.Known.{open_tree}
 use Rattle.wf_asks.specs.declared.known.OpenAt.{OpenAt}
 use Rattle.wf_asks.specs.declared.known.RowAt.{RowAt}
-use Rattle.wf_plan.specs.Plan.{PlanTree}
-use Rattle.wf_plan.specs.PlanOf.{IsPlanOf}
-use Rattle.wf_tables.specs.Tables.{state_of}
-use Rattle.wf_tables.specs.declared.entries.LeafAt.{LeafAt}
+use Rattle.wf_meter.specs.Plan.{PlanTree}
+use Rattle.wf_meter.specs.PlanOf.{IsPlanOf}
+use Rattle.wf_meter.specs.Tables.{state_of}
+use Rattle.wf_meter.specs.LeafAt.{LeafAt}
 use Rattle.wf_meter.specs.Parts.{turns_part}
 use Rattle.wf_meter.proofs.PriceLemmas.{found_own, priced}
 use Rattle.wf_metered.specs.Sums.{AreSums, AreSumsOf}

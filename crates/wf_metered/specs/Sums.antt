@@ -6,10 +6,10 @@ use Rattle.wf_asks.specs.Instances.{rows_in}
 use Rattle.wf_asks.specs.Known.{opens_in}
 use Rattle.wf_asks.specs.declared.known.OpenAt.{OpenAt}
 use Rattle.wf_asks.specs.declared.known.RowAt.{RowAt}
-use Rattle.wf_plan.specs.Plan.{PlanTree}
-use Rattle.wf_plan.specs.PlanOf.{IsPlanOf}
-use Rattle.wf_tables.specs.Tables.{running_in}
-use Rattle.wf_tables.specs.declared.entries.LeafAt.{LeafAt}
+use Rattle.wf_meter.specs.Plan.{PlanTree}
+use Rattle.wf_meter.specs.PlanOf.{IsPlanOf}
+use Rattle.wf_meter.specs.Tables.{running_in}
+use Rattle.wf_meter.specs.LeafAt.{LeafAt}
 use Rattle.wf_meter.specs.Parts.{block_of, block_worth, decision_part, leaf_part, row_part, turns_part, worth, decisions_sum, leaves_sum, rows_sum, turns_sum}
 use Rattle.wf_metered.specs.declared.sums.Sums.{Sums}
 

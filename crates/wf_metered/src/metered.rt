@@ -7,8 +7,8 @@ ghost use Rattle.wf_layers.specs.Variables.{IsLastWritten};
 ghost use Rattle.wf_kept.specs.Reached.{IsResumption};
 ghost use Rattle.wf_asks.specs.Instances.{rows_in};
 ghost use Rattle.wf_asks.specs.Known.{store_in, writer};
-ghost use Rattle.wf_plan.specs.PlanSeen.{plan_tree};
-ghost use Rattle.wf_tables.specs.Tables.{event_tree};
+ghost use Rattle.wf_meter.specs.PlanSeen.{plan_tree};
+ghost use Rattle.wf_meter.specs.Tables.{event_tree};
 ghost use Rattle.wf_meter.specs.Cost.{opens_cost, rows_cost, running_cost};
 ghost use Rattle.wf_steps.specs.Kept.{Goes, IsEnabled, IsPlanned};
 ghost use Rattle.wf_steps.specs.Shown.{shown};
@@ -17,10 +17,8 @@ use crate::sums::{Sums, moved, parts_at};
 use std::alloc::{AllocError, Global};
 use std::marker::Model;
 use wf_asks::{Acts, Opens, Rows, Store};
-use wf_meter::{decides, decisions_total, rows_total, total, turns_total};
-use wf_plan::Plan;
+use wf_meter::{EventAt, Plan, decides, decisions_total, rows_total, total, turns_total};
 use wf_steps::State;
-use wf_tables::EventAt;
 
 /// A state, and what it costs.
 #[derive(Drop)]
@@ -32,11 +30,11 @@ pub struct Metered<'a, A: Acts> {
 
 impl<'a, A: Acts> Model for Metered<'a, A> {
     ghost use Rattle.std.specs.Prelude.{List};
-    ghost use Rattle.wf_plan.specs.PlanSeen.{plan_tree};
+    ghost use Rattle.wf_meter.specs.PlanSeen.{plan_tree};
     ghost use Rattle.wf_asks.specs.declared.known.OpenAt.{OpenAt};
     ghost use Rattle.wf_asks.specs.declared.known.RowAt.{RowAt};
     ghost use Rattle.wf_asks.specs.declared.known.WriterAt.{WriterAt};
-    ghost use Rattle.wf_tables.specs.declared.entries.LeafAt.{LeafAt};
+    ghost use Rattle.wf_meter.specs.LeafAt.{LeafAt};
     ghost use Rattle.wf_steps.specs.Kept.{IsPlanned};
     ghost use Rattle.wf_metered.specs.Sums.{AreSums};
 

@@ -1,6 +1,6 @@
 //! A state with its cost that is put aside, without the actions and the plan that it borrows.
 ghost use Rattle.std.specs.Prelude.{◌≡◌};
-ghost use Rattle.wf_plan.specs.PlanSeen.{plan_tree};
+ghost use Rattle.wf_meter.specs.PlanSeen.{plan_tree};
 ghost use Rattle.wf_steps.specs.Kept.{IsPlanned};
 ghost use Rattle.wf_steps.specs.Rest.{IsRest};
 ghost use Rattle.wf_metered.specs.Sums.{AreSumsOf};
@@ -9,7 +9,7 @@ use crate::metered::Metered;
 use crate::sums::Sums;
 use std::marker::Model;
 use wf_asks::Acts;
-use wf_plan::Plan;
+use wf_meter::Plan;
 use wf_steps::{Rest, State};
 
 /// What a state with its cost has of its own: what the state has, and its sums. It goes on with actions that price as the old ones did.
@@ -24,9 +24,9 @@ impl<R, B, D, V> Model for MeteredRest<R, B, D, V> {
     ghost use Rattle.wf_asks.specs.declared.known.OpenAt.{OpenAt};
     ghost use Rattle.wf_asks.specs.declared.known.RowAt.{RowAt};
     ghost use Rattle.wf_asks.specs.declared.known.WriterAt.{WriterAt};
-    ghost use Rattle.wf_tables.specs.declared.entries.CountAt.{CountAt};
-    ghost use Rattle.wf_tables.specs.declared.entries.EventAt.{EventAt};
-    ghost use Rattle.wf_tables.specs.declared.entries.LeafAt.{LeafAt};
+    ghost use Rattle.wf_meter.specs.CountAt.{CountAt};
+    ghost use Rattle.wf_meter.specs.EventAt.{EventAt};
+    ghost use Rattle.wf_meter.specs.LeafAt.{LeafAt};
     ghost use Rattle.wf_metered.specs.declared.sums.Sums.{Sums};
 
     ghost Value = { ((List (RowAt R) × (List (LeafAt B) × (List (OpenAt D V) × List WriterAt)))

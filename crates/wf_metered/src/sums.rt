@@ -2,14 +2,13 @@
 ghost use Rattle.std.specs.Prelude.{◌≡◌, ◌<◌, ◌≤◌, ◌+◌, ◌-◌, ◌^◌, List, cond};
 ghost use Rattle.wf_asks.specs.Instances.{address_of, rows_in};
 ghost use Rattle.wf_asks.specs.Known.{opens_in};
-ghost use Rattle.wf_plan.specs.PlanSeen.{plan_tree};
-ghost use Rattle.wf_tables.specs.Tables.{running_in};
+ghost use Rattle.wf_meter.specs.PlanSeen.{plan_tree};
+ghost use Rattle.wf_meter.specs.Tables.{running_in};
 ghost use Rattle.wf_meter.specs.Parts.{block_of, block_worth, decision_part, leaf_part, row_part, turns_part, worth};
 ghost use Rattle.wf_metered.specs.Sums.{MayMove, moved};
 
 use wf_asks::{Acts, Instance, Opens};
-use wf_meter::{block, block_part, decision_part, leaf_part, turns_part};
-use wf_plan::Plan;
+use wf_meter::{Plan, block, block_part, decision_part, leaf_part, turns_part};
 use wf_steps::State;
 
 /// What rows, running leaves and open containers cost; these for themselves and their iterations, and apart from that by what they keep of

@@ -10,16 +10,16 @@ use Rattle.wf_one_quiet.proofs.One.{one_quiet_state, to_the_quiet_state}
 use Rattle.wf_priced.specs.Priced.{PaysItsParts, TellsRows}
 use Rattle.wf_dearer.specs.StateCosts.{StateCosts}
 use Rattle.wf_dearer.proofs.CostLemmas.{under_its_meaning, under_what_follows}
-use Rattle.wf_answered.specs.Answered.{answered}
+use Rattle.wf_stands.specs.Answered.{answered}
 use Rattle.wf_answers.specs.AnswerTree.{Key}
 use Rattle.wf_answers.specs.Inputs.{InputsTree}
 use Rattle.wf_def.specs.DefTree.{DefTree}
-use Rattle.wf_doing.specs.Weights.{begun_weight, decision_weight}
+use Rattle.wf_paying.specs.Weights.{begun_weight, decision_weight}
 use Rattle.wf_environment.specs.Environment as environment
-use Rattle.wf_meant.specs.Points.{graph_of}
-use Rattle.wf_meant.specs.Record.{depth_of}
-use Rattle.wf_meant.specs.Source.{table_of}
-use Rattle.wf_meant_laws.specs.Listed.{Entry}
+use Rattle.wf_paying.specs.Points.{graph_of}
+use Rattle.wf_paying.specs.Record.{depth_of}
+use Rattle.wf_paying.specs.Source.{table_of}
+use Rattle.wf_paying.specs.Listed.{Entry}
 use Rattle.wf_opening.specs.Decisions.{items_of}
 use Rattle.wf_paying.specs.Paying.{cost_of_row, first_cost}
 use Rattle.wf_record.specs.Cost as record_cost

@@ -12,7 +12,7 @@ ghost use Rattle.std.specs.Prelude.{◌≡◌, None};
 ghost use Rattle.wf_answers.specs.Inputs.{InputsTree};
 ghost use Rattle.wf_def.specs.DefTree.{DefTree};
 ghost use Rattle.wf_reading.specs.Read.{IsRead};
-ghost use Rattle.wf_rules.specs.Broken.{broken_of};
+ghost use Rattle.wf_stands.specs.Broken.{broken_of};
 ghost use Rattle.wf_stands.specs.Stands.{Stands};
 ghost use Rattle.wf_talk.specs.Standing.{Standing};
 ghost use Rattle.wf_trigger.specs.Starts.{StartTree};
@@ -23,8 +23,8 @@ pub fn where_a_run_stands_is_one()
     ensures { (d : DefTree) → IsRead d → broken_of d ≡ None → (start : StartTree) (inputs : InputsTree) (one other : Standing)
         → Stands d start inputs one → Stands d start inputs other → one ≡ other }
 {
-    wf_instance::a_definition_is_an_instance();
-    wf_meant_laws::meant_rows_are_whole();
+    wf_paying::a_definition_is_an_instance();
+    wf_paying::meant_rows_are_whole();
     wf_paying::rows_pay_their_parts();
     wf_paying::the_record_tells_what_rows_cost();
     wf_paying::a_meaning_costs_its_rows();

@@ -11,8 +11,8 @@ use Rattle.wf_template.specs.TemplateTree.{part, plain, whole, parts}
 use Rattle.wf_template.specs.DataTree as inputs
 use Rattle.wf_template.specs.CondTree.{CondTree, holds, all_of, not_of, compare_by, cond_trees}
 use Rattle.wf_def.specs.ActionTree.{branch, switch, switch_else, foreach, scope, until, compose, no_actions, case_trees, CaseTree}
-use Rattle.wf_look.proofs.WorkedLook.{nowhere, somewhere}
-use Rattle.wf_eval_expr.proofs.WorkedExpressions.{int, word, truth, untruth, nothing, by_zero, rest_by_zero, of}
+use Rattle.wf_eval.proofs.WorkedLook.{nowhere, somewhere}
+use Rattle.wf_eval.proofs.WorkedExpressions.{int, word, truth, untruth, nothing, by_zero, rest_by_zero, of}
 use Rattle.wf_opening.specs.Decisions as decision
 use Rattle.wf_opening.specs.Decisions.{DecisionTree, decided, held, chosen, each, each_as, held_as, too_many, faulty, items_of, taken}
 

@@ -7,7 +7,7 @@ use Rattle.wf_val.specs.ValueTree.{Fits}
 use Rattle.wf_template.specs.DataTree.{DataTree}
 use Rattle.wf_template.specs.TemplateTree.{TemplateTree}
 use Rattle.wf_def.specs.ActionTree.{KindTree, CaseTrees, branch, switch, switch_else, foreach}
-use Rattle.wf_look.specs.Told.{Told}
+use Rattle.wf_eval.specs.Told.{Told}
 use Rattle.wf_eval.specs.TemplateValue.{template_value}
 use Rattle.wf_eval.specs.TreeValue.{tree_value}
 use Rattle.wf_eval.specs.Truth.{truth_of}

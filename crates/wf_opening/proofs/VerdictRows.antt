@@ -8,8 +8,8 @@ use Rattle.wf_template.specs.ExprTree.{ExprTree}
 use Rattle.wf_template.specs.TemplateTree.{plain, whole}
 use Rattle.wf_template.specs.DataTree as inputs
 use Rattle.wf_template.specs.CondTree.{CondTree, holds, compare_by}
-use Rattle.wf_look.proofs.WorkedLook.{nowhere, somewhere}
-use Rattle.wf_eval_expr.proofs.WorkedExpressions.{word, truth, untruth, nothing, by_zero, of}
+use Rattle.wf_eval.proofs.WorkedLook.{nowhere, somewhere}
+use Rattle.wf_eval.proofs.WorkedExpressions.{word, truth, untruth, nothing, by_zero, of}
 use Rattle.wf_opening.specs.Verdicts.{VerdictTree, met, astray, met_as, tested_from, ends}
 
 abbrev tested : CondTree → VerdictTree

@@ -7,7 +7,7 @@ use Rattle.wf_val.specs.ValueTree.{ValueTree, boolean, number, text, list, items
 use Rattle.wf_val.specs.declared.fault.EvalFault.{EvalFault}
 use Rattle.wf_val.specs.declared.function.Fun.{Fun}
 use Rattle.wf_def.specs.ActionTree.{KindTree, branch, switch, switch_else, foreach, CaseTrees, no_cases, case_then}
-use Rattle.wf_look.specs.Told.{Told}
+use Rattle.wf_eval.specs.Told.{Told}
 use Rattle.wf_eval.specs.TemplateValue.{template_value}
 use Rattle.wf_eval.specs.TreeValue.{tree_value}
 use Rattle.wf_eval.specs.Truth.{truth_of}

@@ -1,7 +1,7 @@
 -- WHAT A CONTAINER ASKS A LOOK FOR as it opens: what its condition, its expression or its list does.
 use Rattle.std.specs.Prelude.{List, []}
 use Rattle.wf_def.specs.ActionTree.{KindTree, branch, switch, switch_else, foreach}
-use Rattle.wf_eval_expr.specs.Uses.{Use}
+use Rattle.wf_eval.specs.EvalExprUses.{Use}
 use Rattle.wf_eval.specs.Uses.{cond_uses, template_uses, tree_uses}
 
 abbrev pub opening_uses : KindTree → List Use

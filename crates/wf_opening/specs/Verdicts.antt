@@ -5,7 +5,7 @@ use Rattle.wf_val.specs.ValueTree.{boolean}
 use Rattle.wf_val.specs.declared.fault.EvalFault.{EvalFault}
 use Rattle.wf_val.specs.declared.function.Fun.{Fun}
 use Rattle.wf_template.specs.CondTree.{CondTree}
-use Rattle.wf_look.specs.Told.{Told}
+use Rattle.wf_eval.specs.Told.{Told}
 use Rattle.wf_eval.specs.Truth.{truth_of}
 
 -- whether the expression holds, or why it has no Boolean value

@@ -14,8 +14,7 @@ ghost use Rattle.wf_opening.specs.Decisions.{branch_from, chosen_as, decided_fro
 
 use std::alloc::{AllocError, Global};
 use wf_def::{Cases, Kind};
-use wf_eval::{eval, eval_cond, eval_tree};
-use wf_look::Look;
+use wf_eval::{Look, eval, eval_cond, eval_tree};
 use wf_template::{Cond, Template, Tree};
 use wf_val::{EvalFault, Fun, Val, Vals, wrong_type};
 

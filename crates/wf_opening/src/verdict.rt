@@ -5,8 +5,7 @@ ghost use Rattle.wf_opening.specs.DecisionSeen.{verdict_tree};
 ghost use Rattle.wf_opening.specs.Verdicts.{ends, tested_from};
 
 use std::alloc::{AllocError, Global};
-use wf_eval::eval_cond;
-use wf_look::Look;
+use wf_eval::{Look, eval_cond};
 use wf_template::Cond;
 use wf_val::EvalFault;
 

@@ -2,12 +2,12 @@
 use Rattle.std.proofs.Common.{◌≡◌, ℕ, suc, Bool, true, false, ◌&&◌, ◌||◌, cond, List, [], ◌∷◌, ◌++◌, length, Some, ◌⊎◌, inl, inr, refl, sym}
 use Rattle.std.proofs.Common.{ap, subst, ◌∙◌, arith, nat_eq}
 use Rattle.std.proofs.lemmas.Bool.{eq-eqb, eqb-true}
-use Rattle.wf_layers.specs.Definition.{Need, Kind, Leaf, Scope, Choice, Foreach, Until, Branches, no_branch, branch, Graph, done, add}
-use Rattle.wf_layers.specs.Definition.{holds, has, Closed, kind_of}
-use Rattle.wf_layers.specs.Address.{Address, address, starts, is_in, is_within, SeenIn}
-use Rattle.wf_layers.specs.Seen.{Once, OnceIn, OnceAny}
-use Rattle.wf_layers.specs.Variables.{HasOrder, IsOrdered, exclusive}
-use Rattle.wf_layers.proofs.Basics.{and_in, and_of}
+use Rattle.wf_def.specs.Definition.{Need, Kind, Leaf, Scope, Choice, Foreach, Until, Branches, no_branch, branch, Graph, done, add}
+use Rattle.wf_def.specs.Definition.{holds, has, Closed, kind_of}
+use Rattle.wf_def.specs.Address.{Address, address, starts, is_in, is_within, SeenIn}
+use Rattle.wf_def.specs.Seen.{Once, OnceIn, OnceAny}
+use Rattle.wf_def.specs.Variables.{HasOrder, IsOrdered, exclusive}
+use Rattle.wf_def.proofs.Basics.{and_in, and_of}
 use Rattle.wf_paths.proofs.PathLemmas.{or_left, or_right}
 use Rattle.wf_order.specs.Indexes.{HaveSameIndexes, loops_any, loops_in, loops_round}
 use Rattle.wf_order.specs.Order.{Among, Before, Contains, Exclusive, around, around_any, around_in}

@@ -2,12 +2,12 @@
 use Rattle.std.proofs.Common.{◌≡◌, ◌≢◌, ℕ, suc, Bool, true, false, ◌&&◌, ◌||◌, cond, List, [], ◌∷◌, ◌++◌, length, Option, Some, None, ◌⊎◌}
 use Rattle.std.proofs.Common.{inl, inr, refl, sym, ap, subst, ◌∙◌, arith, nat_eq}
 use Rattle.std.proofs.lemmas.Bool.{eq-eqb, eqb-true}
-use Rattle.wf_layers.specs.Definition.{Need, Kind, Leaf, Scope, Choice, Foreach, Until, Branches, no_branch, branch, Graph, done, add}
-use Rattle.wf_layers.specs.Definition.{holds, has, has_any}
-use Rattle.wf_layers.specs.Address.{Address, starts, is_in, is_within, is_among}
-use Rattle.wf_layers.specs.Seen.{Once, OnceIn, OnceAny}
-use Rattle.wf_layers.specs.Variables.{exclusive, exclusive_any, exclusive_in}
-use Rattle.wf_layers.proofs.Basics.{and_of}
+use Rattle.wf_def.specs.Definition.{Need, Kind, Leaf, Scope, Choice, Foreach, Until, Branches, no_branch, branch, Graph, done, add}
+use Rattle.wf_def.specs.Definition.{holds, has, has_any}
+use Rattle.wf_def.specs.Address.{Address, starts, is_in, is_within, is_among}
+use Rattle.wf_def.specs.Seen.{Once, OnceIn, OnceAny}
+use Rattle.wf_def.specs.Variables.{exclusive, exclusive_any, exclusive_in}
+use Rattle.wf_def.proofs.Basics.{and_of}
 use Rattle.wf_paths.proofs.PathLemmas.{or_left, or_right}
 use Rattle.wf_order.specs.Indexes.{HaveSameIndexes, loops_any, loops_in, loops_round}
 use Rattle.wf_order.specs.Order.{Among, Exclusive, around_any, stand, stand_any, stand_in, up}

@@ -1,10 +1,10 @@
 -- What a container sees is seen by what stands inside it.
 use Rattle.std.proofs.Common.{◌≡◌, ℕ, Bool, true, false, cond, List, [], ◌∷◌, ◌++◌, Option, Some, ◌⊎◌, inl, inr, refl, sym, ap, subst, ◌∙◌, nat_eq}
 use Rattle.std.proofs.lemmas.Bool.{eq-eqb, eqb-true}
-use Rattle.wf_layers.specs.Definition.{Need, Kind, Leaf, Scope, Choice, Foreach, Until, Branches, no_branch, branch, Graph, done, add, holds, has, has_any, IsBefore}
-use Rattle.wf_layers.specs.Address.{Address, starts, is_in, is_within, owner, Lower, earlier_in, earlier_any, together, IsEarlier, SeenIn}
-use Rattle.wf_layers.specs.Seen.{Once, OnceIn, OnceAny}
-use Rattle.wf_layers.proofs.Basics.{and_in, and_of}
+use Rattle.wf_def.specs.Definition.{Need, Kind, Leaf, Scope, Choice, Foreach, Until, Branches, no_branch, branch, Graph, done, add, holds, has, has_any, IsBefore}
+use Rattle.wf_def.specs.Address.{Address, starts, is_in, is_within, owner, Lower, earlier_in, earlier_any, together, IsEarlier, SeenIn}
+use Rattle.wf_def.specs.Seen.{Once, OnceIn, OnceAny}
+use Rattle.wf_def.proofs.Basics.{and_in, and_of}
 use Rattle.wf_paths.proofs.PathLemmas.{or_left, or_right}
 use Rattle.wf_order.specs.Order.{Among, Contains, around, around_any, around_in}
 use Rattle.wf_order.proofs.OrderLaws.{around-branch, around-branches, around-head, around-inner, around-rest, at_first, behind_first, branch_passed, clash, first_passed, in_first, kind_passed, moved, stands, two}

@@ -1,8 +1,8 @@
 -- Where no loop is round an action, none is round it and another, and those round it go as they should.
 use Rattle.std.proofs.Common.{◌≡◌, ℕ, Bool, true, false, ◌&&◌, cond, refl}
-use Rattle.wf_layers.specs.Definition.{Pace, InTurn, Kind, Leaf, Scope, Choice, Foreach, Until, Branches, no_branch, branch, Graph, done}
-use Rattle.wf_layers.specs.Definition.{add}
-use Rattle.wf_layers.specs.Definition.{holds, has}
+use Rattle.wf_def.specs.Definition.{Pace, InTurn, Kind, Leaf, Scope, Choice, Foreach, Until, Branches, no_branch, branch, Graph, done}
+use Rattle.wf_def.specs.Definition.{add}
+use Rattle.wf_def.specs.Definition.{holds, has}
 use Rattle.wf_order.specs.Indexes.{loops_any, loops_in, loops_round}
 use Rattle.wf_order.specs.Turns.{EachLoop, EachLoopAny, EachLoopIn, IsInNoLoop, Never}
 

@@ -1,8 +1,8 @@
 -- Before, inside and exclusive among one another, where names stand once.
 use Rattle.std.proofs.Common.{◌≡◌, ℕ, ◌<◌, Bool, true, false, ◌||◌, cond, List, [], ◌∷◌, ◌++◌, ◌⊎◌, inl, inr, refl, sym, ap, subst, ◌∙◌, arith, nat_eq, true≢false}
 use Rattle.std.proofs.lemmas.Bool.{eq-eqb, eqb-true}
-use Rattle.wf_layers.specs.Definition.{Need, Names, Kind, Leaf, Scope, Choice, Foreach, Until, Branches, no_branch, branch, Graph, done, add, holds, has, has_any, has_own, needs_in, needs_any, needs_of, IsBefore, next, more, IsDepth, Closed, ClosedIn, ClosedAny}
-use Rattle.wf_layers.specs.Seen.{Once, OnceIn, OnceAny}
+use Rattle.wf_def.specs.Definition.{Need, Names, Kind, Leaf, Scope, Choice, Foreach, Until, Branches, no_branch, branch, Graph, done, add, holds, has, has_any, has_own, needs_in, needs_any, needs_of, IsBefore, next, more, IsDepth, Closed, ClosedIn, ClosedAny}
+use Rattle.wf_def.specs.Seen.{Once, OnceIn, OnceAny}
 use Rattle.wf_paths.proofs.PathLemmas.{or_left, or_right, or_split}
 use Rattle.wf_order.specs.Order.{Among, Before, Contains, Exclusive, around, around_in, around_any, up}
 use Rattle.wf_order.proofs.RelationLemmas.{among-append, around_has, branch_has, kind_has, own_has}

@@ -1,7 +1,7 @@
 -- The walk finds each action in its place.
 use Rattle.std.proofs.Common.{◌≡◌, ℕ, zero, suc, Bool, true, false, ◌||◌, cond, List, [], ◌∷◌, ◌++◌, map, replicate, append_assoc, Option, Some, None, nat_eq, refl, sym, ap, ap₂, ◌∙◌, true≢false}
 use Rattle.std.proofs.lemmas.Bool.{eqb-true}
-use Rattle.wf_layers.specs.Definition.{Need, Kind, Leaf, Scope, Choice, Foreach, Until, Branches, no_branch, branch, Graph, done, add, holds, has, has_any, needs_in, needs_any, needs_of}
+use Rattle.wf_def.specs.Definition.{Need, Kind, Leaf, Scope, Choice, Foreach, Until, Branches, no_branch, branch, Graph, done, add, holds, has, has_any, needs_in, needs_any, needs_of}
 use Rattle.wf_paths.specs.Table.{from, paths_of}
 use Rattle.wf_order.specs.Order.{around, around_in, around_any, up, stand, stand_in, stand_any}
 use Rattle.wf_order.specs.Table.{PlaceTree, after_at, order_of, place_of, waits_of}

@@ -3,7 +3,7 @@ use Rattle.std.proofs.Common.{◌≡◌, ◌≢◌, ℕ, zero, suc, ◌+◌, ◌
 use Rattle.std.specs.Prelude.{◌↔◌}
 use Rattle.std.specs.List.{list_any}
 use Rattle.std.proofs.lemmas.Bool.{eq-eqb, eqb-true}
-use Rattle.wf_layers.specs.Definition.{Need, Names, Kind, Leaf, Scope, Choice, Foreach, Until, Branches, no_branch, branch, Graph, done, add, holds, has, has_any, has_own, needs_in, needs_any, needs_of, IsBefore, next, more, Closed, ClosedIn, ClosedAny}
+use Rattle.wf_def.specs.Definition.{Need, Names, Kind, Leaf, Scope, Choice, Foreach, Until, Branches, no_branch, branch, Graph, done, add, holds, has, has_any, has_own, needs_in, needs_any, needs_of, IsBefore, next, more, Closed, ClosedIn, ClosedAny}
 use Rattle.wf_paths.specs.Path as path
 use Rattle.wf_paths.specs.Table.{at, from, edge_of, names, names_in, paths_of}
 use Rattle.wf_paths.proofs.PathLemmas.{or_left, or_right, or_split, and_both, and_split}

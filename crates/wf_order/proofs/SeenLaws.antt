@@ -3,12 +3,12 @@
 use Rattle.std.proofs.Common.{◌≡◌, ℕ, suc, Bool, true, false, ◌&&◌, ◌||◌, cond, List, [], ◌∷◌, ◌++◌, length, Option, Some, ◌⊎◌, inl, inr}
 use Rattle.std.proofs.Common.{refl, sym, ap, subst, ◌∙◌, append_assoc, arith, nat_eq}
 use Rattle.std.proofs.lemmas.Bool.{eq-eqb, eqb-true}
-use Rattle.wf_layers.specs.Definition.{Need, Names, Kind, Leaf, Scope, Choice, Foreach, Until, Branches, no_branch, branch, Graph, done}
-use Rattle.wf_layers.specs.Definition.{add, holds, has, has_any, has_own, needs_in, needs_any, needs_of, IsBefore, next, more, Closed}
-use Rattle.wf_layers.specs.Definition.{ClosedIn, ClosedAny}
-use Rattle.wf_layers.specs.Address.{Address, starts, is_in, is_within, owner, Lower, earlier_in, earlier_any, together, IsEarlier, SeenIn}
-use Rattle.wf_layers.specs.Seen.{Once, OnceIn, OnceAny}
-use Rattle.wf_layers.proofs.Basics.{and_in, and_of}
+use Rattle.wf_def.specs.Definition.{Need, Names, Kind, Leaf, Scope, Choice, Foreach, Until, Branches, no_branch, branch, Graph, done}
+use Rattle.wf_def.specs.Definition.{add, holds, has, has_any, has_own, needs_in, needs_any, needs_of, IsBefore, next, more, Closed}
+use Rattle.wf_def.specs.Definition.{ClosedIn, ClosedAny}
+use Rattle.wf_def.specs.Address.{Address, starts, is_in, is_within, owner, Lower, earlier_in, earlier_any, together, IsEarlier, SeenIn}
+use Rattle.wf_def.specs.Seen.{Once, OnceIn, OnceAny}
+use Rattle.wf_def.proofs.Basics.{and_in, and_of}
 use Rattle.wf_paths.proofs.PathLemmas.{or_left, or_right, or_split}
 use Rattle.wf_order.specs.Indexes.{HaveSameIndexes, loops_any, loops_in, loops_round}
 use Rattle.wf_order.specs.Order.{Among, Before, around, around_any, around_in, up}

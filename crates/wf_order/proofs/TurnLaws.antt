@@ -2,11 +2,11 @@
 use Rattle.std.proofs.Common.{◌≡◌, ◌<◌, ◌≤◌, ◌+◌, ℕ, zero, suc, Bool, true, false, ◌&&◌, ◌||◌, cond, List, [], ◌∷◌, ◌++◌, length, ◌⊎◌, inl}
 use Rattle.std.proofs.Common.{inr, refl, sym, ap, subst, ◌∙◌, append_assoc, arith, nat_eq}
 use Rattle.std.proofs.lemmas.Bool.{eq-eqb, eqb-true}
-use Rattle.wf_layers.specs.Definition.{Need, InTurn, Kind, Leaf, Scope, Choice, Foreach, Until, Branches, no_branch, branch, Graph, done}
-use Rattle.wf_layers.specs.Definition.{add, holds, has, has_any, IsBefore}
-use Rattle.wf_layers.specs.Address.{Address, starts, is_in, is_within, earlier_in, earlier_any, together, SeenIn}
-use Rattle.wf_layers.specs.Seen.{Once, OnceIn, OnceAny}
-use Rattle.wf_layers.proofs.Basics.{and_in, and_of}
+use Rattle.wf_def.specs.Definition.{Need, InTurn, Kind, Leaf, Scope, Choice, Foreach, Until, Branches, no_branch, branch, Graph, done}
+use Rattle.wf_def.specs.Definition.{add, holds, has, has_any, IsBefore}
+use Rattle.wf_def.specs.Address.{Address, starts, is_in, is_within, earlier_in, earlier_any, together, SeenIn}
+use Rattle.wf_def.specs.Seen.{Once, OnceIn, OnceAny}
+use Rattle.wf_def.proofs.Basics.{and_in, and_of}
 use Rattle.wf_paths.proofs.PathLemmas.{or_left, or_right, or_split}
 use Rattle.wf_order.specs.Indexes.{HaveSameIndexes, loops_any, loops_in, loops_round}
 use Rattle.wf_order.specs.Turns.{EachLoopAny, EachLoopIn, GoesInTurn, IsInstance, IsInTurn}

@@ -1,6 +1,6 @@
 -- A walk over a graph, action by action.
 use Rattle.std.proofs.Common.{◌≡◌, ℕ, suc, ◌+◌, List, [], ◌∷◌, ◌++◌, length, map, Option, Some, None, append_assoc, append-nil, refl, sym, ap, ◌∙◌, arith, rules}
-use Rattle.wf_layers.specs.Definition as layers
+use Rattle.wf_def.specs.Definition as layers
 use Rattle.wf_def.specs.ActionTree.{ActionTree, action, ActionTrees, no_actions, action_then, CaseTree, case_trees}
 use Rattle.wf_def.specs.ActionSeen.{action_tree, cases_seen, graph_tree, kind_tree}
 use Rattle.wf_def.specs.Layered.{layered, layered_kind, layered_cases, need_of}

@@ -3,9 +3,9 @@
 --   a Switch 9 after 0, of the cases 10 and 11, and otherwise of an If 12 of 13; 14, which nothing waits for and which waits for nothing.
 use Rattle.std.proofs.Common.{◌≡◌, ℕ, List, [], ◌∷◌, true, false, Some, None, length, nat_eq, refl, arith}
 use Rattle.std.proofs.lemmas.Bool.{eqb-true}
-use Rattle.wf_layers.specs.Definition.{Succeeded, Need, InTurn, AtMost, Leaf, Scope, Choice, Foreach, Until, no_branch, branch, Graph, done, add}
-use Rattle.wf_layers.specs.Address.{address, starts}
-use Rattle.wf_layers.proofs.Basics.{and_in}
+use Rattle.wf_def.specs.Definition.{Succeeded, Need, InTurn, AtMost, Leaf, Scope, Choice, Foreach, Until, no_branch, branch, Graph, done, add}
+use Rattle.wf_def.specs.Address.{address, starts}
+use Rattle.wf_def.proofs.Basics.{and_in}
 use Rattle.wf_order.specs.Indexes.{HaveSameIndexes, loops_round}
 use Rattle.wf_order.specs.Order.{around, stand, up}
 use Rattle.wf_order.specs.Table.{OrderTree, order_of, before, contains, exclusive, redo}

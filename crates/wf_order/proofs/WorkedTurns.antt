@@ -1,8 +1,8 @@
 -- Loops round worked actions: a Foreach 20 in turn, of 21 and an Until 22 of 23; a Foreach 24 side by side, of 25 and a Foreach 26 in turn
 -- of 27; and 28.
 use Rattle.std.proofs.Common.{◌≡◌, ℕ, [], ◌∷◌, true, true≢false, refl, sym}
-use Rattle.wf_layers.specs.Address.{address}
-use Rattle.wf_layers.specs.Definition.{InTurn, AtMost, Leaf, Foreach, Until, Graph, done, add}
+use Rattle.wf_def.specs.Address.{address}
+use Rattle.wf_def.specs.Definition.{InTurn, AtMost, Leaf, Foreach, Until, Graph, done, add}
 use Rattle.wf_order.specs.Turns.{IsInNoLoop, IsInstance, IsInTurn}
 
 abbrev leaf : ℕ → Graph → Graph

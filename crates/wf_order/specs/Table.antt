@@ -1,7 +1,7 @@
 -- The tables of an order, by the numbers of actions, and what they answer.
 use Rattle.std.specs.Prelude.{ℕ, ◌-◌, Bool, false, not, ◌&&◌, ◌||◌, cond, List, [], map, length, take, Option, Some, None, nat_eq, slice_get}
 use Rattle.std.specs.List.{list_any}
-use Rattle.wf_layers.specs.Definition.{Graph, has, needs_of}
+use Rattle.wf_def.specs.Definition.{Graph, has, needs_of}
 use Rattle.wf_paths.specs.Table.{at, from, paths_of}
 use Rattle.wf_order.specs.Order.{stand, up}
 

@@ -1,9 +1,9 @@
 -- The loops round an action, and addresses with an index for each loop.
 use Rattle.std.specs.Prelude.{◌≡◌, ◌⊎◌, ℕ, true, length}
-use Rattle.wf_layers.specs.Definition.{Pace, InTurn, Kind, Leaf, Scope, Choice, Foreach, Until, Branches, no_branch, branch, Graph, done}
-use Rattle.wf_layers.specs.Definition.{add}
-use Rattle.wf_layers.specs.Definition.{holds, has}
-use Rattle.wf_layers.specs.Address.{Address}
+use Rattle.wf_def.specs.Definition.{Pace, InTurn, Kind, Leaf, Scope, Choice, Foreach, Until, Branches, no_branch, branch, Graph, done}
+use Rattle.wf_def.specs.Definition.{add}
+use Rattle.wf_def.specs.Definition.{holds, has}
+use Rattle.wf_def.specs.Address.{Address}
 use Rattle.wf_order.specs.Indexes.{loops_round}
 use Rattle.wf_order.specs.Order.{Before, Contains, Exclusive}
 

@@ -1,6 +1,6 @@
 -- The places of all actions of a graph, one after the other as a walk finds them, and a table that is filled with them.
 use Rattle.std.specs.Prelude.{ℕ, suc, Bool, true, false, cond, List, [], ◌∷◌, ◌++◌, map, Option, Some, None, slice_get, slice_set}
-use Rattle.wf_layers.specs.Definition.{Kind, Leaf, Scope, Choice, Foreach, Until, Branches, no_branch, branch, Graph, done, add}
+use Rattle.wf_def.specs.Definition.{Kind, Leaf, Scope, Choice, Foreach, Until, Branches, no_branch, branch, Graph, done, add}
 use Rattle.wf_def.specs.ActionTree.{CaseTrees, no_cases, case_then}
 use Rattle.wf_def.specs.Layered.{layered}
 use Rattle.wf_order.specs.Table.{PlaceTree}

@@ -1,9 +1,9 @@
 //! What the relations say of instances, at the addresses of a run. Each call tells a caller so, and does nothing.
 ghost use Rattle.std.specs.Prelude.{◌≡◌, ◌⊎◌, ℕ, List, [], Some};
-ghost use Rattle.wf_layers.specs.Address.{Address, SeenIn, address};
-ghost use Rattle.wf_layers.specs.Definition.{Closed, Graph, Kind, kind_of};
-ghost use Rattle.wf_layers.specs.Seen.{Once};
-ghost use Rattle.wf_layers.specs.Variables.{HasOrder, IsOrdered, exclusive};
+ghost use Rattle.wf_def.specs.Address.{Address, SeenIn, address};
+ghost use Rattle.wf_def.specs.Definition.{Closed, Graph, Kind, kind_of};
+ghost use Rattle.wf_def.specs.Seen.{Once};
+ghost use Rattle.wf_def.specs.Variables.{HasOrder, IsOrdered, exclusive};
 ghost use Rattle.wf_order.specs.Indexes.{HaveSameIndexes, loops_round};
 ghost use Rattle.wf_order.specs.Order.{Exclusive};
 ghost use Rattle.wf_order.specs.Turns.{AreSettled, IsInNoLoop, IsInstance, IsInTurn, IsReadWith};

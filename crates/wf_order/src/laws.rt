@@ -1,9 +1,9 @@
 //! What the tables answer, in the words of a definition, and how the relations go together. Each call tells a caller so, and does
 //! nothing.
 ghost use Rattle.std.specs.Prelude.{◌≡◌, ◌↔◌, ℕ, true};
-ghost use Rattle.wf_layers.specs.Address.{Address, SeenIn, starts};
-ghost use Rattle.wf_layers.specs.Definition.{Closed, Graph, IsDepth, has};
-ghost use Rattle.wf_layers.specs.Seen.{Once};
+ghost use Rattle.wf_def.specs.Address.{Address, SeenIn, starts};
+ghost use Rattle.wf_def.specs.Definition.{Closed, Graph, IsDepth, has};
+ghost use Rattle.wf_def.specs.Seen.{Once};
 ghost use Rattle.wf_order.specs.Indexes.{HaveSameIndexes};
 ghost use Rattle.wf_order.specs.Order.{Before, Contains, Exclusive, IsBelow, Redo};
 ghost use Rattle.wf_order.specs.Table.{before, contains, exclusive, order_of, redo};

@@ -14,20 +14,20 @@ use Rattle.wf_def.specs.ActionTree.{set_to, increment, decrement, append_array, 
 use Rattle.wf_def.specs.ActionTree.{until, ActionTrees, CaseTrees}
 use Rattle.wf_def.specs.AllActions.{kind_actions}
 use Rattle.wf_look.specs.Told.{Told}
-use Rattle.wf_eval.specs.TemplateValue.{template_value}
-use Rattle.wf_eval.specs.TreeValue.{tree_value}
-use Rattle.wf_eval.specs.Truth.{truth_of}
+use Rattle.wf_turns.specs.TemplateValue.{template_value}
+use Rattle.wf_turns.specs.TreeValue.{tree_value}
+use Rattle.wf_turns.specs.Truth.{truth_of}
 use Rattle.wf_record.specs.Record.{Row}
 use Rattle.wf_record.specs.declared.status.Status.{Status}
 use Rattle.wf_connect.specs.Attempts.{ends, repeated, tried}
 use Rattle.wf_connect.specs.Last.{Answered, IsLast, answered_at, is_final, last_attempt}
-use Rattle.wf_opening.specs.Decisions.{nothing, held, branch_from, chosen_as, decided, each, each_as, held_as, taken, too_many}
-use Rattle.wf_opening.specs.Verdicts.{VerdictTree, astray, met}
-use Rattle.wf_done.specs.Leaf.{BegunTree, acted, calling, done_by, ended}
+use Rattle.wf_turns.specs.Decisions.{nothing, held, branch_from, chosen_as, decided, each, each_as, held_as, taken, too_many}
+use Rattle.wf_turns.specs.Verdicts.{VerdictTree, astray, met}
+use Rattle.wf_turns.specs.Leaf.{BegunTree, acted, calling, done_by, ended}
 use Rattle.wf_doing.specs.Weights.{begun_inputs, decided_by}
-use Rattle.wf_meant.specs.Containers.{any_terminated, case_status, close_branch, close_foreach, close_until, closed, closed_as, cut_short}
-use Rattle.wf_meant.specs.Containers.{iterations_value, last_status, status_of, unless_cut}
-use Rattle.wf_meant.specs.Resubmitted.{said}
+use Rattle.wf_turns.specs.Containers.{any_terminated, case_status, close_branch, close_foreach, close_until, closed, closed_as, cut_short}
+use Rattle.wf_turns.specs.Containers.{iterations_value, last_status, status_of, unless_cut}
+use Rattle.wf_turns.specs.Resubmitted.{said}
 
 -- ---- of a leaf
 

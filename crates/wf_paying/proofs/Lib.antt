@@ -1,3 +1,4 @@
+pub use Rattle.wf_meant_laws.proofs.AnswerLemmas
 mod KeptLemmas
 mod PartLemmas
 mod RowLemmas

@@ -15,16 +15,16 @@ use Rattle.wf_def.specs.AllActions.{numbered}
 use Rattle.wf_def.specs.DefTree.{DefTree}
 use Rattle.wf_record.specs.Record.{Row}
 use Rattle.wf_connect.specs.Last.{Answered, IsLast, last_attempt}
-use Rattle.wf_opening.specs.Decisions.{DecisionTree}
-use Rattle.wf_opening.specs.Verdicts.{VerdictTree}
+use Rattle.wf_turns.specs.Decisions.{DecisionTree}
+use Rattle.wf_turns.specs.Verdicts.{VerdictTree}
 use Rattle.wf_doing.specs.Weights.{begun_inputs, begun_weight, decided_by, decision_weight}
-use Rattle.wf_environment.specs.Environment.{Environment, facts_of}
-use Rattle.wf_meant.specs.Answering.{AnswersAs, RowSource}
-use Rattle.wf_meant.specs.Look as look
-use Rattle.wf_meant.specs.Look.{instance, told_at}
-use Rattle.wf_meant.specs.Points.{graph_of}
-use Rattle.wf_meant.specs.Resubmitted.{said_by}
-use Rattle.wf_meant.specs.Source.{begun, close_of, finished}
+use Rattle.wf_turns.specs.Environment.{Environment, facts_of}
+use Rattle.wf_turns.specs.Answering.{AnswersAs, RowSource}
+use Rattle.wf_turns.specs.Look as look
+use Rattle.wf_turns.specs.Look.{instance, told_at}
+use Rattle.wf_turns.specs.Points.{graph_of}
+use Rattle.wf_turns.specs.Resubmitted.{said_by}
+use Rattle.wf_turns.specs.Source.{begun, close_of, finished}
 use Rattle.wf_turns.specs.Turns.{turns}
 use Rattle.wf_turns.proofs.SourceLemmas.{is_written_out, written_out}
 use Rattle.wf_priced.specs.Priced.{PaysItsParts, closing_row}

@@ -8,18 +8,18 @@ use Rattle.wf_template.specs.CondTree.{holds}
 use Rattle.wf_template.specs.ExprTree.{member}
 use Rattle.wf_template.specs.TemplateTree.{whole}
 use Rattle.wf_answers.specs.AnswerTree.{AnswerTree}
-use Rattle.wf_trigger.specs.Starts.{StartTree}
+use Rattle.wf_turns.specs.Starts.{StartTree}
 use Rattle.wf_def.specs.ActionTree.{KindTree, action_trees, case_trees, compose, connector, foreach, switch, until}
 use Rattle.wf_def.specs.DefTree.{DefTree}
-use Rattle.wf_meant.specs.Record.{depth_of}
-use Rattle.wf_meant.specs.Resubmitted.{pinned_table}
-use Rattle.wf_meant.specs.Source.{table_of}
+use Rattle.wf_turns.specs.Record.{depth_of}
+use Rattle.wf_turns.specs.Resubmitted.{pinned_table}
+use Rattle.wf_turns.specs.Source.{table_of}
 use Rattle.wf_record.specs.Record.{RecordTree}
 use Rattle.wf_record.specs.declared.attempt.Try.{Try}
 use Rattle.wf_record.specs.declared.status.RunStatus.{RunStatus}
 use Rattle.wf_record.specs.declared.status.Status.{Status}
-use Rattle.wf_meant.proofs.Terms.{act, alone, answered, apply, called, ended, failure_of, fields, inputs_again, many, nat, num, obj}
-use Rattle.wf_meant.proofs.Terms.{of_actions, ran, record_is, replied, started, success_of, tracking, txt, unrun, value, words}
+use Rattle.wf_turns.proofs.Terms.{act, alone, answered, apply, called, ended, failure_of, fields, inputs_again, many, nat, num, obj}
+use Rattle.wf_turns.proofs.Terms.{of_actions, ran, record_is, replied, started, success_of, tracking, txt, unrun, value, words}
 use Rattle.wf_paying.specs.Paying.{first_cost, rows_meant}
 
 -- ---- before the first event

@@ -7,14 +7,14 @@ use Rattle.wf_layers.specs.Listed.{sum_of}
 use Rattle.wf_def.specs.DefTree.{DefTree}
 use Rattle.wf_record.specs.Cost.{row_cost}
 use Rattle.wf_record.specs.Record.{Row}
-use Rattle.wf_done.specs.DoneSeen.{begun_tree}
+use Rattle.wf_turns.specs.DoneSeen.{begun_tree}
 use Rattle.wf_doing.specs.Weights.{begun_weight, decision_weight}
-use Rattle.wf_opening.specs.DecisionSeen.{decision_tree, verdict_tree}
-use Rattle.wf_meant.specs.Answering.{RowSource, table_by}
-use Rattle.wf_meant.specs.Points.{graph_of}
-use Rattle.wf_meant.specs.Record.{depth_of, rows_of}
+use Rattle.wf_turns.specs.DecisionSeen.{decision_tree, verdict_tree}
+use Rattle.wf_turns.specs.Answering.{RowSource, table_by}
+use Rattle.wf_turns.specs.Points.{graph_of}
+use Rattle.wf_turns.specs.Record.{depth_of, rows_of}
 use Rattle.wf_meant_laws.specs.Listed.{Entry, StandFor, told_as}
-use Rattle.wf_views.specs.Seen.{row_content}
+use Rattle.wf_doing.specs.ViewsSeen.{row_content}
 use Rattle.wf_priced.specs.Priced.{PaysItsParts, TellsRows}
 use Rattle.wf_priced.proofs.WithinLemmas.{all_there, within}
 use Rattle.wf_making.specs.Priced.{IsPriced}

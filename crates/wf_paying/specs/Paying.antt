@@ -3,10 +3,10 @@ use Rattle.std.specs.Prelude.{ℕ, sum_by}
 use Rattle.wf_layers.specs.Address.{Table}
 use Rattle.wf_def.specs.DefTree.{DefTree}
 use Rattle.wf_doing.specs.Costs as costs
-use Rattle.wf_meant.specs.Record.{rows_of}
+use Rattle.wf_turns.specs.Record.{rows_of}
 use Rattle.wf_record.specs.Cost.{row_cost}
 use Rattle.wf_record.specs.Record.{Row}
-use Rattle.wf_trigger.specs.Starts.{StartTree}
+use Rattle.wf_turns.specs.Starts.{StartTree}
 
 -- a row, and what a run costs before its first event
 abbrev pub cost_of_row : Row → ℕ

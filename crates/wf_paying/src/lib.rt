@@ -18,25 +18,34 @@ ghost use Rattle.wf_layers.specs.Listed.{sum_of};
 ghost use Rattle.wf_answers.specs.Inputs.{InputsTree};
 ghost use Rattle.wf_def.specs.DefTree.{DefTree};
 ghost use Rattle.wf_doing.specs.Weights.{begun_weight, decision_weight};
-ghost use Rattle.wf_done.specs.DoneSeen.{begun_tree};
-ghost use Rattle.wf_environment.specs.Environment.{Environment};
+ghost use Rattle.wf_turns.specs.DoneSeen.{begun_tree};
+ghost use Rattle.wf_turns.specs.Environment.{Environment};
 ghost use Rattle.wf_making.specs.Priced.{IsPriced};
-ghost use Rattle.wf_meant.specs.Answering.{AnswersAs, RowSource, table_by};
-ghost use Rattle.wf_meant.specs.Points.{graph_of};
-ghost use Rattle.wf_meant.specs.Record.{depth_of, meaning, record_of_table};
-ghost use Rattle.wf_meant.specs.Resubmitted.{pinned, pinned_table, resubmitted};
-ghost use Rattle.wf_meant.specs.Source.{table_of};
+ghost use Rattle.wf_turns.specs.Answering.{AnswersAs, RowSource, table_by};
+ghost use Rattle.wf_turns.specs.Points.{graph_of};
+ghost use Rattle.wf_turns.specs.Record.{depth_of, meaning, record_of_table};
+ghost use Rattle.wf_turns.specs.Resubmitted.{pinned, pinned_table, resubmitted};
+ghost use Rattle.wf_turns.specs.Source.{table_of};
 ghost use Rattle.wf_meant_laws.specs.Answered.{IsAnswered};
 ghost use Rattle.wf_meant_laws.specs.Listed.{Entry};
 ghost use Rattle.wf_meant_laws.specs.Tables.{AreWhole};
-ghost use Rattle.wf_opening.specs.DecisionSeen.{decision_tree, verdict_tree};
+ghost use Rattle.wf_turns.specs.DecisionSeen.{decision_tree, verdict_tree};
 ghost use Rattle.wf_priced.specs.Priced.{PaysItsParts, TellsRows};
-ghost use Rattle.wf_reading.specs.Read.{IsRead};
+ghost use Rattle.wf_turns.specs.Read.{IsRead};
 ghost use Rattle.wf_record.specs.Cost.{cost};
 ghost use Rattle.wf_record.specs.Record.{RecordTree, Row};
-ghost use Rattle.wf_rules.specs.Broken.{broken_of};
-ghost use Rattle.wf_views.specs.Seen.{row_content};
+ghost use Rattle.wf_meant_laws.specs.Broken.{broken_of};
+ghost use Rattle.wf_doing.specs.ViewsSeen.{row_content};
 ghost use Rattle.wf_paying.specs.Paying.{cost_of_row, first_cost, rows_meant};
+
+pub use wf_doing::{
+    Inside, Setting, begun_weight, close, containers_are_judged, decide, decision_weight, finish,
+    halts, makes_another, skipped, start, terminates, terminates_halt, test_until,
+    what_is_done_is_the_source,
+};
+pub use wf_making::{Making, Pays, Rest, Tells};
+pub use wf_meant_laws::{a_definition_is_an_instance, meant_rows_are_whole};
+pub use wf_turns::{a_row_costs_its_turns, attempts_are_answered, rows_tell_their_turns};
 
 /// The row of a leaf that ran costs at least 64 for the leaf and for each of its attempts, and the weight of the inputs that the run kept
 /// of it. That of a container costs at least 64 for it and for each of its iterations, and the weight of what it decided by. It holds

@@ -9,7 +9,7 @@ use Rattle.wf_layers.proofs.Basics.{not_true, two, unless, when}
 use Rattle.wf_layers.proofs.Resubmission.{is_kept, kept_not}
 use Rattle.wf_loops.specs.Loops.{loops_any, loops_in, loops_of}
 use Rattle.wf_seen_laws.proofs.RoundLemmas.{first_is, none_split, tail_is}
-use Rattle.wf_meant.specs.Answering.{IsLoop}
+use Rattle.wf_meant_laws.specs.Answering.{IsLoop}
 
 some_is : {A : Type 0} {u v : A} → Some u ≡ Some v → u ≡ v
 some_is e = cc (e)

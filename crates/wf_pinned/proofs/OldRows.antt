@@ -2,8 +2,8 @@
 use Rattle.std.proofs.Common.{◌≡◌, ℕ, Bool, true, false, List, [], ◌∷◌, map, refl}
 use Rattle.wf_def.specs.ActionTree.{compose, foreach, scope, action_trees}
 use Rattle.wf_def.specs.DefTree.{DefTree}
-use Rattle.wf_meant.specs.References.{upto}
-use Rattle.wf_meant.proofs.Terms.{act, nat, num, of, of_actions, success_of}
+use Rattle.wf_meant_laws.specs.References.{upto}
+use Rattle.wf_meant_laws.proofs.Terms.{act, nat, num, of, of_actions, success_of}
 use Rattle.wf_pinned.specs.Old.{keeps, recloses, redoes}
 
 -- A; after A a Scope S of B and of C after B, and beside it a Foreach L of M; Z after S.

@@ -20,13 +20,13 @@ use Rattle.wf_def.specs.AllActions.{numbered}
 use Rattle.wf_def.specs.DefTree.{DefTree}
 use Rattle.wf_answers.specs.Inputs.{InputsTree}
 use Rattle.wf_record.specs.Record.{RecordTree, Row}
-use Rattle.wf_environment.specs.Environment.{Environment}
-use Rattle.wf_meant.specs.Answering.{AnswersAs, RowSource}
-use Rattle.wf_meant.specs.Points.{graph_of}
-use Rattle.wf_meant.specs.Record.{depth_of}
-use Rattle.wf_meant.specs.Resubmitted.{pinned_source, pinned_table, recalled, resubmitted, rows_by}
-use Rattle.wf_meant.specs.Rows.{iterations_of, turns_at}
-use Rattle.wf_meant.specs.Source.{source}
+use Rattle.wf_meant_laws.specs.Environment.{Environment}
+use Rattle.wf_meant_laws.specs.Answering.{AnswersAs, RowSource}
+use Rattle.wf_meant_laws.specs.Points.{graph_of}
+use Rattle.wf_meant_laws.specs.Record.{depth_of}
+use Rattle.wf_meant_laws.specs.Resubmitted.{pinned_source, pinned_table, recalled, resubmitted, rows_by}
+use Rattle.wf_meant_laws.specs.Rows.{iterations_of, turns_at}
+use Rattle.wf_meant_laws.specs.Source.{source}
 use Rattle.wf_meant_laws.specs.Answered.{GiveWhatTheyWrite, IsAnswered, NewGiveWhatTheyWrite}
 use Rattle.wf_meant_laws.specs.Tables.{LoopsTell, StandAtInstances}
 use Rattle.wf_meant_laws.proofs.WholeLemmas.{had_tells, stands}

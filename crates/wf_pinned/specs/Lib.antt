@@ -1,2 +1,13 @@
+pub use Rattle.wf_meant_laws.specs.Broken
+pub use Rattle.wf_meant_laws.specs.Checked
+pub use Rattle.wf_meant_laws.specs.Containers
+pub use Rattle.wf_meant_laws.specs.Listed
+pub use Rattle.wf_meant_laws.specs.Look
+pub use Rattle.wf_meant_laws.specs.Points
+pub use Rattle.wf_meant_laws.specs.Record
+pub use Rattle.wf_meant_laws.specs.Resubmitted
+pub use Rattle.wf_meant_laws.specs.Rows
+pub use Rattle.wf_meant_laws.specs.Source
+pub use Rattle.wf_meant_laws.specs.Tables
 pub use Rattle.wf_meant_laws.specs.Answered
 pub mod Old

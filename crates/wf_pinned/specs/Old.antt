@@ -5,10 +5,10 @@ use Rattle.wf_layers.specs.Resubmission.{IsOldTable, kept}
 use Rattle.wf_def.specs.DefTree.{DefTree}
 use Rattle.wf_answers.specs.Inputs.{InputsTree}
 use Rattle.wf_record.specs.Record.{RecordTree}
-use Rattle.wf_meant.specs.Points.{graph_of}
-use Rattle.wf_meant.specs.Record.{depth_of}
-use Rattle.wf_meant.specs.Resubmitted.{is_chosen, recalled, resubmitted, rows_by}
-use Rattle.wf_meant.specs.Source.{source}
+use Rattle.wf_meant_laws.specs.Points.{graph_of}
+use Rattle.wf_meant_laws.specs.Record.{depth_of}
+use Rattle.wf_meant_laws.specs.Resubmitted.{is_chosen, recalled, resubmitted, rows_by}
+use Rattle.wf_meant_laws.specs.Source.{source}
 use Rattle.wf_meant_laws.specs.Answered.{GiveWhatTheyWrite}
 use Rattle.wf_meant_laws.specs.Tables.{AreWhole}
 

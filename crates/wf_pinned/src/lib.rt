@@ -12,12 +12,16 @@ ghost use Rattle.std.specs.Prelude.{◌≡◌, ℕ, List, None, true};
 ghost use Rattle.wf_answers.specs.Inputs.{InputsTree};
 ghost use Rattle.wf_def.specs.DefTree.{DefTree};
 ghost use Rattle.wf_layers.specs.Address.{Address};
-ghost use Rattle.wf_meant.specs.Resubmitted.{pinned_source, pinned_table, resubmitted, rows_by};
+ghost use Rattle.wf_meant_laws.specs.Resubmitted.{pinned_source, pinned_table, resubmitted, rows_by};
 ghost use Rattle.wf_meant_laws.specs.Answered.{IsAnswered};
 ghost use Rattle.wf_pinned.specs.Old.{MayGoOn, keeps};
-ghost use Rattle.wf_reading.specs.Read.{IsRead};
+ghost use Rattle.wf_meant_laws.specs.Read.{IsRead};
 ghost use Rattle.wf_record.specs.Record.{RecordTree};
-ghost use Rattle.wf_rules.specs.Broken.{broken_of};
+ghost use Rattle.wf_meant_laws.specs.Broken.{broken_of};
+
+pub use wf_meant_laws::{
+    Checked, listed_rows_stand_for_the_table, meant_rows_are_whole, the_first_broken_rule,
+};
 
 /// A resubmission keeps the older run's rows as they are.
 pub fn kept_rows_are_the_records()
@@ -34,7 +38,7 @@ pub fn a_resubmission_is_answered()
         → IsAnswered d (resubmitted r i) (pinned_source d r i from) }
 {
     wf_meant_laws::a_definition_is_an_instance();
-    wf_known_laws::numbers_stand_once();
-    wf_known_laws::numbers_are_had();
+    wf_meant_laws::numbers_stand_once();
+    wf_meant_laws::numbers_are_had();
     wf_meant_laws::new_rows_give_what_they_write();
 }

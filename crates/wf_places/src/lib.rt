@@ -21,3 +21,4 @@ mod walk;
 pub use form::Form;
 pub use laws::places_are_where_something_is_amiss;
 pub use walk::least_place;
+pub use wf_json::{fault_text, pointer, quoted};

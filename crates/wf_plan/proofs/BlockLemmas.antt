@@ -1,6 +1,6 @@
 -- What stands in no loop, by the walk over trees and by the graph.
 use Rattle.std.proofs.Common.{◌≡◌, ◌∷◌, ◌++◌, append_assoc, append-nil, refl, sym, ap, ap₂, ◌∙◌}
-use Rattle.wf_layers.specs.Definition as layers
+use Rattle.wf_def.specs.Definition as layers
 use Rattle.wf_def.specs.ActionTree.{ActionTree, action, action_kind, action_number, KindTree, compose, connector, wait, response, terminate, select, query, join, parse_json, initialize, set_to, increment, decrement, append_array, append_string, scope, branch, switch, switch_else, foreach, until, ActionTrees, no_actions, action_then, CaseTrees, no_cases, case_then}
 use Rattle.wf_def.specs.Layered.{layered, layered_cases, layered_kind}
 use Rattle.wf_plan.specs.Plan.{shown, shown_any, shown_in}

@@ -2,11 +2,11 @@
 use Rattle.std.proofs.Common.{◌≡◌, ℕ, zero, suc, true, false, ◌||◌, List, [], ◌∷◌, ◌++◌, replicate, Some, None, option_map, ◌⊎◌, inl, inr, ⊎_elim, sym, ap, ◌∙◌, nat_eq, eqb-true, true≢false}
 use Rattle.std.proofs.lemmas.Option.{none-some}
 use Rattle.std.specs.List.{AllByRecursion, find}
-use Rattle.wf_layers.specs.Changes.{is_named, owns}
-use Rattle.wf_layers.specs.Definition.{Need, Graph, kind_of, needs_of}
-use Rattle.wf_layers.specs.Seen.{Once}
-use Rattle.wf_layers.specs.Waiting.{times}
-use Rattle.wf_layers.proofs.Basics.{two, either, or_first, or_second, same_self, when, unless}
+use Rattle.wf_def.specs.Changes.{is_named, owns}
+use Rattle.wf_def.specs.Definition.{Need, Graph, kind_of, needs_of}
+use Rattle.wf_def.specs.Seen.{Once}
+use Rattle.wf_def.specs.Waiting.{times}
+use Rattle.wf_def.proofs.Basics.{two, either, or_first, or_second, same_self, when, unless}
 use Rattle.wf_def.specs.ActionTree.{ActionTree, action_kind, action_number, ActionTrees}
 use Rattle.wf_def.specs.AllActions.{all_actions, has_number}
 use Rattle.wf_def.specs.Layered.{layered, layered_kind}

@@ -1,13 +1,13 @@
 -- What a graph has in which each number stands once: each action has one holder, and what stands in no loop stands once.
 use Rattle.std.proofs.Common.{◌≡◌, ℕ, zero, suc, ◌<◌, ◌-◌, Bool, true, false, ◌||◌, cond, List, [], ◌∷◌, ◌++◌, Option, Some, None, option_map, slice_get, ◌⊎◌, inl, inr, ⊎_elim, append-nil, refl, sym, ap, ap₂, ◌∙◌, subst, Bor, arith, nat_eq, eqb-true, true≢false}
 use Rattle.std.proofs.lemmas.Option.{none-some}
-use Rattle.wf_layers.specs.Changes.{is_named, owns, owns_any}
-use Rattle.wf_layers.specs.Definition.{Need, Kind, Leaf, Scope, Choice, Foreach, Until, Branches, no_branch, branch, Graph, done, add, branch_at, has, has_any, has_own, holds, is_one, less_one, kind_any, kind_in, kind_of, needs_in, needs_of, plain, plain_any, shows}
-use Rattle.wf_layers.specs.Seen.{Once, OnceAny, OnceIn}
-use Rattle.wf_layers.proofs.Basics.{two, either, not_true, or_first, or_second, same_self, when, unless}
-use Rattle.wf_layers.proofs.Changes.{owns_has, owns_holds}
-use Rattle.wf_layers.proofs.Tables.{plain_has, shows_holds}
-use Rattle.wf_layers.proofs.Waiting.{own_has}
+use Rattle.wf_def.specs.Changes.{is_named, owns, owns_any}
+use Rattle.wf_def.specs.Definition.{Need, Kind, Leaf, Scope, Choice, Foreach, Until, Branches, no_branch, branch, Graph, done, add, branch_at, has, has_any, has_own, holds, is_one, less_one, kind_any, kind_in, kind_of, needs_in, needs_of, plain, plain_any, shows}
+use Rattle.wf_def.specs.Seen.{Once, OnceAny, OnceIn}
+use Rattle.wf_def.proofs.Basics.{two, either, not_true, or_first, or_second, same_self, when, unless}
+use Rattle.wf_def.proofs.Changes.{owns_has, owns_holds}
+use Rattle.wf_def.proofs.Tables.{plain_has, shows_holds}
+use Rattle.wf_def.proofs.Waiting.{own_has}
 use Rattle.wf_asks.specs.Known.{is_among}
 use Rattle.wf_plan.specs.Once.{AreDistinct}
 use Rattle.wf_plan.specs.Plan.{branch_of, branches_of, own_numbers, passed_but, shown, shown_any, shown_in, taken_at}

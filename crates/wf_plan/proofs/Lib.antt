@@ -1,3 +1,5 @@
+pub use Rattle.wf_def.proofs.Basics
+pub use Rattle.wf_def.proofs.Tables
 pub mod BlockLemmas
 pub mod ExactLemmas
 pub mod GraphLemmas

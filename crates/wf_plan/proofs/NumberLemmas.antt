@@ -1,10 +1,10 @@
 -- What an action is by its number in the graph of the laws of order is what the list of all actions says.
 use Rattle.std.proofs.Common.{◌≡◌, ℕ, Bool, true, false, ◌||◌, cond, List, [], ◌∷◌, ◌++◌, Option, Some, refl, sym, ◌∙◌, subst, nat_eq, eqb-true, true≢false}
 use Rattle.std.specs.List.{AllByRecursion}
-use Rattle.wf_layers.specs.Definition.{Need, Kind, Graph, Branches, holds, has, has_any, kind_any, kind_in, kind_of, needs_any, needs_in, needs_of}
-use Rattle.wf_layers.specs.Definition as layers
-use Rattle.wf_layers.specs.Seen.{Once, OnceAny, OnceIn}
-use Rattle.wf_layers.proofs.Basics.{not_true, or_first, or_second, same_self, when, unless}
+use Rattle.wf_def.specs.Definition.{Need, Kind, Graph, Branches, holds, has, has_any, kind_any, kind_in, kind_of, needs_any, needs_in, needs_of}
+use Rattle.wf_def.specs.Definition as layers
+use Rattle.wf_def.specs.Seen.{Once, OnceAny, OnceIn}
+use Rattle.wf_def.proofs.Basics.{not_true, or_first, or_second, same_self, when, unless}
 use Rattle.wf_def.specs.ActionTree.{ActionTree, action, action_kind, action_number, KindTree, compose, connector, wait, response, terminate, select, query, join, parse_json, initialize, set_to, increment, decrement, append_array, append_string, scope, branch, switch, switch_else, foreach, until, ActionTrees, no_actions, action_then, CaseTrees, no_cases, case_then}
 use Rattle.wf_def.specs.AllActions.{all_actions, cases_actions, kind_actions}
 use Rattle.wf_def.specs.Layered.{layered, layered_cases, layered_kind}

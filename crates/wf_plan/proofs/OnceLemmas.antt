@@ -1,11 +1,11 @@
 -- Each action stands once in the list of all, and among those that wait for another.
 use Rattle.std.proofs.Common.{◌≡◌, ℕ, zero, suc, ◌≤◌, true, false, ◌||◌, List, [], ◌∷◌, ◌++◌, replicate, ◌⊎◌, inl, inr, ⊎_elim, sym, ◌∙◌, subst, arith, nat_eq, true≢false}
 use Rattle.std.specs.List.{AllByRecursion}
-use Rattle.wf_layers.specs.Definition.{Graph, Branches, holds, has, has_any}
-use Rattle.wf_layers.specs.Definition as layers
-use Rattle.wf_layers.specs.Seen.{Once, OnceAny, OnceIn}
-use Rattle.wf_layers.specs.Waiting.{times}
-use Rattle.wf_layers.proofs.Basics.{either, not_true, or_first, or_second, same_self}
+use Rattle.wf_def.specs.Definition.{Graph, Branches, holds, has, has_any}
+use Rattle.wf_def.specs.Definition as layers
+use Rattle.wf_def.specs.Seen.{Once, OnceAny, OnceIn}
+use Rattle.wf_def.specs.Waiting.{times}
+use Rattle.wf_def.proofs.Basics.{either, not_true, or_first, or_second, same_self}
 use Rattle.wf_def.specs.ActionTree.{ActionTree, action, action_number, KindTree, compose, connector, wait, response, terminate, select, query, join, parse_json, initialize, set_to, increment, decrement, append_array, append_string, scope, branch, switch, switch_else, foreach, until, ActionTrees, no_actions, action_then, CaseTrees, no_cases, case_then}
 use Rattle.wf_def.specs.AllActions.{all_actions, cases_actions, kind_actions}
 use Rattle.wf_def.specs.Layered.{layered, layered_cases, layered_kind}

@@ -2,12 +2,12 @@
 use Rattle.std.proofs.Common.{◌≡◌, ℕ, zero, suc, ◌+◌, ◌<◌, ◌≤◌, true, false, ◌||◌, List, [], ◌∷◌, ◌++◌, length, slice_get, Option, Some, None, ◌⊎◌, inl, inr, ⊎_elim, option_map, refl, sym, ap, ◌∙◌, subst, arith, nat_eq, eqb-true, true≢false}
 use Rattle.std.proofs.lemmas.Option.{none-some}
 use Rattle.std.specs.List.{AllByRecursion, find}
-use Rattle.wf_layers.specs.Changes.{is_named, owns}
-use Rattle.wf_layers.specs.Definition.{Graph, Kind, Leaf, Scope, Choice, Foreach, Until, Branches, has, has_any, holds, kind_of, needs_of, shows}
-use Rattle.wf_layers.specs.Definition as layers
-use Rattle.wf_layers.specs.Seen.{Once, OnceIn}
-use Rattle.wf_layers.proofs.Basics.{two, either, not_true, or_first, or_second, when, unless}
-use Rattle.wf_layers.proofs.Tables.{shows_holds}
+use Rattle.wf_def.specs.Changes.{is_named, owns}
+use Rattle.wf_def.specs.Definition.{Graph, Kind, Leaf, Scope, Choice, Foreach, Until, Branches, has, has_any, holds, kind_of, needs_of, shows}
+use Rattle.wf_def.specs.Definition as layers
+use Rattle.wf_def.specs.Seen.{Once, OnceIn}
+use Rattle.wf_def.proofs.Basics.{two, either, not_true, or_first, or_second, when, unless}
+use Rattle.wf_def.proofs.Tables.{shows_holds}
 use Rattle.wf_def.specs.ActionTree.{ActionTree, action, action_number, KindTree, compose, connector, wait, response, terminate, select, query, join, parse_json, initialize, set_to, increment, decrement, append_array, append_string, scope, branch, switch, switch_else, foreach, until, ActionTrees, no_actions, action_then, CaseTrees, no_cases, case_then}
 use Rattle.wf_def.specs.AllActions.{all_actions, cases_actions, has_number, kind_actions}
 use Rattle.wf_def.specs.Layered.{layered, layered_cases, layered_kind}

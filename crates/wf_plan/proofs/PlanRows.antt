@@ -1,7 +1,7 @@
 -- Worked rows of a plan. 0 waits for nothing; 1 is an If that waits for it, with 2 and behind it 3 in its first branch, and no action in
 -- the other; 4 is a Foreach that waits for 0 and 1, and 5 is in it.
 use Rattle.std.proofs.Common.{◌≡◌, ℕ, true, false, List, [], ◌∷◌, Some, None, refl, true≢false}
-use Rattle.wf_layers.specs.Definition as layers
+use Rattle.wf_def.specs.Definition as layers
 use Rattle.wf_template.specs.CondTree.{CondTree}
 use Rattle.wf_template.specs.DataTree.{DataTree}
 use Rattle.wf_def.specs.ActionTree.{ActionTree, action, KindTree, initialize, branch, foreach, ActionTrees, no_actions, action_then}

@@ -1,6 +1,6 @@
 -- The shape of an action, by the graphs that its kind holds.
 use Rattle.std.proofs.Common.{◌≡◌, List, [], ◌∷◌, ◌++◌, Option, Some, None, option_map, refl, sym, ap, ◌∙◌, rules}
-use Rattle.wf_layers.specs.Definition as layers
+use Rattle.wf_def.specs.Definition as layers
 use Rattle.wf_def.specs.ActionTree.{action, ActionTrees, action_then, CaseTree, CaseTrees, no_cases, case_then, case_trees}
 use Rattle.wf_def.specs.ActionSeen.{action_tree, case_tree, cases_seen, graph_tree, kind_tree}
 use Rattle.wf_def.specs.Layered.{layered, layered_cases, layered_kind}

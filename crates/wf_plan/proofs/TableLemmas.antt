@@ -2,11 +2,11 @@
 use Rattle.std.proofs.Common.{◌≡◌, ℕ, zero, suc, ◌+◌, ◌<◌, ◌≤◌, Bool, true, false, ◌||◌, cond, List, [], ◌∷◌, ◌++◌, length, map, replicate, set, slice_get, get_or, Option, Some, None, option_map, append_assoc, append-nil, refl, sym, ap, ap₂, ◌∙◌, arith, nat_eq, eq-eqb, eqb-true, true≢false}
 use Rattle.std.specs.Global.{Vec}
 use Rattle.std.specs.List.{find}
-use Rattle.wf_layers.specs.Changes.{owns, owns_any}
-use Rattle.wf_layers.specs.Definition.{Kind, Leaf, Scope, Choice, Foreach, Until, Branches, no_branch, branch, Graph, done, add, has_own}
-use Rattle.wf_layers.specs.Machine.{or_else}
-use Rattle.wf_layers.specs.Waiting.{times}
-use Rattle.wf_layers.proofs.Basics.{not_true, when, unless}
+use Rattle.wf_def.specs.Changes.{owns, owns_any}
+use Rattle.wf_def.specs.Definition.{Kind, Leaf, Scope, Choice, Foreach, Until, Branches, no_branch, branch, Graph, done, add, has_own}
+use Rattle.wf_def.specs.Machine.{or_else}
+use Rattle.wf_def.specs.Waiting.{times}
+use Rattle.wf_def.proofs.Basics.{not_true, when, unless}
 use Rattle.wf_def.specs.ActionTree.{ActionTree, ActionTrees, action_after, action_kind, action_number}
 use Rattle.wf_def.specs.AllActions.{all_actions, has_number}
 use Rattle.wf_def.specs.Layered.{layered, layered_kind, need_of}

@@ -1,8 +1,8 @@
 -- WHAT A PLAN HAS, in the words of the laws of order.
 use Rattle.std.specs.Prelude.{◌≡◌, ℕ, true, false, List, ◌∷◌, Some, None}
 use Rattle.std.specs.List.{AllByRecursion}
-use Rattle.wf_layers.specs.Changes.{is_named, owns}
-use Rattle.wf_layers.specs.Definition.{Graph, Kind, kind_of, needs_of}
+use Rattle.wf_def.specs.Changes.{is_named, owns}
+use Rattle.wf_def.specs.Definition.{Graph, Kind, kind_of, needs_of}
 use Rattle.wf_def.specs.ActionTree.{ActionTree, action_number}
 use Rattle.wf_asks.specs.Known.{is_among}
 use Rattle.wf_plan.specs.Plan.{EntryTree, entry_for, followers_of, holder_of, shape_of, shown}

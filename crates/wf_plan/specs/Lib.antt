@@ -1,3 +1,17 @@
+pub use Rattle.wf_asks.specs.declared.instance.Instance
+pub use Rattle.wf_asks.specs.Instances
+pub use Rattle.wf_asks.specs.Known
+pub use Rattle.wf_asks.specs.declared.known.OpenAt
+pub use Rattle.wf_asks.specs.declared.known.RowAt
+pub use Rattle.wf_asks.specs.Statuses
+pub use Rattle.wf_asks.specs.declared.known.WriterAt
+pub use Rattle.wf_def.specs.Address
+pub use Rattle.wf_def.specs.declared.after.Statuses as DefStatuses
+pub use Rattle.wf_def.specs.Definition
+pub use Rattle.wf_def.specs.Layered
+pub use Rattle.wf_def.specs.Machine
+pub use Rattle.wf_def.specs.Meaning
+pub use Rattle.wf_def.specs.Source
 pub mod Plan
 pub mod PlanSeen
 pub mod Walk

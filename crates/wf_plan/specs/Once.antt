@@ -1,7 +1,7 @@
 -- LISTS IN WHICH EACH STANDS ONCE.
 use Rattle.std.specs.Prelude.{◌≡◌, ⊤, ℕ, ◌≤◌, Bool, false, ◌||◌, List, [], ◌∷◌, nat_eq}
 use Rattle.std.specs.List.{AllByRecursion}
-use Rattle.wf_layers.specs.Waiting.{times}
+use Rattle.wf_def.specs.Waiting.{times}
 use Rattle.wf_def.specs.ActionTree.{ActionTree, action_number, ActionTrees}
 use Rattle.wf_def.specs.AllActions.{all_actions}
 use Rattle.wf_asks.specs.Known.{is_among}

@@ -1,9 +1,9 @@
 -- WHAT A PLAN HAS of a definition, by the list of all its actions.
 use Rattle.std.specs.Prelude.{ℕ, zero, suc, Bool, List, [], ◌∷◌, ◌++◌, cond, Option, Some, None, map, option_map, length, replicate}
 use Rattle.std.specs.List.{find}
-use Rattle.wf_layers.specs.Changes.{owns}
-use Rattle.wf_layers.specs.Definition as layers
-use Rattle.wf_layers.specs.Waiting.{times}
+use Rattle.wf_def.specs.Changes.{owns}
+use Rattle.wf_def.specs.Definition as layers
+use Rattle.wf_def.specs.Waiting.{times}
 use Rattle.wf_def.specs.ActionTree.{ActionTree, action_after, action_kind, action_number, ActionTrees, CaseTrees, no_cases, case_then}
 use Rattle.wf_def.specs.AllActions.{all_actions, has_number}
 use Rattle.wf_def.specs.Layered.{layered, layered_kind, need_of}

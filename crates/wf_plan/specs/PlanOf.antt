@@ -1,7 +1,7 @@
 -- A PLAN OF A GRAPH, in the words of the laws of order: what an engine may take from the plan in place of the graph.
 use Rattle.std.specs.Prelude.{◌≡◌, ℕ, Bool, true, false, ◌||◌, cond, Some, nat_eq}
-use Rattle.wf_layers.specs.Changes.{is_named, owns}
-use Rattle.wf_layers.specs.Definition.{Kind, Leaf, Scope, Choice, Foreach, Until, Branches, no_branch, branch, Graph, has, is_one, less_one, kind_of, needs_of, plain, shows}
+use Rattle.wf_def.specs.Changes.{is_named, owns}
+use Rattle.wf_def.specs.Definition.{Kind, Leaf, Scope, Choice, Foreach, Until, Branches, no_branch, branch, Graph, has, is_one, less_one, kind_of, needs_of, plain, shows}
 use Rattle.wf_asks.specs.Known.{is_among}
 use Rattle.wf_plan.specs.Once.{AreDistinct}
 use Rattle.wf_plan.specs.Plan.{EntryTree, PlanTree, own_numbers, passed_over, shape_of}

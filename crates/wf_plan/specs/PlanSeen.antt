@@ -1,7 +1,7 @@
 -- A plan as contracts see it.
 use Rattle.std.specs.Prelude.{ℕ, List, [], Option, Some, None, map, option_map, slice_get}
 use Rattle.std.specs.Global.{Vec}
-use Rattle.wf_layers.specs.Definition.{Need}
+use Rattle.wf_def.specs.Definition.{Need}
 use Rattle.wf_def.specs.Layered.{listed_of, pace}
 use Rattle.wf_plan.specs.Plan.{BranchTree, EntryTree, PlanTree, ShapeTree, leaf, scope, choice, foreach, until}
 use Rattle.wf_plan.specs.declared.plan.Entry.{Entry}

@@ -1,8 +1,8 @@
 //! What a plan has in the words of the laws of order. Each call tells a caller so, and does nothing.
 ghost use Rattle.std.specs.Prelude.{◌≡◌, ◌<◌, ℕ, length, true};
 ghost use Rattle.std.specs.List.{AllByRecursion};
-ghost use Rattle.wf_layers.specs.Definition.{has};
-ghost use Rattle.wf_layers.specs.Seen.{Once};
+ghost use Rattle.wf_def.specs.Definition.{has};
+ghost use Rattle.wf_def.specs.Seen.{Once};
 ghost use Rattle.wf_def.specs.ActionTree.{ActionTrees};
 ghost use Rattle.wf_def.specs.AllActions.{all_actions};
 ghost use Rattle.wf_def.specs.Layered.{layered};

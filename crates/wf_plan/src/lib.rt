@@ -18,3 +18,5 @@ mod tables;
 pub use laws::{actions_stand_once, plans_are_exact, plans_are_of_their_graphs};
 pub use plan::{Entry, Plan, Wait};
 pub use shape::{Branch, Shape};
+pub use wf_asks::{Acts, Instance, Known, OpenAt, Opens, RowAt, Rows, Store, WriterAt};
+pub use wf_def::Statuses;

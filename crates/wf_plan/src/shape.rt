@@ -3,7 +3,7 @@ ghost use Rattle.std.specs.Prelude.{◌≡◌, ◌∷◌, ◌++◌, [], IfOk, On
 ghost use Rattle.wf_def.specs.ActionSeen.{cases_seen, graph_tree, kind_tree};
 ghost use Rattle.wf_def.specs.ActionTree.{case_trees};
 ghost use Rattle.wf_def.specs.Layered.{layered, layered_kind};
-ghost use Rattle.wf_layers.specs.Definition.{is_one};
+ghost use Rattle.wf_def.specs.Definition.{is_one};
 ghost use Rattle.wf_plan.specs.Plan.{branch_of, case_branches, default_branch, own_numbers, shape_of};
 ghost use Rattle.wf_plan.specs.Plan.{passed_but, passed_over, taken_at, taken_of};
 ghost use Rattle.wf_plan.specs.PlanSeen.{branch_tree, branches_seen, shape_tree};

@@ -15,7 +15,7 @@ use Rattle.wf_plan.specs.Once.{NamesOnce, has_one}
 use Rattle.wf_plan.proofs.GraphLemmas.{none_of}
 use Rattle.wf_plan.proofs.NumberLemmas.{IsHad, all_had as each_had}
 use Rattle.wf_plan.proofs.PlanOfLemmas.{all_had}
-use Rattle.wf_refs.proofs.NumberLemmas.{names_are}
+use Rattle.wf_meant.proofs.NumberLemmas.{names_are}
 
 -- there are as many actions as names
 pub as_many : (g : ActionTrees) → length (graph_names g) ≡ length (all_actions g)

@@ -13,14 +13,14 @@ use Rattle.wf_def.specs.ActionTree.{ActionTree, action_name, action_number}
 use Rattle.wf_def.specs.AllActions.{numbered}
 use Rattle.wf_def.specs.DefTree.{DefTree}
 use Rattle.wf_record.specs.Record.{Row, RowTree, find_row}
-use Rattle.wf_meant.specs.Look.{instance, name_in}
-use Rattle.wf_meant.specs.Points.{action_named, graph_of}
-use Rattle.wf_meant.specs.Record.{rows_of}
-use Rattle.wf_meant.specs.Resubmitted.{rows_by}
+use Rattle.wf_shaped.specs.Look.{instance, name_in}
+use Rattle.wf_shaped.specs.Points.{action_named, graph_of}
+use Rattle.wf_shaped.specs.Record.{rows_of}
+use Rattle.wf_shaped.specs.Resubmitted.{rows_by}
 use Rattle.wf_meant_laws.specs.Listed.{Entry, StandFor, told_as}
-use Rattle.wf_says.specs.Says.{is_skipped}
+use Rattle.wf_shaped.specs.Says.{is_skipped}
 use Rattle.wf_shape.specs.Standing.{fails}
-use Rattle.wf_turns.specs.Reading.{reading}
+use Rattle.wf_shaped.specs.Reading.{reading}
 use Rattle.wf_shaped.specs.Fits.{fits_in}
 use Rattle.wf_shaped.specs.Failing.{IsLeastFailing}
 use Rattle.wf_shaped.specs.Told.{fails_by}

@@ -15,11 +15,11 @@ use Rattle.wf_def.specs.DefTree.{DefTree}
 use Rattle.wf_def.specs.Names.{find_cases, find_in, find_inside, first_of}
 use Rattle.wf_record.specs.Record.{Row, RowTree, find_row}
 use Rattle.wf_record.specs.declared.status.Status.{Status}
-use Rattle.wf_environment.specs.Environment.{Environment}
-use Rattle.wf_environment.specs.Statuses.{status_tree}
-use Rattle.wf_meant.specs.Look.{name_in}
-use Rattle.wf_meant.specs.Resubmitted.{rows_by}
-use Rattle.wf_meant.specs.Source.{source}
+use Rattle.wf_shaped.specs.Environment.{Environment}
+use Rattle.wf_shaped.specs.Statuses.{status_tree}
+use Rattle.wf_shaped.specs.Look.{name_in}
+use Rattle.wf_shaped.specs.Resubmitted.{rows_by}
+use Rattle.wf_shaped.specs.Source.{source}
 use Rattle.wf_redo.specs.Sets.{is_chosen}
 use Rattle.wf_resubmit.specs.Least.{IsLeastOf, NoneHolds, least_of}
 use Rattle.wf_resubmit.specs.Refused.{has_run, is_idle, is_missing, no_action, not_run, number_of, numbers_of, ran_as, refused_by_loops}
@@ -30,7 +30,7 @@ use Rattle.wf_resubmit.proofs.LeastLemmas.{least_is}
 use Rattle.wf_shaped.proofs.ExactLemmas.{AreKnown}
 use Rattle.wf_shaped.proofs.ListLemmas.{In, in_left, in_right}
 use Rattle.wf_prepare.specs.Prepared.{digest_of}
-use Rattle.wf_standing.specs.Whole.{order_in}
+use Rattle.wf_meant_laws.specs.Whole.{order_in}
 use Rattle.wf_prepare.proofs.FailingLemmas.{numbered_is, same_some}
 
 -- ---- the action of a name is among all, and has that name

@@ -15,18 +15,18 @@ use Rattle.wf_def.specs.DefTree.{DefTree}
 use Rattle.wf_def.specs.Layered.{layered_kind}
 use Rattle.wf_first.specs.First.{first_broken}
 use Rattle.wf_order.specs.Order.{Before}
-use Rattle.wf_uses.specs.UsesTree.{ordered}
-use Rattle.wf_standing.specs.Standing.{StandingTree, number_at, standings_of}
-use Rattle.wf_standing.specs.Whole.{whole_of}
-use Rattle.wf_breaks.specs.declared.rule.Rule.{Rule}
-use Rattle.wf_rules.specs.Broken.{broken_of, offences, rules_in_order}
+use Rattle.wf_shaped.specs.UsesTree.{ordered}
+use Rattle.wf_meant_laws.specs.Standing.{StandingTree, number_at, standings_of}
+use Rattle.wf_meant_laws.specs.Whole.{whole_of}
+use Rattle.wf_meant_laws.specs.Rule.{Rule}
+use Rattle.wf_meant_laws.specs.Broken.{broken_of, offences, rules_in_order}
 use Rattle.wf_record.specs.Record.{Row}
-use Rattle.wf_environment.specs.Environment.{Environment}
-use Rattle.wf_meant.specs.Points.{graph_of}
-use Rattle.wf_meant.specs.Record.{depth_of}
-use Rattle.wf_meant.specs.Source.{source, table_of}
+use Rattle.wf_shaped.specs.Environment.{Environment}
+use Rattle.wf_shaped.specs.Points.{graph_of}
+use Rattle.wf_shaped.specs.Record.{depth_of}
+use Rattle.wf_shaped.specs.Source.{source, table_of}
 use Rattle.wf_shaped.specs.Sorts.{initials_of, sort_of}
-use Rattle.wf_turns.specs.Reading.{reading}
+use Rattle.wf_shaped.specs.Reading.{reading}
 use Rattle.wf_shaped.proofs.ExactLemmas.{AreKnown}
 use Rattle.wf_shaped.proofs.ListLemmas.{In, in_map}
 use Rattle.wf_prepare.proofs.ComeLemmas.{row_came}

@@ -15,13 +15,13 @@ use Rattle.wf_def.specs.AllActions.{all_actions, has_number, numbered}
 use Rattle.wf_def.specs.DefTree.{DefTree}
 use Rattle.wf_def.specs.Layered.{layered_kind}
 use Rattle.wf_record.specs.Record.{RowTree, find_row}
-use Rattle.wf_meant.specs.Look.{name_in}
-use Rattle.wf_meant.specs.Points.{action_named, graph_of, has_action_name}
-use Rattle.wf_meant.specs.Resubmitted.{rows_by}
-use Rattle.wf_says.specs.Says.{is_skipped}
+use Rattle.wf_shaped.specs.Look.{name_in}
+use Rattle.wf_shaped.specs.Points.{action_named, graph_of, has_action_name}
+use Rattle.wf_shaped.specs.Resubmitted.{rows_by}
+use Rattle.wf_shaped.specs.Says.{is_skipped}
 use Rattle.wf_shape.specs.Standing.{Standing, fails, fails_as}
 use Rattle.wf_ways.proofs.StandLemmas.{stands_along}
-use Rattle.wf_turns.specs.Reading.{reading}
+use Rattle.wf_shaped.specs.Reading.{reading}
 use Rattle.wf_shaped.specs.Fits.{fits_in}
 use Rattle.wf_shaped.specs.Failing.{IsLeastFailing}
 use Rattle.wf_shaped.specs.Told.{fails_by}

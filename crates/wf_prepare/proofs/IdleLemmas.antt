@@ -13,11 +13,11 @@ use Rattle.wf_def.specs.DefTree.{DefTree}
 use Rattle.wf_def.specs.Layered.{layered, layered_cases, layered_kind}
 use Rattle.wf_def.specs.declared.sort.Sort.{Sort}
 use Rattle.wf_record.specs.Record.{Row}
-use Rattle.wf_says.specs.Laws.{IsForeach, IsUntil, SkippedSaysNothing}
-use Rattle.wf_says.specs.Says.{is_skipped}
-use Rattle.wf_says.specs.Told.{items_said, rounds_said}
+use Rattle.wf_shaped.specs.Laws.{IsForeach, IsUntil, SkippedSaysNothing}
+use Rattle.wf_shaped.specs.Says.{is_skipped}
+use Rattle.wf_shaped.specs.SaysTold.{items_said, rounds_said}
 use Rattle.wf_shape.specs.Law.{Idle, IdleAny, IdleIn}
-use Rattle.wf_turns.specs.Reading.{reading}
+use Rattle.wf_shaped.specs.Reading.{reading}
 use Rattle.wf_shaped.specs.Fits.{fits_as, fits_in}
 use Rattle.wf_shaped.specs.Sorts.{sort_at}
 

@@ -11,17 +11,18 @@ use Rattle.wf_def.specs.ActionTree.{select, set_to, switch, switch_else, termina
 use Rattle.wf_def.specs.AllActions.{all_actions, numbered}
 use Rattle.wf_def.specs.DefTree.{DefTree}
 use Rattle.wf_def.specs.declared.sort.Sort.{Sort}
-use Rattle.wf_reading.proofs.RunAfterLemmas.{append-first, append-second}
-use Rattle.wf_refs.specs.Sites.{uses_at_inputs, writes_of}
-use Rattle.wf_refs.specs.declared.site.Site.{Site}
-use Rattle.wf_uses.specs.UsesTree.{UsesTree, ordered}
-use Rattle.wf_standing.specs.Kinds.{is_initialize}
-use Rattle.wf_standing.specs.Standing.{StandingTree, kind_at, number_at, pointer_at, standings_of}
-use Rattle.wf_standing.specs.Whole as whole
-use Rattle.wf_standing.specs.Whole.{InitialisedTree, Whole, initialised_among, initialised_by, is_again, whole_of}
-use Rattle.wf_breaks.specs.Rules.{action_breaks, breaks_at, breaks_if, breaks_itself, is_early, is_misread, is_miswritten, is_uninitialised}
-use Rattle.wf_breaks.specs.declared.rule.Rule.{Rule}
-use Rattle.wf_rules.specs.Broken.{offences, told}
+use Rattle.wf_shaped.proofs.RunAfterLemmas.{append-first, append-second}
+use Rattle.wf_shaped.specs.Sites.{uses_at_inputs, writes_of}
+use Rattle.wf_shaped.specs.Site.{Site}
+use Rattle.wf_shaped.specs.UsesTree.{UsesTree, ordered}
+use Rattle.wf_meant_laws.specs.Kinds.{is_initialize}
+use Rattle.wf_meant_laws.specs.Standing.{StandingTree, kind_at, number_at, pointer_at, standings_of}
+use Rattle.wf_meant_laws.specs.Whole as whole
+use Rattle.wf_meant_laws.specs.Whole.{InitialisedTree, Whole, initialised_among, initialised_by, is_again, whole_of}
+use Rattle.wf_meant_laws.specs.Rules.{action_breaks, breaks_at, breaks_if, breaks_itself, is_early}
+use Rattle.wf_meant_laws.specs.Rules.{is_misread, is_miswritten, is_uninitialised}
+use Rattle.wf_meant_laws.specs.Rule.{Rule}
+use Rattle.wf_meant_laws.specs.Broken.{offences, told}
 use Rattle.wf_shaped.proofs.ListLemmas.{In, in_either, of_map}
 use Rattle.wf_shaped.specs.Sorts.{all_initials, initials_of, sort_by, sort_of}
 use Rattle.wf_prepare.proofs.FailingLemmas.{clash}

@@ -16,24 +16,24 @@ use Rattle.wf_def.specs.AllActions.{numbered}
 use Rattle.wf_def.specs.DefTree.{DefTree}
 use Rattle.wf_def.specs.Layered.{layered_kind}
 use Rattle.wf_def.specs.declared.sort.Sort.{Sort}
-use Rattle.wf_refs.specs.Sites.{writes_of}
+use Rattle.wf_shaped.specs.Sites.{writes_of}
 use Rattle.wf_record.specs.Record.{Row, RowTree}
 use Rattle.wf_record.specs.declared.status.Status.{Status}
-use Rattle.wf_variables.specs.Given.{gives}
-use Rattle.wf_variables.specs.Rows.{GivesOne}
+use Rattle.wf_shaped.specs.Given.{gives}
+use Rattle.wf_shaped.specs.VariablesRows.{GivesOne}
 use Rattle.wf_loops.specs.Loops.{loops_of}
 use Rattle.wf_shape.specs.Standing.{called, fails, fails_as}
 use Rattle.wf_ways.proofs.StandLemmas.{stands_along}
-use Rattle.wf_says.specs.Says.{fits_kind, is_skipped, says, succeeded, succeeds, tells_initials, tells_one}
-use Rattle.wf_meant.specs.Points.{action_named, graph_of}
-use Rattle.wf_meant.specs.Resubmitted.{rows_by}
-use Rattle.wf_meant.specs.Rows.{iterations_of, turns_at, turns_said}
-use Rattle.wf_meant.specs.Variables.{given_as}
+use Rattle.wf_shaped.specs.Says.{fits_kind, is_skipped, says, succeeded, succeeds, tells_initials, tells_one}
+use Rattle.wf_shaped.specs.Points.{action_named, graph_of}
+use Rattle.wf_shaped.specs.Resubmitted.{rows_by}
+use Rattle.wf_shaped.specs.Rows.{iterations_of, turns_at, turns_said}
+use Rattle.wf_shaped.specs.Variables.{given_as}
 use Rattle.wf_meant_laws.specs.Answered.{GiveWhatTheyWrite}
 use Rattle.wf_meant_laws.specs.Tables.{AreWhole}
 use Rattle.wf_meant_laws.specs.Writers.{writes_if}
 use Rattle.wf_meant_laws.proofs.WholeLemmas.{round_of}
-use Rattle.wf_turns.specs.Reading.{reading}
+use Rattle.wf_shaped.specs.Reading.{reading}
 use Rattle.wf_shaped.specs.Fits.{fits_as, fits_in}
 use Rattle.wf_shaped.specs.Sorts.{sort_at}
 use Rattle.wf_shaped.specs.Failing.{IsLeastFailing}

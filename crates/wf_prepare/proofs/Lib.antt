@@ -1,3 +1,4 @@
+pub use Rattle.wf_shaped.proofs.Terms
 mod NamedLemmas
 mod FailingLemmas
 mod IdleLemmas

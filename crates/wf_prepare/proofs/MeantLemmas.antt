@@ -21,9 +21,9 @@ use Rattle.wf_val.proofs.ValueTreeLemmas.{items-trees}
 use Rattle.wf_answers.specs.AnswerTree.{AnswerTree}
 use Rattle.wf_look.specs.Told.{Told}
 use Rattle.wf_template.specs.DataTree.{DataTree}
-use Rattle.wf_eval.specs.TemplateValue.{template_value}
-use Rattle.wf_eval.specs.TreeValue.{tree_value}
-use Rattle.wf_eval.specs.Truth.{truth_of}
+use Rattle.wf_shaped.specs.TemplateValue.{template_value}
+use Rattle.wf_shaped.specs.TreeValue.{tree_value}
+use Rattle.wf_shaped.specs.Truth.{truth_of}
 use Rattle.wf_def.specs.ActionTree.{ActionTree, ActionTrees, CaseTrees, action_kind, action_name, KindTree, append_array, append_string}
 use Rattle.wf_def.specs.ActionTree.{branch, compose, connector, decrement, foreach, increment, initialize, join, parse_json, query}
 use Rattle.wf_def.specs.ActionTree.{response, scope, select, set_to, switch, switch_else, terminate, until, wait}
@@ -31,29 +31,29 @@ use Rattle.wf_def.specs.AllActions.{kind_actions, numbered}
 use Rattle.wf_def.specs.DefTree.{DefTree}
 use Rattle.wf_def.specs.Layered.{layered_kind}
 use Rattle.wf_def.specs.declared.sort.Sort.{Sort}
-use Rattle.wf_data.specs.Made.{MadeTree, fitting}
-use Rattle.wf_data.specs.Simple.{made_terminate, run_status_of, terminated}
-use Rattle.wf_done.specs.Leaf.{begun_from, done_of, ended}
-use Rattle.wf_opening.specs.Decisions.{chosen_as, decided, each, each_as, held_as, too_many}
-use Rattle.wf_opening.specs.Verdicts.{VerdictTree, astray, met}
+use Rattle.wf_shaped.specs.Made.{MadeTree, fitting}
+use Rattle.wf_shaped.specs.Simple.{made_terminate, run_status_of, terminated}
+use Rattle.wf_shaped.specs.Leaf.{begun_from, done_of, ended}
+use Rattle.wf_shaped.specs.Decisions.{chosen_as, decided, each, each_as, held_as, too_many}
+use Rattle.wf_shaped.specs.Verdicts.{VerdictTree, astray, met}
 use Rattle.wf_record.specs.Record.{Row}
 use Rattle.wf_record.specs.declared.attempt.Try.{Try}
 use Rattle.wf_record.specs.declared.status.RunStatus.{RunStatus}
 use Rattle.wf_record.specs.declared.status.Status.{Status}
-use Rattle.wf_environment.specs.Environment.{Environment, facts_of}
-use Rattle.wf_environment.specs.Statuses.{status_tree}
-use Rattle.wf_says.specs.Says as saying
-use Rattle.wf_says.specs.Says.{has_status, is_boolean, is_count, is_few, is_skipped, is_text_or_number, says, says_or_nothing}
-use Rattle.wf_says.specs.Says.{says_rounds, skips}
-use Rattle.wf_says.specs.Told.{told_rounds}
-use Rattle.wf_meant.specs.Containers.{any_terminated, case_status, close_branch, close_foreach, close_until, closed, closed_as, cut_short}
-use Rattle.wf_meant.specs.Containers.{iterations_value, last_status, status_of, unless_cut}
-use Rattle.wf_meant.specs.Look.{decided_by, instance, told_at}
-use Rattle.wf_meant.specs.Points.{graph_of}
-use Rattle.wf_meant.specs.Rows.{row_of, skipped}
-use Rattle.wf_meant.specs.Source.{begun, close_of, finished, source}
+use Rattle.wf_shaped.specs.Environment.{Environment, facts_of}
+use Rattle.wf_shaped.specs.Statuses.{status_tree}
+use Rattle.wf_shaped.specs.Says as saying
+use Rattle.wf_shaped.specs.Says.{has_status, is_boolean, is_count, is_few, is_skipped, is_text_or_number, says, says_or_nothing}
+use Rattle.wf_shaped.specs.Says.{says_rounds, skips}
+use Rattle.wf_shaped.specs.SaysTold.{told_rounds}
+use Rattle.wf_shaped.specs.Containers.{any_terminated, case_status, close_branch, close_foreach, close_until, closed, closed_as, cut_short}
+use Rattle.wf_shaped.specs.Containers.{iterations_value, last_status, status_of, unless_cut}
+use Rattle.wf_shaped.specs.Look.{decided_by, instance, told_at}
+use Rattle.wf_shaped.specs.Points.{graph_of}
+use Rattle.wf_shaped.specs.Rows.{row_of, skipped}
+use Rattle.wf_shaped.specs.Source.{begun, close_of, finished, source}
 use Rattle.wf_shaped.specs.Sorts.{sort_at}
-use Rattle.wf_turns.specs.Reading.{reading}
+use Rattle.wf_shaped.specs.Reading.{reading}
 use Rattle.wf_prepare.proofs.ComeLemmas as come
 use Rattle.wf_prepare.proofs.ComeLemmas.{Came, went_round}
 use Rattle.wf_prepare.proofs.FailingLemmas.{same_some}

@@ -21,14 +21,14 @@ use Rattle.wf_def.specs.ActionTree.{ActionTree, action_name}
 use Rattle.wf_def.specs.AllActions.{all_actions}
 use Rattle.wf_def.specs.DefTree.{DefTree}
 use Rattle.wf_def.specs.Names.{graph_names}
-use Rattle.wf_reading.specs.Meant.{names_of}
-use Rattle.wf_reading.specs.Numbers.{number_among}
-use Rattle.wf_reading.specs.Read.{IsRead}
-use Rattle.wf_reading.proofs.NameLemmas.{names_agree}
-use Rattle.wf_reading.proofs.ReadLemmas.{inner-well_formed}
-use Rattle.wf_reading.proofs.RunAfterLemmas.{append-first, append-second, map-none}
-use Rattle.wf_refs.proofs.NumberLemmas.{names_are}
-use Rattle.wf_meant.specs.Points.{action_named, has_action_name}
+use Rattle.wf_shaped.specs.Meant.{names_of}
+use Rattle.wf_shaped.specs.Numbers.{number_among}
+use Rattle.wf_shaped.specs.Read.{IsRead}
+use Rattle.wf_shaped.proofs.NameLemmas.{names_agree}
+use Rattle.wf_shaped.proofs.ReadLemmas.{inner-well_formed}
+use Rattle.wf_shaped.proofs.RunAfterLemmas.{append-first, append-second, map-none}
+use Rattle.wf_shaped.proofs.NumberLemmas.{names_are}
+use Rattle.wf_shaped.specs.Points.{action_named, has_action_name}
 
 here-none : (b : Bool) → here b ≡ [] → b ≡ false
 here-none true is = absurd (cc)

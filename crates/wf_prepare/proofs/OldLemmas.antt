@@ -7,10 +7,10 @@ use Rattle.wf_def.specs.ActionTree.{switch, switch_else, foreach, until}
 use Rattle.wf_def.specs.AllActions.{numbered}
 use Rattle.wf_def.specs.DefTree.{DefTree}
 use Rattle.wf_record.specs.Record.{Row, RowTree}
-use Rattle.wf_opening.specs.Decisions.{taken}
-use Rattle.wf_meant.specs.Resubmitted.{recalled, rows_by, said, said_by}
-use Rattle.wf_says.specs.Told.{taken_by}
-use Rattle.wf_turns.specs.Reading.{taken_in}
+use Rattle.wf_shaped.specs.Decisions.{taken}
+use Rattle.wf_shaped.specs.Resubmitted.{recalled, rows_by, said, said_by}
+use Rattle.wf_shaped.specs.SaysTold.{taken_by}
+use Rattle.wf_shaped.specs.Reading.{taken_in}
 
 -- what a row says that was decided takes the branch that is read off the row
 said_taken : (kind : KindTree) (row : Row) → taken (said kind row) ≡ taken_by kind row

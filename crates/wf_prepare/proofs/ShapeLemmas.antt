@@ -10,14 +10,14 @@ use Rattle.wf_def.specs.ActionTree.{KindTree}
 use Rattle.wf_def.specs.DefTree.{DefTree}
 use Rattle.wf_record.specs.Record.{Row, RowTree}
 use Rattle.wf_record.specs.declared.status.Status.{Status}
-use Rattle.wf_environment.specs.Environment.{Environment}
-use Rattle.wf_environment.specs.Statuses.{status_tree}
-use Rattle.wf_meant.specs.Points.{action_named, graph_of}
-use Rattle.wf_meant.specs.Resubmitted.{rows_by}
-use Rattle.wf_meant.specs.Source.{source}
-use Rattle.wf_says.specs.Laws.{SkippedSaysNothing}
-use Rattle.wf_says.specs.Says.{is_skipped, skips}
-use Rattle.wf_turns.specs.Reading.{reading}
+use Rattle.wf_shaped.specs.Environment.{Environment}
+use Rattle.wf_shaped.specs.Statuses.{status_tree}
+use Rattle.wf_shaped.specs.Points.{action_named, graph_of}
+use Rattle.wf_shaped.specs.Resubmitted.{rows_by}
+use Rattle.wf_shaped.specs.Source.{source}
+use Rattle.wf_shaped.specs.Laws.{SkippedSaysNothing}
+use Rattle.wf_shaped.specs.Says.{is_skipped, skips}
+use Rattle.wf_shaped.specs.Reading.{reading}
 use Rattle.wf_shaped.specs.Fits.{fits_in}
 use Rattle.wf_shaped.specs.Failing.{IsLeastFailing}
 use Rattle.wf_shaped.proofs.ExactLemmas.{AreKnown}

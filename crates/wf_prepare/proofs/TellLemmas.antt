@@ -12,12 +12,12 @@ use Rattle.wf_val.proofs.ValueTreeLemmas.{items-trees}
 use Rattle.wf_def.specs.ActionTree.{InitialTree}
 use Rattle.wf_def.specs.Sorts.{has_sort}
 use Rattle.wf_def.specs.declared.sort.Sort.{Sort}
-use Rattle.wf_data.specs.Made.{one_member}
-use Rattle.wf_variables.specs.Given.{gives, item_value, items_value, or_else}
-use Rattle.wf_variables.specs.Initials.{body_of, given_item}
-use Rattle.wf_variables.specs.Rows.{AreItems, GivesAll, GivesOne, IsItem}
-use Rattle.wf_says.specs.Says.{Variable, body_in, initialized, is_name_of, is_of, sole_body, tells, tells_body, tells_each}
-use Rattle.wf_says.specs.Says.{tells_initials, tells_list, tells_members, tells_one, tells_told}
+use Rattle.wf_shaped.specs.Made.{one_member}
+use Rattle.wf_shaped.specs.Given.{gives, item_value, items_value, or_else}
+use Rattle.wf_shaped.specs.Initials.{body_of, given_item}
+use Rattle.wf_shaped.specs.VariablesRows.{AreItems, GivesAll, GivesOne, IsItem}
+use Rattle.wf_shaped.specs.Says.{Variable, body_in, initialized, is_name_of, is_of, sole_body, tells, tells_body, tells_each}
+use Rattle.wf_shaped.specs.Says.{tells_initials, tells_list, tells_members, tells_one, tells_told}
 
 pub same_name : (k n : List ℕ) → bytes_eq k n ≡ true → k ≡ n
 same_name k n e = (bytes_eq-Decides k n).0 e

@@ -25,29 +25,29 @@ use Rattle.wf_def.specs.DefTree.{DefTree}
 use Rattle.wf_def.specs.Layered.{layered_kind}
 use Rattle.wf_def.specs.Sorts.{has_sort}
 use Rattle.wf_def.specs.declared.sort.Sort.{Sort}
-use Rattle.wf_refs.specs.Sites.{writes_of}
-use Rattle.wf_data.specs.Made.{MadeTree}
-use Rattle.wf_variables.specs.Given.{gives}
-use Rattle.wf_variables.specs.Initials.{made_initialize}
-use Rattle.wf_variables.specs.Rows.{GivesAll, GivesOne, KeepsType}
-use Rattle.wf_variables.specs.Writing as writing
-use Rattle.wf_variables.specs.Writing.{Change, amount, changed}
-use Rattle.wf_eval.specs.TreeValue.{tree_value}
+use Rattle.wf_shaped.specs.Sites.{writes_of}
+use Rattle.wf_shaped.specs.Made.{MadeTree}
+use Rattle.wf_shaped.specs.Given.{gives}
+use Rattle.wf_shaped.specs.Initials.{made_initialize}
+use Rattle.wf_shaped.specs.VariablesRows.{GivesAll, GivesOne, KeepsType}
+use Rattle.wf_shaped.specs.Writing as writing
+use Rattle.wf_shaped.specs.Writing.{Change, amount, changed}
+use Rattle.wf_shaped.specs.TreeValue.{tree_value}
 use Rattle.wf_loops.specs.Loops.{loops_of}
-use Rattle.wf_done.specs.Done.{DoneTree, faulted, succeeded}
-use Rattle.wf_done.specs.Leaf.{begun_from, done_of, ended, made_by}
+use Rattle.wf_shaped.specs.Done.{DoneTree, faulted, succeeded}
+use Rattle.wf_shaped.specs.Leaf.{begun_from, done_of, ended, made_by}
 use Rattle.wf_record.specs.Record.{Row}
 use Rattle.wf_record.specs.declared.attempt.Try.{Try}
 use Rattle.wf_record.specs.declared.status.Status.{Status}
-use Rattle.wf_environment.specs.Environment.{Environment, facts_of}
-use Rattle.wf_says.specs.Says as saying
-use Rattle.wf_says.specs.Says.{says, tells_initials, tells_one}
-use Rattle.wf_meant.specs.Look.{instance, told_at}
-use Rattle.wf_meant.specs.Points.{Point, graph_of, point_of, sees}
-use Rattle.wf_meant.specs.Rows.{row_of, skipped}
-use Rattle.wf_meant.specs.Source.{begun, finished, source}
-use Rattle.wf_meant.specs.Variables.{Written, given_as, given_by, indexes_from, instances_at, last_from, later_of, seen_by, variable_at}
-use Rattle.wf_meant.specs.Variables.{writes, written_at, written_before}
+use Rattle.wf_shaped.specs.Environment.{Environment, facts_of}
+use Rattle.wf_shaped.specs.Says as saying
+use Rattle.wf_shaped.specs.Says.{says, tells_initials, tells_one}
+use Rattle.wf_shaped.specs.Look.{instance, told_at}
+use Rattle.wf_shaped.specs.Points.{Point, graph_of, point_of, sees}
+use Rattle.wf_shaped.specs.Rows.{row_of, skipped}
+use Rattle.wf_shaped.specs.Source.{begun, finished, source}
+use Rattle.wf_shaped.specs.Variables.{Written, given_as, given_by, indexes_from, instances_at, last_from, later_of, seen_by, variable_at}
+use Rattle.wf_shaped.specs.Variables.{writes, written_at, written_before}
 use Rattle.wf_meant_laws.proofs.ListLemmas.{all_flat, all_given, all_kept, all_mapped}
 use Rattle.wf_shaped.specs.Sorts.{changes, initials_of, sort_at, sort_of}
 use Rattle.wf_shaped.proofs.ListLemmas.{In}

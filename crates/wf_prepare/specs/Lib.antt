@@ -1,2 +1,15 @@
+pub use Rattle.wf_meant_laws.specs.Broken
+pub use Rattle.wf_resubmit.specs.Refused
+pub use Rattle.wf_resubmit.specs.declared.fault.ResubmitFault
+pub use Rattle.wf_shaped.specs.Environment
+pub use Rattle.wf_shaped.specs.Points
+pub use Rattle.wf_shaped.specs.Read
+pub use Rattle.wf_shaped.specs.ReadSeen
+pub use Rattle.wf_shaped.specs.Record
+pub use Rattle.wf_shaped.specs.Resubmitted
+pub use Rattle.wf_shaped.specs.Runs
+pub use Rattle.wf_shaped.specs.Source
+pub use Rattle.wf_shaped.specs.Starts
+pub use Rattle.wf_shaped.specs.TriggerFault
 pub mod Prepared
 pub mod Old

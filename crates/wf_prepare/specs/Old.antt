@@ -7,10 +7,10 @@ use Rattle.wf_record.specs.Record.{RecordTree, Row}
 use Rattle.wf_resubmit.specs.Refused.{numbers_of}
 use Rattle.wf_resubmit.specs.declared.fault.ResubmitFault.{ResubmitFault}
 use Rattle.wf_shaped.specs.Fits.{fits_in}
-use Rattle.wf_meant.specs.Points.{graph_of}
-use Rattle.wf_meant.specs.Record.{depth_of}
-use Rattle.wf_meant.specs.Resubmitted.{is_chosen}
-use Rattle.wf_says.specs.Says.{is_skipped}
+use Rattle.wf_shaped.specs.Points.{graph_of}
+use Rattle.wf_shaped.specs.Record.{depth_of}
+use Rattle.wf_shaped.specs.Resubmitted.{is_chosen}
+use Rattle.wf_shaped.specs.Says.{is_skipped}
 use Rattle.wf_prepare.specs.Prepared.{IsRefused, MayBeResubmitted}
 
 module _ (d : DefTree) (names : List (List ℕ)) where

@@ -4,7 +4,7 @@ use Rattle.std.specs.Prelude.{◌≡◌, ℕ, List, Option, Some, None}
 use Rattle.wf_val.specs.declared.address.Address.{Address}
 use Rattle.wf_val.specs.declared.digest.Digest.{Digest}
 use Rattle.wf_def.specs.DefTree.{DefTree}
-use Rattle.wf_standing.specs.Whole.{order_in}
+use Rattle.wf_meant_laws.specs.Whole.{order_in}
 use Rattle.wf_record.specs.Record.{RecordTree, RowTree}
 use Rattle.wf_resubmit.specs.Refused.{refused}
 use Rattle.wf_resubmit.specs.declared.fault.ResubmitFault.{ResubmitFault}

@@ -19,5 +19,6 @@ pub use laws::{
     rows_have_the_right_shape, what_is_chosen_stands_in_no_loop,
 };
 pub use preparing::prepare;
-pub use wf_meant_laws::a_definition_is_an_instance;
+pub use wf_meant_laws::{Checked, a_definition_is_an_instance};
 pub use wf_resubmit::ResubmitFault;
+pub use wf_shaped::{TriggerFault, attempts_are_few};

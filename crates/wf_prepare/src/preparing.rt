@@ -1,6 +1,6 @@
 //! What is asked of a record before its run is resubmitted.
 ghost use Rattle.std.specs.Prelude.{◌≡◌, ◌≢◌, IfErr, IfOk, None, OnOk, Some};
-ghost use Rattle.wf_reading.specs.ReadSeen.{def_tree};
+ghost use Rattle.wf_shaped.specs.ReadSeen.{def_tree};
 ghost use Rattle.wf_record.specs.Seen.{record_tree};
 ghost use Rattle.wf_resubmit.specs.Refused.{numbers_of};
 ghost use Rattle.wf_resubmit.specs.declared.fault.ResubmitFault.{ResubmitFault};
@@ -8,11 +8,10 @@ ghost use Rattle.wf_shaped.specs.Failing.{IsLeastFailing};
 ghost use Rattle.wf_prepare.specs.Prepared.{IsMisshapen, IsRefused, MayBeResubmitted, names_refused};
 
 use std::alloc::Global;
-use wf_reading::Def;
+use wf_meant_laws::Checked;
 use wf_record::Record;
 use wf_resubmit::{ResubmitFault, chosen};
-use wf_rules::Checked;
-use wf_shaped::least_failing;
+use wf_shaped::{Def, least_failing};
 use wf_val::{Name, Schedule};
 
 fn names_accepted(

@@ -14,7 +14,7 @@ use Rattle.wf_layers.proofs.Basics.{two, when, unless}
 use Rattle.wf_layers.proofs.Tables.{own_is, own_self}
 use Rattle.wf_asks.specs.Instances.{address_of, instance_cmp, instance_of, instance_total, table_of}
 use Rattle.wf_asks.specs.declared.instance.Instance.{Instance}
-use Rattle.wf_tables.proofs.TableLemmas.{table_take}
+use Rattle.wf_meter.proofs.TableLemmas.{table_take}
 use Rattle.wf_meter.specs.Parts.{worth}
 use Rattle.wf_meter.proofs.SumLemmas.{sums_differ}
 use Rattle.wf_meter.proofs.TouchLemmas.{first_not}

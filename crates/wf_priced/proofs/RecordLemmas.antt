@@ -10,7 +10,7 @@ use Rattle.wf_layers.specs.Machine.{or_else}
 use Rattle.wf_layers.specs.Meaning.{only}
 use Rattle.wf_layers.specs.Record.{HasRecord, key}
 use Rattle.wf_asks.specs.Instances.{instance_cmp, instance_of, instance_total, table_of}
-use Rattle.wf_tables.proofs.TableLemmas.{own_place, table_put}
+use Rattle.wf_meter.proofs.TableLemmas.{own_place, table_put}
 use Rattle.wf_meter.proofs.PriceLemmas.{lists_table}
 use Rattle.wf_priced.specs.Priced.{TellsRows}
 use Rattle.wf_priced.proofs.ListedLemmas.{by_keys}

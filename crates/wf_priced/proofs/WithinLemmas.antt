@@ -14,8 +14,8 @@ use Rattle.wf_asks.specs.Known.{open_tree}
 use Rattle.wf_asks.specs.declared.instance.Instance.{Instance}
 use Rattle.wf_asks.specs.declared.known.OpenAt.{OpenAt}
 use Rattle.wf_asks.specs.declared.known.RowAt.{RowAt}
-use Rattle.wf_tables.specs.Tables.{leaf_tree, state_of}
-use Rattle.wf_tables.specs.declared.entries.LeafAt.{LeafAt}
+use Rattle.wf_meter.specs.Tables.{leaf_tree, state_of}
+use Rattle.wf_meter.specs.LeafAt.{LeafAt}
 use Rattle.wf_meter.specs.Cost.{leaf_cost, open_cost, opens_cost, rows_cost, running_cost}
 use Rattle.wf_meter.proofs.PriceLemmas.{lists_table}
 use Rattle.wf_priced.specs.Priced.{PaysItsParts, TellsRows}

@@ -22,8 +22,8 @@ ghost use Rattle.wf_kept.specs.Reached.{IsReached};
 ghost use Rattle.wf_asks.specs.Instances.{address_of, instance_cmp};
 ghost use Rattle.wf_asks.specs.declared.known.OpenAt.{OpenAt};
 ghost use Rattle.wf_asks.specs.declared.known.RowAt.{RowAt};
-ghost use Rattle.wf_tables.specs.Tables.{state_of};
-ghost use Rattle.wf_tables.specs.declared.entries.LeafAt.{LeafAt};
+ghost use Rattle.wf_meter.specs.Tables.{state_of};
+ghost use Rattle.wf_meter.specs.LeafAt.{LeafAt};
 ghost use Rattle.wf_meter.specs.Cost.{opens_cost, rows_cost, running_cost};
 ghost use Rattle.wf_priced.specs.Priced.{PaysItsParts, TellsRows};
 

@@ -2,7 +2,7 @@
 use Rattle.std.proofs.Common.{◌≡◌, ◌≢◌, List, ℕ, refl, subst}
 use Rattle.wf_answers.specs.Inputs.{InputsTree}
 use Rattle.wf_def.specs.DefTree.{DefTree}
-use Rattle.wf_prepare.specs.Prepared.{IsRefused}
+use Rattle.wf_told.specs.Prepared.{IsRefused}
 use Rattle.wf_record.specs.Record.{RecordTree}
 use Rattle.wf_resubmit.specs.declared.fault.ResubmitFault.{ResubmitFault}
 use Rattle.wf_told.specs.Resubmissions.{IsNotResubmitted, refused}

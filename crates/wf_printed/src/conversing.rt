@@ -3,9 +3,7 @@ use crate::printer::Printer;
 use std::alloc::Global;
 use wf_answers::Inputs;
 use wf_outside::{Sink, Source};
-use wf_rules::Checked;
-use wf_session::converse;
-use wf_stands::Converses;
+use wf_session::{Checked, Converses, converse};
 use wf_trigger::Start;
 
 impl Converses for Printer {

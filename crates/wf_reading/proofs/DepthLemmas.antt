@@ -8,11 +8,11 @@ use Rattle.std.proofs.lemmas.Slice.Eq.{bytes_eq-Decides}
 use Rattle.wf_val.specs.Get.{name_of}
 use Rattle.wf_val.specs.NameOrder.{bytes_cmp, IsInNameOrder}
 use Rattle.wf_val.specs.ValueTree.{Member}
-use Rattle.wf_json.specs.Pointer.{flagged}
+use Rattle.wf_form.specs.Pointer.{flagged}
 use Rattle.wf_paths.specs.Path.{IsPath}
 use Rattle.wf_paths.specs.Table.{at, edge_of, names as names_place, paths_of}
-use Rattle.wf_after.specs.Entries.{entries_of, has_bad_entry, is_bad_entry, place_in}
-use Rattle.wf_after.specs.Waits.{bad_run_after, nodes, offenders, offends, paths_in, places_of, with_place}
+use Rattle.wf_form.specs.Entries.{entries_of, has_bad_entry, is_bad_entry, place_in}
+use Rattle.wf_form.specs.Waits.{bad_run_after, nodes, offenders, offends, paths_in, places_of, with_place}
 use Rattle.wf_reading.proofs.PartLemmas.{bytes_eq-sym, lesser_differs}
 
 -- ---- counting

@@ -5,7 +5,7 @@ use Rattle.std.proofs.lemmas.Map.Text.{is_eq-slice_cmp}
 use Rattle.wf_val.specs.NameOrder.{find_named}
 use Rattle.wf_val.specs.ValueTree.{ValueTree, Member, members, members_count, node_count}
 use Rattle.wf_val.specs.Get.{name_of, value_of}
-use Rattle.wf_json.specs.Pointer.{member_step}
+use Rattle.wf_form.specs.Pointer.{member_step}
 use Rattle.wf_def.specs.ActionTree.{ActionTrees, no_actions, CaseTree}
 use Rattle.wf_reading.specs.Graphs.{branch_in, branch_of, cases_in, cases_of, graph_in, graph_of}
 

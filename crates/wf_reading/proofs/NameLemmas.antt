@@ -6,9 +6,9 @@ use Rattle.wf_val.specs.Get.{get, name_of, value_of}
 use Rattle.wf_val.specs.NameOrder.{IsInNameOrder}
 use Rattle.wf_val.specs.ValueTree.{ValueTree, null, boolean, number, text, list, object, MemberTrees, no_members, member_then, pairs}
 use Rattle.wf_val.specs.WellFormed.{IsWellFormed, AllMembersWellFormed}
-use Rattle.wf_json.specs.Pointer.{member_step}
-use Rattle.wf_kinds.specs.ActionType.{type_of}
-use Rattle.wf_kinds.specs.declared.action_type.ActionType.{ActionType}
+use Rattle.wf_form.specs.Pointer.{member_step}
+use Rattle.wf_leaves.specs.ActionType.{type_of}
+use Rattle.wf_leaves.specs.KindsActionType.{ActionType}
 use Rattle.wf_form.specs.Actions.{actions_among, actions_in, in_part}
 use Rattle.wf_form.specs.Role.{child, deeper, graph_at, holder_by, holder_of}
 use Rattle.wf_form.specs.declared.role.Role.{Role}

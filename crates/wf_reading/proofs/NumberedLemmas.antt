@@ -5,9 +5,9 @@ use Rattle.std.specs.List.{count_by}
 use Rattle.std.proofs.lemmas.List.{map-append}
 use Rattle.std.proofs.lemmas.List.Sums.{count_by-le-length}
 use Rattle.wf_val.specs.ValueTree.{ValueTree, null, boolean, number, text, list, object, MemberTrees, no_members, member_then}
-use Rattle.wf_json.specs.Pointer.{member_step}
-use Rattle.wf_kinds.specs.ActionType.{type_of}
-use Rattle.wf_kinds.specs.declared.action_type.ActionType.{ActionType}
+use Rattle.wf_form.specs.Pointer.{member_step}
+use Rattle.wf_leaves.specs.ActionType.{type_of}
+use Rattle.wf_leaves.specs.KindsActionType.{ActionType}
 use Rattle.wf_def.specs.ActionTree.{ActionTrees, no_actions, CaseTree, case_trees}
 use Rattle.wf_def.specs.Names.{cases_names, graph_names, kind_names}
 use Rattle.wf_reading.specs.Facts.{cases_numbers, graph_numbers, kind_numbers}

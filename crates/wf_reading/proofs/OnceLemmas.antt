@@ -7,7 +7,7 @@ use Rattle.std.proofs.lemmas.List.{length-map}
 use Rattle.std.proofs.lemmas.Slice.Eq.{bytes_eq-Decides}
 use Rattle.wf_val.specs.Get.{name_of}
 use Rattle.wf_val.specs.ValueTree.{ValueTree, null, boolean, number, text, list, object, MemberTrees, no_members, member_then, Member}
-use Rattle.wf_json.specs.Pointer.{flagged, here, member_step}
+use Rattle.wf_form.specs.Pointer.{flagged, here, member_step}
 use Rattle.wf_form.specs.Actions.{actions_among, actions_in, actions_of, in_part, own_action}
 use Rattle.wf_form.specs.Fault.{offences}
 use Rattle.wf_form.specs.Limits.{limits}

@@ -6,7 +6,7 @@ use Rattle.wf_val.specs.ValueTree.{ValueTree, Member, null, number, text, list, 
 use Rattle.wf_template.specs.CondTree.{holds}
 use Rattle.wf_template.specs.DataTree as datum
 use Rattle.wf_template.specs.TemplateTree.{TemplateTree}
-use Rattle.wf_kinds.specs.ActionType.{type_of}
+use Rattle.wf_leaves.specs.ActionType.{type_of}
 use Rattle.wf_def.specs.ActionTree.{action, KindTree, compose, scope, branch, switch, switch_else, foreach, until, ActionTrees, no_actions, action_then, no_cases, case_then}
 use Rattle.wf_def.specs.declared.after.After.{After}
 use Rattle.wf_def.specs.declared.sort.Sort.{Sort}
@@ -17,7 +17,7 @@ use Rattle.wf_reading.specs.Sections.{given_in, output_of, parameter_of, trigger
 use Rattle.wf_leaves.specs.Texts.{template_of}
 use Rattle.wf_reading.specs.Meant.{definition_of}
 use Rattle.sha2.specs.Sha256.{sha256}
-use Rattle.wf_json.specs.Json.{json}
+use Rattle.wf_form.specs.Json.{json}
 use Rattle.wf_def.specs.DefTree.{DefTree}
 
 abbrev word : String → ValueTree

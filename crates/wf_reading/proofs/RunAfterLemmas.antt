@@ -7,9 +7,9 @@ use Rattle.wf_val.specs.Get.{get, name_of, value_of}
 use Rattle.wf_val.specs.NameOrder.{IsInNameOrder}
 use Rattle.wf_val.specs.ValueTree.{ValueTree, null, boolean, number, text, list, object, MemberTrees, no_members, member_then, Member, pairs}
 use Rattle.wf_val.specs.WellFormed.{IsWellFormed, AllMembersWellFormed}
-use Rattle.wf_json.specs.Pointer.{member_step}
-use Rattle.wf_after.specs.Entries.{entries as judged_entries, place_in}
-use Rattle.wf_after.specs.Waits.{bad_run_after}
+use Rattle.wf_form.specs.Pointer.{member_step}
+use Rattle.wf_form.specs.Entries.{entries as judged_entries, place_in}
+use Rattle.wf_form.specs.Waits.{bad_run_after}
 use Rattle.wf_form.specs.Actions.{in_part}
 use Rattle.wf_form.specs.Fault.{offences}
 use Rattle.wf_form.specs.Judge.{run_after}

@@ -3,11 +3,11 @@ use Rattle.std.proofs.Common.{◌≡◌, ℕ, ◌<◌, Bool, true, false, List, 
 use Rattle.std.specs.Prelude.{if◌then◌else◌, codes, unwrap_or, ℤ, pos, nat_le, ◌==◌}
 use Rattle.std.proofs.lemmas.Bool.{leb-true}
 use Rattle.wf_val.specs.ValueTree.{ValueTree, null, boolean, number, text, list, object, MemberTrees, no_members, member_then}
-use Rattle.wf_json.specs.Pointer.{member_step}
-use Rattle.wf_kinds.specs.ActionType.{type_of}
-use Rattle.wf_kinds.specs.Containers.{limit, repetitions}
-use Rattle.wf_kinds.specs.declared.action_type.ActionType.{ActionType}
-use Rattle.wf_layers.specs.Definition as layers
+use Rattle.wf_form.specs.Pointer.{member_step}
+use Rattle.wf_leaves.specs.ActionType.{type_of}
+use Rattle.wf_leaves.specs.Containers.{limit, repetitions}
+use Rattle.wf_leaves.specs.KindsActionType.{ActionType}
+use Rattle.wf_def.specs.Definition as layers
 use Rattle.wf_def.specs.ActionTree.{ActionTrees, no_actions, CaseTree, case_trees}
 use Rattle.wf_def.specs.Layered.{layered, layered_cases, layered_kind, pace}
 use Rattle.wf_reading.specs.Graphs.{branch_in, branch_of, cases_in, cases_of, each_case, graph_in, graph_of, has_option, kind_at, kind_with, number_in, repetitions_of, switch_of, within}

@@ -3,10 +3,10 @@ use Rattle.std.specs.Prelude.{ℕ, ℤ, pos, Bool, ◌&&◌, nat_le, List, [], �
 use Rattle.wf_val.specs.ValueTree.{ValueTree, null, number, object, MemberTrees, no_members, member_then}
 use Rattle.wf_val.specs.Get.{get}
 use Rattle.wf_template.specs.DataTree.{DataMember}
-use Rattle.wf_json.specs.Pointer.{member_step}
-use Rattle.wf_kinds.specs.Containers.{limit, repetitions}
-use Rattle.wf_kinds.specs.ActionType.{type_of}
-use Rattle.wf_kinds.specs.declared.action_type.ActionType.{ActionType}
+use Rattle.wf_form.specs.Pointer.{member_step}
+use Rattle.wf_leaves.specs.Containers.{limit, repetitions}
+use Rattle.wf_leaves.specs.ActionType.{type_of}
+use Rattle.wf_leaves.specs.KindsActionType.{ActionType}
 use Rattle.wf_def.specs.ActionTree.{ActionTree, action, KindTree, scope, branch, switch, switch_else, foreach, until, ActionTrees, no_actions, action_trees, CaseTree, case_trees}
 use Rattle.wf_leaves.specs.Texts.{data_in, members_of, template_at, text_in}
 use Rattle.wf_leaves.specs.Conditions.{condition_at}

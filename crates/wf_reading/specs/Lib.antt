@@ -1,3 +1,27 @@
+pub use Rattle.wf_def.specs.ActionTree
+pub use Rattle.wf_def.specs.declared.after.After
+pub use Rattle.wf_def.specs.AllActions
+pub use Rattle.wf_def.specs.DefTree
+pub use Rattle.wf_def.specs.Definition
+pub use Rattle.wf_def.specs.Layered
+pub use Rattle.wf_def.specs.Names
+pub use Rattle.wf_def.specs.Seen
+pub use Rattle.wf_form.specs.Actions
+pub use Rattle.wf_form.specs.Fault
+pub use Rattle.wf_form.specs.declared.role.Role as FormRole
+pub use Rattle.wf_form.specs.declared.role.Holder
+pub use Rattle.wf_form.specs.Judge
+pub use Rattle.wf_form.specs.Limits
+pub use Rattle.wf_form.specs.Places
+pub use Rattle.wf_form.specs.Role
+pub use Rattle.wf_form.specs.declared.rule.Rule
+pub use Rattle.wf_form.specs.Waits
+pub use Rattle.wf_form.specs.Whole
+pub use Rattle.wf_leaves.specs.ActionType
+pub use Rattle.wf_leaves.specs.Containers
+pub use Rattle.wf_leaves.specs.KindsActionType
+pub use Rattle.wf_leaves.specs.Leaves
+pub use Rattle.wf_leaves.specs.Parts
 pub mod Numbers
 pub mod Afters
 pub mod Graphs

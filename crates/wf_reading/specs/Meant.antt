@@ -4,7 +4,7 @@ use Rattle.std.specs.Prelude.{ℕ, List, [], map, Option, Some, None, codes}
 use Rattle.sha2.specs.Sha256.{sha256}
 use Rattle.wf_val.specs.ValueTree.{ValueTree, Member}
 use Rattle.wf_val.specs.Get.{get, name_of}
-use Rattle.wf_json.specs.Json.{json}
+use Rattle.wf_form.specs.Json.{json}
 use Rattle.wf_form.specs.Actions.{actions_of}
 use Rattle.wf_form.specs.Fault.{inner_of}
 use Rattle.wf_def.specs.ActionTree.{ActionTrees, no_actions}

@@ -3,7 +3,7 @@ ghost use Rattle.std.specs.Prelude.{◌≡◌, ◌≢◌, Some, None, IfOk, IfEr
 ghost use Rattle.sha2.specs.Sha256.{sha256};
 ghost use Rattle.wf_val.specs.Get.{get, name_of};
 ghost use Rattle.wf_val.specs.Seen.{tree, member};
-ghost use Rattle.wf_json.specs.Json.{json};
+ghost use Rattle.wf_form.specs.Json.{json};
 ghost use Rattle.wf_form.specs.Fault.{fault_of};
 ghost use Rattle.wf_def.specs.ActionSeen.{action_tree, graph_tree};
 ghost use Rattle.wf_def.specs.Names.{find_in};
@@ -37,7 +37,7 @@ struct Parts {
 fn digest_of(alloc: Global, definition: &Val) -> Result<Digest, AllocError>
     ensures { IfOk result (λ d. d.bytes ≡ sha256 (json (tree definition.now))) }
 {
-    let text = wf_json::write(alloc, definition)?;
+    let text = wf_form::write(alloc, definition)?;
     Ok(Digest {
         bytes: Sha256::digest(text.as_slice()),
     })

@@ -3,7 +3,7 @@ ghost use Rattle.std.specs.Prelude.{◌≡◌, ◌++◌, IfOk, map, option_map, 
 ghost use Rattle.wf_val.specs.Seen.{tree};
 ghost use Rattle.wf_val.specs.ValueTree.{members};
 ghost use Rattle.wf_template.specs.DataSeen.{data_tree};
-ghost use Rattle.wf_json.specs.Pointer.{member_step};
+ghost use Rattle.wf_form.specs.Pointer.{member_step};
 ghost use Rattle.wf_def.specs.ActionTree.{no_actions};
 ghost use Rattle.wf_def.specs.ActionSeen.{action_tree, actions_seen, case_tree, cases_seen, graph_tree, kind_tree};
 ghost use Rattle.wf_reading.specs.Graphs.{action_of, actions_of, branch_in, branch_of, case_of, cases_in, cases_of, count_of, each_case, graph_in, graph_of, has_option, kind_at, kind_with, number_in, repetitions_of, switch_of, tracked_in, value_in, within};
@@ -13,10 +13,10 @@ use crate::afters::afters_of;
 use crate::numbers::Numbers;
 use std::alloc::{AllocError, Global};
 use wf_def::{Action, Actions, Case, Cases, Graph, Kind};
-use wf_json::pointer::step_to;
-use wf_kinds::{ActionType, limit, repetitions};
+use wf_form::pointer::step_to;
 use wf_leaves::{
-    condition_at, data_in, leaf_of, lists_option, members_of, nothing, str_in, template_at,
+    ActionType, condition_at, data_in, leaf_of, limit, lists_option, members_of, nothing,
+    repetitions, str_in, template_at,
 };
 use wf_template::TreeFields;
 use wf_val::{Fields, Text, Val};

@@ -1,7 +1,7 @@
 //! What is known of a definition that was read. Each call tells a caller so, and does nothing.
 ghost use Rattle.std.specs.Prelude.{◌≡◌, ◌≤◌, ℕ, List, bytes_eq, is_some, length};
 ghost use Rattle.std.specs.List.{list_any};
-ghost use Rattle.wf_layers.specs.Definition.{Turns};
+ghost use Rattle.wf_def.specs.Definition.{Turns};
 ghost use Rattle.wf_val.specs.NameOrder.{IsInNameOrder};
 ghost use Rattle.wf_def.specs.ActionTree.{ActionTrees, action_name, actions_in};
 ghost use Rattle.wf_def.specs.DefTree.{DefTree};

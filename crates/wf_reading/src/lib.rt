@@ -31,3 +31,4 @@ pub use laws::{
     actions_are_few, actions_are_found_by_name, actions_stand_in_order, loops_may_turn,
     names_stand_once, numbers_are_places, run_after_has_depths,
 };
+pub use wf_form::the_first_fault;

@@ -1,3 +1,4 @@
+pub use Rattle.wf_json.specs.FaultText
 pub mod Cost
 pub mod Line
 pub mod Record

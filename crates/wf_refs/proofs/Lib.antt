@@ -1,3 +1,5 @@
+pub use Rattle.wf_reading.proofs.PartLemmas
+pub use Rattle.wf_reading.proofs.RunAfterLemmas
 mod ChainLemmas
 mod LoopLemmas
 pub mod NumberLemmas

@@ -5,7 +5,7 @@ use Rattle.std.specs.Prelude.{codes}
 use Rattle.wf_val.specs.ValueTree as value
 use Rattle.wf_template.specs.TemplateTree.{plain, whole}
 use Rattle.wf_template.specs.DataTree.{DataTree, null, text, DataMember}
-use Rattle.wf_retry.specs.declared.policy.Policy.{Policy}
+use Rattle.wf_def.specs.Policy.{Policy}
 use Rattle.wf_def.specs.ActionTree.{ActionTree, action, action_number, InitialTree, KindTree, compose, connector, wait, response, terminate}
 use Rattle.wf_def.specs.ActionTree.{select, query, join, parse_json, initialize, set_to, increment, decrement, append_array, append_string}
 use Rattle.wf_def.specs.ActionTree.{scope, branch, switch, switch_else, foreach, until, ActionTrees, no_actions, action_then, action_trees}

@@ -17,4 +17,6 @@ mod templates;
 pub use laws::{read_actions_have_their_numbers, sites_are_there};
 pub use site::Site;
 pub use sites::{at_inputs, at_items, at_output, at_test, at_tracked, at_trigger};
-pub use wf_reading::Def;
+pub use wf_eval::{Look, word_of};
+pub use wf_reading::{Def, RuleFault};
+pub use wf_uses::{Names, Uses, names_are_those_named};

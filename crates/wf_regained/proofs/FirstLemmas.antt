@@ -8,7 +8,7 @@ use Rattle.wf_lists.specs.KeyOrder.{IsInKeyOrder}
 use Rattle.wf_val.specs.Address.{address_cmp}
 use Rattle.wf_val.specs.ValueTree.{null}
 use Rattle.wf_answers.specs.Inputs.{InputsTree}
-use Rattle.wf_environment.specs.Environment.{Environment, fresh}
+use Rattle.wf_turns.specs.Environment.{Environment, fresh}
 use Rattle.wf_layers.specs.Address.{Address, is_within, starts}
 use Rattle.wf_layers.specs.Definition.{Kind, has, kind_of}
 use Rattle.wf_layers.specs.Redo.{any_kind, closed_again, redone}
@@ -18,12 +18,12 @@ use Rattle.wf_def.specs.AllActions.{all_actions, numbered}
 use Rattle.wf_def.specs.DefTree.{DefTree}
 use Rattle.wf_def.specs.Names.{graph_names}
 use Rattle.wf_paths.specs.Table.{from as at_places, slot}
-use Rattle.wf_reading.specs.Facts.{AreOnce, graph_numbers}
+use Rattle.wf_turns.specs.Facts.{AreOnce, graph_numbers}
 use Rattle.wf_record.specs.Record.{RecordTree, Row, address_of}
-use Rattle.wf_refs.proofs.NumberLemmas.{names_are}
-use Rattle.wf_meant.specs.Points.{graph_of}
-use Rattle.wf_meant.specs.Record.{depth_of}
-use Rattle.wf_meant.specs.Resubmitted.{is_chosen, rows_by}
+use Rattle.wf_turns.proofs.NumberLemmas.{names_are}
+use Rattle.wf_turns.specs.Points.{graph_of}
+use Rattle.wf_turns.specs.Record.{depth_of}
+use Rattle.wf_turns.specs.Resubmitted.{is_chosen, rows_by}
 use Rattle.wf_regained.specs.First.{first_state}
 use Rattle.wf_regained.specs.Kept.{with_all_kept}
 use Rattle.wf_regained.specs.Reopened.{with_all_reopened}

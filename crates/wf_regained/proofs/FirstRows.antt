@@ -18,8 +18,8 @@ use Rattle.wf_record.specs.Record.{RecordTree, RowTree}
 use Rattle.wf_record.specs.declared.row.Row as rows
 use Rattle.wf_record.specs.declared.status.RunStatus.{RunStatus}
 use Rattle.wf_record.specs.declared.status.Status.{Status}
-use Rattle.wf_meant.proofs.Terms.{act, alone, fields, initial, many, nat, of, of_actions, ran, record_is, success_of, unrun, value}
-use Rattle.wf_meant.proofs.Terms.{values, words}
+use Rattle.wf_turns.proofs.Terms.{act, alone, fields, initial, many, nat, of, of_actions, ran, record_is, success_of, unrun, value}
+use Rattle.wf_turns.proofs.Terms.{values, words}
 use Rattle.wf_regained.specs.First.{first_state}
 use Rattle.wf_regained.specs.Kept.{with_all_kept}
 use Rattle.wf_regained.specs.Last.{comes_after, is_later, last_from}

@@ -18,11 +18,11 @@ use Rattle.wf_def.specs.ActionTree.{ActionTree, action_name, action_number}
 use Rattle.wf_def.specs.AllActions.{all_actions, numbered}
 use Rattle.wf_def.specs.DefTree.{DefTree}
 use Rattle.wf_def.specs.Names.{graph_names}
-use Rattle.wf_reading.specs.Facts.{AreOnce}
+use Rattle.wf_turns.specs.Facts.{AreOnce}
 use Rattle.wf_record.specs.Record.{Row, RowTree, address_of, find_row}
-use Rattle.wf_meant.specs.Look.{instance, name_in}
-use Rattle.wf_meant.specs.Points.{action_named}
-use Rattle.wf_meant.specs.Resubmitted.{rows_by}
+use Rattle.wf_turns.specs.Look.{instance, name_in}
+use Rattle.wf_turns.specs.Points.{action_named}
+use Rattle.wf_turns.specs.Resubmitted.{rows_by}
 use Rattle.wf_tables.proofs.TableLemmas.{bytes_same}
 use Rattle.wf_regained.specs.Kept.{is_action_at, is_row_of, with_all_kept, with_kept}
 use Rattle.wf_regained.proofs.NamedLemmas.{name_is, named_is, number_is, numbered_is}

@@ -9,9 +9,9 @@ use Rattle.wf_asks.specs.Instances.{address_of}
 use Rattle.wf_asks.specs.declared.known.RowAt.{RowAt}
 use Rattle.wf_def.specs.DefTree.{DefTree}
 use Rattle.wf_record.specs.declared.row.Row.{Row}
-use Rattle.wf_meant.specs.Points.{graph_of}
+use Rattle.wf_turns.specs.Points.{graph_of}
 use Rattle.wf_sight_laws.specs.Writes.{writes}
-use Rattle.wf_views.specs.Seen.{row_content}
+use Rattle.wf_sight_laws.specs.Seen.{row_content}
 use Rattle.wf_regained.specs.Last.{comes_after, last_from, last_of}
 use Rattle.wf_regained.proofs.ChainLemmas.{seen_chain}
 

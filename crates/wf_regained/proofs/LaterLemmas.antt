@@ -9,9 +9,9 @@ use Rattle.wf_layers.proofs.Basics.{and_in, two, unless, when}
 use Rattle.wf_def.specs.DefTree.{DefTree}
 use Rattle.wf_order.specs.Order.{Before}
 use Rattle.wf_loops.specs.Loops.{is_earlier, is_in_turn, loops_of, paces_round}
-use Rattle.wf_meant.specs.Points.{graph_of, is_before}
-use Rattle.wf_views.specs.Loops.{common}
-use Rattle.wf_sight.proofs.LoopLemmas.{fronts_of}
+use Rattle.wf_turns.specs.Points.{graph_of, is_before}
+use Rattle.wf_sight_laws.specs.Loops.{common}
+use Rattle.wf_sight_laws.proofs.LoopLemmas.{fronts_of}
 use Rattle.wf_regained.specs.Last.{comes_after, is_later}
 
 -- ---- what is earlier by how the loops round both go is so by the loops themselves

@@ -9,10 +9,10 @@ use Rattle.wf_layers.proofs.Basics.{when}
 use Rattle.wf_asks.specs.Known.{writer}
 use Rattle.wf_def.specs.DefTree.{DefTree}
 use Rattle.wf_record.specs.Record.{Row}
-use Rattle.wf_environment.specs.Environment.{Environment}
-use Rattle.wf_environment.specs.Statuses.{status_tree}
-use Rattle.wf_meant.specs.Points.{graph_of}
-use Rattle.wf_meant.specs.Source.{source}
+use Rattle.wf_turns.specs.Environment.{Environment}
+use Rattle.wf_turns.specs.Statuses.{status_tree}
+use Rattle.wf_turns.specs.Points.{graph_of}
+use Rattle.wf_turns.specs.Source.{source}
 use Rattle.wf_turns.specs.Reading.{reading}
 use Rattle.wf_sight_laws.specs.Writes.{writes}
 use Rattle.wf_regained.specs.Last.{AreInLine}

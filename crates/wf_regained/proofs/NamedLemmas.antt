@@ -11,11 +11,11 @@ use Rattle.wf_def.specs.ActionTree.{ActionTree, action_name, action_number}
 use Rattle.wf_def.specs.AllActions.{all_actions, has_number, numbered}
 use Rattle.wf_def.specs.DefTree.{DefTree}
 use Rattle.wf_def.specs.Names.{graph_names}
-use Rattle.wf_reading.specs.Facts.{AreOnce, graph_numbers}
-use Rattle.wf_refs.proofs.NumberLemmas.{names_are, numbers_are}
-use Rattle.wf_meant.specs.Points.{action_named, graph_of, has_action_name}
-use Rattle.wf_meant_laws.proofs.RangeLemmas.{some_found}
-use Rattle.wf_meant_laws.proofs.WriterLemmas.{find_is}
+use Rattle.wf_turns.specs.Facts.{AreOnce, graph_numbers}
+use Rattle.wf_turns.proofs.NumberLemmas.{names_are, numbers_are}
+use Rattle.wf_turns.specs.Points.{action_named, graph_of, has_action_name}
+use Rattle.wf_sight_laws.proofs.RangeLemmas.{some_found}
+use Rattle.wf_sight_laws.proofs.WriterLemmas.{find_is}
 
 pub all_among : {X : Type 0} (P : X → Type 0) (xs : List X) (x : X) → AllByRecursion P xs → Among xs x → P x
 all_among P [] x all i = absurd i

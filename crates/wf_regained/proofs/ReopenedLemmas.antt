@@ -13,10 +13,10 @@ use Rattle.wf_def.specs.AllActions.{all_actions, has_number, numbered}
 use Rattle.wf_def.specs.DefTree.{DefTree}
 use Rattle.wf_val.specs.declared.address.Address as named
 use Rattle.wf_record.specs.Record.{RowTree, find_row}
-use Rattle.wf_meant.specs.Look.{name_in}
-use Rattle.wf_meant.specs.Points.{graph_of}
-use Rattle.wf_meant.specs.Resubmitted.{recalled, said_by}
-use Rattle.wf_meant_laws.proofs.WriterLemmas.{find_is}
+use Rattle.wf_turns.specs.Look.{name_in}
+use Rattle.wf_turns.specs.Points.{graph_of}
+use Rattle.wf_turns.specs.Resubmitted.{recalled, said_by}
+use Rattle.wf_sight_laws.proofs.WriterLemmas.{find_is}
 use Rattle.wf_regained.specs.Reopened.{Opened, recalled_by, reopened_with, with_all_reopened, with_reopened}
 
 each : {X : Type 0} (P Q : X → Type 0) (xs : List X) → ((x : X) → P x → Q x) → AllByRecursion P xs → AllByRecursion Q xs

@@ -23,15 +23,15 @@ use Rattle.wf_def.specs.AllActions.{numbered}
 use Rattle.wf_def.specs.DefTree.{DefTree}
 use Rattle.wf_opening.specs.Decisions.{DecisionTree}
 use Rattle.wf_opening.specs.Verdicts.{VerdictTree}
-use Rattle.wf_done.specs.Leaf.{BegunTree}
+use Rattle.wf_turns.specs.Leaf.{BegunTree}
 use Rattle.wf_record.specs.Record as record_of
 use Rattle.wf_record.specs.declared.row.Row.{Row}
 use Rattle.wf_record.specs.declared.status.Status.{Status}
-use Rattle.wf_meant.specs.Points.{graph_of}
-use Rattle.wf_catalog.specs.Variables.{numbers_of}
+use Rattle.wf_turns.specs.Points.{graph_of}
+use Rattle.wf_sight_laws.specs.CatalogVariables.{numbers_of}
 use Rattle.wf_tables.proofs.TableLemmas.{own_place}
 use Rattle.wf_sight_laws.specs.Writes.{if_succeeded, is_full, writes}
-use Rattle.wf_views.specs.Seen.{row_content, rows_seen}
+use Rattle.wf_sight_laws.specs.Seen.{row_content, rows_seen}
 use Rattle.wf_regained.specs.Last.{AreInLine, comes_after, last_from}
 use Rattle.wf_regained.proofs.LastLemmas.{Leads, Line, Written, all_lead}
 use Rattle.wf_regained.proofs.NamedLemmas.{all_among}

@@ -7,10 +7,10 @@ use Rattle.wf_def.specs.DefTree.{DefTree}
 use Rattle.wf_record.specs.Record.{RecordTree, Row}
 use Rattle.wf_opening.specs.Decisions.{DecisionTree}
 use Rattle.wf_opening.specs.Verdicts.{VerdictTree}
-use Rattle.wf_done.specs.Leaf.{BegunTree}
-use Rattle.wf_meant.specs.Points.{graph_of}
-use Rattle.wf_meant.specs.Record.{depth_of}
-use Rattle.wf_meant.specs.Resubmitted.{is_chosen, recalled, rows_by}
+use Rattle.wf_turns.specs.Leaf.{BegunTree}
+use Rattle.wf_turns.specs.Points.{graph_of}
+use Rattle.wf_turns.specs.Record.{depth_of}
+use Rattle.wf_turns.specs.Resubmitted.{is_chosen, recalled, rows_by}
 
 -- rows that are neither redone nor closed again are there, and what is closed again is open, with what its row says that it had decided
 abbrev pub first_state : DefTree → RecordTree → List ℕ → State Row BegunTree DecisionTree VerdictTree

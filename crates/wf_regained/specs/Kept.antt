@@ -4,7 +4,7 @@ use Rattle.wf_layers.specs.Address.{Address, Table, is_own}
 use Rattle.wf_def.specs.ActionTree.{ActionTree, action_number}
 use Rattle.wf_def.specs.DefTree.{DefTree}
 use Rattle.wf_record.specs.Record.{Row, RowTree}
-use Rattle.wf_meant.specs.Points.{action_named}
+use Rattle.wf_turns.specs.Points.{action_named}
 
 -- whether it is the action of a row, at the row's indexes
 abbrev pub is_action_at : Option ActionTree → List ℕ → Address → Bool

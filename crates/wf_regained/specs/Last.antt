@@ -7,9 +7,9 @@ use Rattle.wf_def.specs.DefTree.{DefTree}
 use Rattle.wf_loops.specs.Loops.{loops_of}
 use Rattle.wf_record.specs.Record as record_of
 use Rattle.wf_record.specs.declared.row.Row.{Row}
-use Rattle.wf_meant.specs.Points.{graph_of, is_before}
+use Rattle.wf_turns.specs.Points.{graph_of, is_before}
 use Rattle.wf_sight_laws.specs.Writes.{writes}
-use Rattle.wf_views.specs.Seen.{row_content}
+use Rattle.wf_sight_laws.specs.Seen.{row_content}
 
 -- Of two instances, by the loops round each, outermost first, and by their indexes: the first loop round both in whose iterations they
 -- differ decides; where there is none, whether the action of the one is before that of the other does.

@@ -6,7 +6,7 @@ use Rattle.wf_def.specs.ActionTree.{ActionTree, action_name, action_number}
 use Rattle.wf_opening.specs.Decisions.{DecisionTree}
 use Rattle.wf_opening.specs.Verdicts.{VerdictTree}
 use Rattle.wf_record.specs.Record.{RowTree, find_row}
-use Rattle.wf_meant.specs.Resubmitted.{said_by}
+use Rattle.wf_turns.specs.Resubmitted.{said_by}
 
 abbrev pub Opened : Type 0
 Opened = Opening DecisionTree VerdictTree

@@ -4,19 +4,19 @@ ghost use Rattle.wf_layers.specs.Address.{Address, is_own};
 ghost use Rattle.wf_layers.specs.Resubmission.{kept};
 ghost use Rattle.wf_order.specs.OrderSeen.{order_tree};
 ghost use Rattle.wf_paths.specs.Table.{from as at_places, slot};
-ghost use Rattle.wf_reading.specs.ReadSeen.{def_tree};
+ghost use Rattle.wf_turns.specs.ReadSeen.{def_tree};
 ghost use Rattle.wf_record.specs.Seen.{row_tree};
 ghost use Rattle.wf_redo.specs.Sets.{again_any, redo_any};
-ghost use Rattle.wf_views.specs.Seen.{row_content, rows_seen};
+ghost use Rattle.wf_sight_laws.specs.Seen.{row_content, rows_seen};
 ghost use Rattle.wf_regained.specs.Kept.{with_all_kept, with_kept};
 
 use std::alloc::{AllocError, Global};
 use wf_asks::{Instance, RowAt, Rows};
-use wf_catalog::{Places, number_of};
 use wf_lists::TryCopy;
 use wf_order::Order;
 use wf_record::Row;
 use wf_redo::{again_any, redo_any};
+use wf_sight_laws::{Places, number_of};
 
 // Whether the rows of an action are kept where the actions of a set are resubmitted.
 fn keeps(order: &Order, from: &[u32], y: u32) -> bool

@@ -2,17 +2,16 @@
 ghost use Rattle.std.specs.Prelude.{◌≡◌, ℕ, IfOk, OnOk, None, cond, nat_eq};
 ghost use Rattle.wf_asks.specs.Instances.{address_of};
 ghost use Rattle.wf_asks.specs.Known.{is_among, store_in};
-ghost use Rattle.wf_reading.specs.ReadSeen.{def_tree};
+ghost use Rattle.wf_turns.specs.ReadSeen.{def_tree};
 ghost use Rattle.wf_sight_laws.specs.Writes.{writes};
-ghost use Rattle.wf_views.specs.Seen.{row_content};
+ghost use Rattle.wf_sight_laws.specs.Seen.{row_content};
 ghost use Rattle.wf_regained.specs.Last.{last_from, last_of, stays, with_row};
 
 use crate::later::comes_after;
 use std::alloc::{AllocError, Global};
 use wf_asks::{Instance, RowAt, Rows, Store, WriterAt};
-use wf_catalog::Places;
 use wf_record::{Row, Status};
-use wf_rules::Checked;
+use wf_sight_laws::{Checked, Places};
 
 // The variables to which a row gives values.
 fn written<'p>(places: &'p Places<'_>, place: &Instance, row: &Row) -> &'p [u32]

@@ -1,12 +1,11 @@
 //! Which of two instances is later.
 ghost use Rattle.std.specs.Prelude.{◌≡◌};
 ghost use Rattle.wf_asks.specs.Instances.{address_of};
-ghost use Rattle.wf_reading.specs.ReadSeen.{def_tree};
+ghost use Rattle.wf_turns.specs.ReadSeen.{def_tree};
 ghost use Rattle.wf_regained.specs.Last.{comes_after, is_later};
 
 use wf_asks::Instance;
-use wf_catalog::Places;
-use wf_rules::Checked;
+use wf_sight_laws::{Checked, Places};
 
 // By the loops round each and their indexes; `before` says it where they are in one iteration of each loop round both.
 fn is_later(loops: &[u32], others: &[u32], at: &[u64], other: &[u64], before: bool) -> bool

@@ -19,4 +19,4 @@ mod regained;
 mod reopened;
 
 pub use regained::{Regained, regain};
-pub use wf_instance::a_definition_is_an_instance;
+pub use wf_sight_laws::a_definition_is_an_instance;

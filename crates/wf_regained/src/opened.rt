@@ -1,8 +1,8 @@
 //! That a definition was read.
-ghost use Rattle.wf_reading.specs.Read.{IsRead};
-ghost use Rattle.wf_reading.specs.ReadSeen.{def_tree};
+ghost use Rattle.wf_turns.specs.Read.{IsRead};
+ghost use Rattle.wf_turns.specs.ReadSeen.{def_tree};
 
-use wf_reading::Def;
+use wf_turns::Def;
 
 /// Tells a caller that the definition was read, and does nothing.
 pub(crate) fn was_read(def: &Def)

@@ -3,26 +3,26 @@ ghost use Rattle.std.specs.Prelude.{◌≡◌, ℕ, IfOk, map};
 ghost use Rattle.wf_asks.specs.Known.{opens_in, store_in, writer};
 ghost use Rattle.wf_def.specs.ActionSeen.{action_tree};
 ghost use Rattle.wf_def.specs.AllActions.{all_actions};
-ghost use Rattle.wf_done.specs.Leaf.{BegunTree};
-ghost use Rattle.wf_environment.specs.Environment.{Environment};
+ghost use Rattle.wf_turns.specs.Leaf.{BegunTree};
+ghost use Rattle.wf_turns.specs.Environment.{Environment};
 ghost use Rattle.wf_layers.specs.Address.{Address};
 ghost use Rattle.wf_layers.specs.Shape.{HasShape};
 ghost use Rattle.wf_layers.specs.Source.{Source};
 ghost use Rattle.wf_layers.specs.Variables.{IsLastWritten};
-ghost use Rattle.wf_meant.specs.Points.{graph_of};
-ghost use Rattle.wf_meant.specs.Resubmitted.{rows_by};
-ghost use Rattle.wf_meant.specs.Source.{source};
-ghost use Rattle.wf_meant_laws.specs.Tables.{AreWhole};
+ghost use Rattle.wf_turns.specs.Points.{graph_of};
+ghost use Rattle.wf_turns.specs.Resubmitted.{rows_by};
+ghost use Rattle.wf_turns.specs.Source.{source};
+ghost use Rattle.wf_sight_laws.specs.Tables.{AreWhole};
 ghost use Rattle.wf_opening.specs.DecisionSeen.{decision_tree, verdict_tree};
 ghost use Rattle.wf_opening.specs.Decisions.{DecisionTree};
 ghost use Rattle.wf_opening.specs.Verdicts.{VerdictTree};
-ghost use Rattle.wf_reading.specs.ReadSeen.{def_tree};
+ghost use Rattle.wf_turns.specs.ReadSeen.{def_tree};
 ghost use Rattle.wf_record.specs.Record as record_of;
 ghost use Rattle.wf_record.specs.Seen.{record_tree};
 ghost use Rattle.wf_resubmit.specs.Chosen.{MayBeRedone};
 ghost use Rattle.wf_sight_laws.specs.Writes.{writes};
 ghost use Rattle.wf_turns.specs.Reading.{reading};
-ghost use Rattle.wf_views.specs.Seen.{rows_seen};
+ghost use Rattle.wf_sight_laws.specs.Seen.{rows_seen};
 ghost use Rattle.wf_regained.specs.First.{first_state};
 ghost use Rattle.wf_regained.specs.Last.{AreInLine};
 
@@ -32,11 +32,10 @@ use crate::opened::was_read;
 use crate::reopened::reopened;
 use std::alloc::{AllocError, Global};
 use wf_asks::{Opens, Rows, Store};
-use wf_catalog::Places;
 use wf_def::{Action, all_actions};
 use wf_opening::{Decision, Verdict};
 use wf_record::{Record, Row};
-use wf_rules::Checked;
+use wf_sight_laws::{Checked, Places};
 use wf_val::Schedule;
 
 /// What a resubmission begins with: the rows that are kept, the containers that are closed again, and the last writers among the rows.
@@ -67,13 +66,13 @@ fn rows_kept(
     was_read(&checked.def);
     checked.always_checked();
     wf_redo::a_set_is_redone();
-    wf_instance::depths_are_how_many_are_before();
-    wf_known_laws::numbers_are_had();
-    wf_known_laws::numbers_are_below();
-    wf_known_laws::numbers_stand_once();
-    wf_known_laws::entries_stay_in_their_graph();
-    wf_refs::read_actions_have_their_numbers();
-    wf_reading::names_stand_once();
+    wf_sight_laws::depths_are_how_many_are_before();
+    wf_turns::numbers_are_had();
+    wf_turns::numbers_are_below();
+    wf_turns::numbers_stand_once();
+    wf_turns::entries_stay_in_their_graph();
+    wf_turns::read_actions_have_their_numbers();
+    wf_turns::names_stand_once();
     let Ok(count) = u32::try_from(actions.len()) else {
         return Err(AllocError);
     };
@@ -98,13 +97,13 @@ fn opens_again(
     was_read(&checked.def);
     checked.always_checked();
     wf_redo::a_set_is_redone();
-    wf_instance::depths_are_how_many_are_before();
-    wf_known_laws::numbers_are_had();
-    wf_known_laws::numbers_are_below();
-    wf_known_laws::numbers_stand_once();
-    wf_known_laws::entries_stay_in_their_graph();
-    wf_refs::read_actions_have_their_numbers();
-    wf_reading::names_stand_once();
+    wf_sight_laws::depths_are_how_many_are_before();
+    wf_turns::numbers_are_had();
+    wf_turns::numbers_are_below();
+    wf_turns::numbers_stand_once();
+    wf_turns::entries_stay_in_their_graph();
+    wf_turns::read_actions_have_their_numbers();
+    wf_turns::names_stand_once();
     let opens = reopened(alloc, &checked.order, from, log, actions)?;
     Ok(opens)
 }
@@ -124,13 +123,13 @@ fn store_of(
 {
     was_read(&checked.def);
     wf_seen_laws::what_is_seen_is_earlier();
-    wf_instance::depths_are_how_many_are_before();
+    wf_sight_laws::depths_are_how_many_are_before();
     wf_order::order_is_exact();
     wf_order::before_is_an_order();
-    wf_known_laws::numbers_are_had();
-    wf_known_laws::numbers_stand_once();
-    wf_known_laws::numbers_are_below();
-    wf_known_laws::entries_stay_in_their_graph();
+    wf_turns::numbers_are_had();
+    wf_turns::numbers_stand_once();
+    wf_turns::numbers_are_below();
+    wf_turns::entries_stay_in_their_graph();
     let _count = rows.len();
     let store = last_writers(alloc, checked, places, rows)?;
     Ok(store)

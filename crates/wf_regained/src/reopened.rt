@@ -5,7 +5,7 @@ ghost use Rattle.wf_def.specs.ActionSeen.{action_tree, kind_tree};
 ghost use Rattle.wf_def.specs.ActionTree.{CaseTrees, action_number};
 ghost use Rattle.wf_layers.specs.Address as layers;
 ghost use Rattle.wf_layers.specs.Address.{is_own};
-ghost use Rattle.wf_meant.specs.Resubmitted.{said};
+ghost use Rattle.wf_turns.specs.Resubmitted.{said};
 ghost use Rattle.wf_opening.specs.DecisionSeen.{decision_tree, verdict_tree};
 ghost use Rattle.wf_opening.specs.Decisions.{chosen_as, held_as, taken};
 ghost use Rattle.wf_order.specs.OrderSeen.{order_tree};
@@ -16,13 +16,13 @@ ghost use Rattle.wf_val.specs.Seen.{tree};
 
 use std::alloc::{AllocError, Global};
 use wf_asks::{Instance, OpenAt, Opens};
-use wf_catalog::{kind_of, name_of, number_of};
 use wf_def::{Action, Kind};
 use wf_opening::{Decision, Verdict};
 use wf_order::Order;
 use wf_record::{Record, Row};
 use wf_redo::again_any;
-use wf_says::branch_said;
+use wf_sight_laws::{kind_of, name_of, number_of};
+use wf_turns::branch_said;
 use wf_val::{Address, Fun, Indexes, Val, wrong_type};
 
 fn held(value: &Val) -> Decision

@@ -8,18 +8,18 @@ use Rattle.wf_layers.specs.Machine.{Opening, Event, has_ended}
 use Rattle.wf_layers.specs.Source.{Source}
 use Rattle.wf_layers.proofs.Tables.{own_is}
 use Rattle.wf_kept.specs.Counted.{nonzero}
-use Rattle.wf_asks.specs.Instances.{address_of, instance_cmp}
-use Rattle.wf_asks.specs.Known.{is_among, open_tree, opens_in}
-use Rattle.wf_asks.specs.declared.instance.Instance.{Instance}
-use Rattle.wf_asks.specs.declared.known.OpenAt.{OpenAt}
-use Rattle.wf_plan.specs.Plan.{PlanTree}
-use Rattle.wf_plan.specs.PlanSeen.{or_none}
-use Rattle.wf_tables.specs.Counts.{set_all}
-use Rattle.wf_tables.specs.Tables.{count_in, events_in}
-use Rattle.wf_tables.specs.declared.entries.CountAt.{CountAt}
-use Rattle.wf_tables.specs.declared.entries.EventAt.{EventAt}
-use Rattle.wf_events.specs.Looked.{idle_at, instances_at, look_each, open_at}
-use Rattle.wf_events.proofs.LookLemmas.{looked_all}
+use Rattle.wf_enter.specs.Instances.{address_of, instance_cmp}
+use Rattle.wf_enter.specs.Known.{is_among, open_tree, opens_in}
+use Rattle.wf_enter.specs.Instance.{Instance}
+use Rattle.wf_enter.specs.OpenAt.{OpenAt}
+use Rattle.wf_enter.specs.Plan.{PlanTree}
+use Rattle.wf_enter.specs.PlanSeen.{or_none}
+use Rattle.wf_enter.specs.Counts.{set_all}
+use Rattle.wf_enter.specs.Tables.{count_in, events_in}
+use Rattle.wf_enter.specs.CountAt.{CountAt}
+use Rattle.wf_enter.specs.EventAt.{EventAt}
+use Rattle.wf_enter.specs.Looked.{idle_at, instances_at, look_each, open_at}
+use Rattle.wf_enter.proofs.LookLemmas.{looked_all}
 use Rattle.wf_enter.specs.Graphs.{opened_at}
 use Rattle.wf_resting.specs.Resting.{all_entered, counts_at, entered_by, lacking_of, lacks_at, lacks_by, resting_by, standing}
 

@@ -5,8 +5,8 @@ use Rattle.wf_layers.specs.Address.{Address, Table, address, is_own}
 use Rattle.wf_layers.specs.Machine as machine
 use Rattle.wf_layers.specs.Machine.{Opening}
 use Rattle.wf_layers.specs.Source.{Source}
-use Rattle.wf_asks.specs.declared.known.OpenAt.{OpenAt}
-use Rattle.wf_plan.specs.Plan.{EntryTree, PlanTree, ShapeTree, choice, leaf}
+use Rattle.wf_enter.specs.OpenAt.{OpenAt}
+use Rattle.wf_enter.specs.Plan.{EntryTree, PlanTree, ShapeTree, choice, leaf}
 use Rattle.wf_resting.specs.Resting.{counts_at, lacking_of, lacks_at, resting_at, standing, waits_at}
 
 abbrev after : ℕ → List Need

@@ -5,12 +5,12 @@ use Rattle.wf_layers.specs.Machine as machine
 use Rattle.wf_layers.specs.Machine.{Opening, has_ended}
 use Rattle.wf_layers.specs.Source.{Source}
 use Rattle.wf_layers.specs.Waiting.{waiting}
-use Rattle.wf_asks.specs.declared.known.OpenAt.{OpenAt}
-use Rattle.wf_plan.specs.Plan.{PlanTree}
-use Rattle.wf_plan.specs.PlanSeen.{or_none}
-use Rattle.wf_tables.specs.Counts.{needs_at}
-use Rattle.wf_tables.specs.declared.entries.CountAt.{CountAt}
-use Rattle.wf_events.specs.Looked.{idle_at, open_at}
+use Rattle.wf_enter.specs.OpenAt.{OpenAt}
+use Rattle.wf_enter.specs.Plan.{PlanTree}
+use Rattle.wf_enter.specs.PlanSeen.{or_none}
+use Rattle.wf_enter.specs.Counts.{needs_at}
+use Rattle.wf_enter.specs.CountAt.{CountAt}
+use Rattle.wf_enter.specs.Looked.{idle_at, open_at}
 use Rattle.wf_enter.specs.Graphs.{opened_at}
 
 -- THE ACTIONS OF OPEN GRAPHS: those of the definition's own graph, and of each open container those of the graph that it has entered.

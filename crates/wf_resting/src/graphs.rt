@@ -1,13 +1,11 @@
 //! The actions of the graphs that are open where no iteration has begun.
 ghost use Rattle.std.specs.Prelude.{◌≡◌, ◌++◌, IfOk, OnOk};
-ghost use Rattle.wf_plan.specs.PlanSeen.{or_none, plan_tree};
+ghost use Rattle.wf_enter.specs.PlanSeen.{or_none, plan_tree};
 ghost use Rattle.wf_enter.specs.Graphs.{opened_at};
 ghost use Rattle.wf_resting.specs.Resting.{standing};
 
 use std::alloc::{AllocError, Global};
-use wf_asks::{Acts, Opens};
-use wf_enter::opened_graph;
-use wf_plan::Plan;
+use wf_enter::{Acts, Opens, Plan, opened_graph};
 
 /// The actions of the graph that a container enters as it opens; none where it enters none.
 pub(crate) fn entered(plan: &Plan, container: u32, taken: u64) -> &[u32]

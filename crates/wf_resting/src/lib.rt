@@ -12,3 +12,6 @@ mod recount;
 pub use graphs::standing;
 pub use looked::first_ready;
 pub use recount::{first_lacks, first_waits};
+pub use wf_enter::{
+    begin_iteration, enter_graph, make_room, opening_edits, passed_rows, turning_edits,
+};

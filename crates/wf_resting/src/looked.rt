@@ -3,21 +3,21 @@ ghost use Rattle.std.specs.Prelude.{◌≡◌, ◌<◌, ◌≤◌, ◌+◌, ◌-
 ghost use Rattle.wf_layers.specs.Address.{Address, address, is_own, same_at};
 ghost use Rattle.wf_layers.specs.Changes.{next_of};
 ghost use Rattle.wf_layers.specs.Machine.{has_ended};
-ghost use Rattle.wf_asks.specs.Instances.{address_of, rows_in};
-ghost use Rattle.wf_asks.specs.Known.{is_among, opens_in};
-ghost use Rattle.wf_plan.specs.PlanSeen.{plan_tree};
-ghost use Rattle.wf_tables.specs.Tables.{count_in, events_in, left_in};
-ghost use Rattle.wf_events.specs.Looked.{instances_at, look_each};
+ghost use Rattle.wf_enter.specs.Instances.{address_of, rows_in};
+ghost use Rattle.wf_enter.specs.Known.{is_among, opens_in};
+ghost use Rattle.wf_enter.specs.PlanSeen.{plan_tree};
+ghost use Rattle.wf_enter.specs.Tables.{count_in, events_in, left_in};
+ghost use Rattle.wf_enter.specs.Looked.{instances_at, look_each};
 ghost use Rattle.wf_resting.specs.Resting.{resting_at, resting_by};
 
 use crate::recount::has_row;
 use std::alloc::{AllocError, Global};
-use wf_asks::{Acts, Instance, Known, Opens, Rows, Store};
-use wf_events::{last_iteration, look_at, look_at_open, take_event};
+use wf_enter::{
+    Acts, CountAt, EventAt, Instance, Known, Opens, Plan, Rows, Store, last_iteration, look_at,
+    look_at_open, take_event,
+};
 use wf_lists::TryCopy;
-use wf_plan::Plan;
 use wf_room::Roomy;
-use wf_tables::{CountAt, EventAt};
 use wf_val::Indexes;
 
 fn is_open<A: Acts>(opens: &Opens<A::Decision, A::Verdict>, place: &Instance) -> bool

@@ -4,19 +4,17 @@ ghost use Rattle.wf_layers.specs.Address.{Address, same_at};
 ghost use Rattle.wf_layers.specs.Machine.{has_ended};
 ghost use Rattle.wf_layers.specs.Waiting.{waiting};
 ghost use Rattle.wf_kept.specs.Counted.{nonzero};
-ghost use Rattle.wf_asks.specs.Instances.{address_of, rows_in};
-ghost use Rattle.wf_asks.specs.Known.{is_among, opens_in};
-ghost use Rattle.wf_plan.specs.PlanSeen.{entry_tree, plan_tree, wait_need};
-ghost use Rattle.wf_tables.specs.Tables.{count_in};
+ghost use Rattle.wf_enter.specs.Instances.{address_of, rows_in};
+ghost use Rattle.wf_enter.specs.Known.{is_among, opens_in};
+ghost use Rattle.wf_enter.specs.PlanSeen.{entry_tree, plan_tree, wait_need};
+ghost use Rattle.wf_enter.specs.Tables.{count_in};
 ghost use Rattle.wf_resting.specs.Resting.{counts_at, lacking_of, lacks_at, waits_at};
 
 use crate::graphs::entered;
 use std::alloc::{AllocError, Global};
-use wf_asks::{Acts, Instance, Opens, Rows};
+use wf_enter::{Acts, CountAt, Entry, Instance, Opens, Plan, Rows, Wait, set_counts};
 use wf_lists::TryCopy;
-use wf_plan::{Entry, Plan, Wait};
 use wf_room::Roomy;
-use wf_tables::{CountAt, set_counts};
 use wf_val::Indexes;
 
 /// Whether an action has a row.

@@ -13,9 +13,9 @@ use Rattle.wf_def.specs.Layered.{layered, layered_cases, layered_kind}
 use Rattle.wf_def.specs.Names.{find_cases, find_in, find_inside, first_of}
 use Rattle.wf_loops.specs.Loops.{loops_any, loops_in, loops_of}
 use Rattle.wf_loops.proofs.RoundLemmas.{split_of}
-use Rattle.wf_order.specs.Order.{IsBelow}
-use Rattle.wf_order.specs.Table.{OrderTree, contains, order_of}
-use Rattle.wf_order.proofs.RelationLemmas.{contains_is}
+use Rattle.wf_loops.specs.Order.{IsBelow}
+use Rattle.wf_loops.specs.Table.{OrderTree, contains, order_of}
+use Rattle.wf_loops.proofs.RelationLemmas.{contains_is}
 use Rattle.wf_redo.specs.Sets.{is_chosen}
 use Rattle.wf_resubmit.specs.Chosen.{ChosenMayBeRedone, MayBeRedone}
 use Rattle.wf_resubmit.specs.Least.{IsLeastOf, NoneHolds, least_of}

@@ -7,7 +7,7 @@ use Rattle.wf_template.specs.CondTree.{CondTree}
 use Rattle.wf_template.specs.DataTree.{DataTree}
 use Rattle.wf_def.specs.ActionTree.{action, ActionTrees, KindTree, foreach, initialize, no_actions, action_then, scope, until}
 use Rattle.wf_def.specs.Layered.{layered}
-use Rattle.wf_order.specs.Table.{OrderTree, order_of}
+use Rattle.wf_loops.specs.Table.{OrderTree, order_of}
 use Rattle.wf_record.specs.Record.{RowTree}
 use Rattle.wf_record.specs.declared.status.Status.{Status}
 use Rattle.wf_resubmit.specs.Least.{least_of}

@@ -6,8 +6,8 @@ use Rattle.wf_layers.specs.Seen.{Once}
 use Rattle.wf_val.specs.declared.digest.Digest.{Digest}
 use Rattle.wf_def.specs.ActionTree.{ActionTrees}
 use Rattle.wf_def.specs.Layered.{layered}
-use Rattle.wf_order.specs.Order.{IsBelow}
-use Rattle.wf_order.specs.Table.{order_of}
+use Rattle.wf_loops.specs.Order.{IsBelow}
+use Rattle.wf_loops.specs.Table.{order_of}
 use Rattle.wf_record.specs.Record.{RowTree}
 use Rattle.wf_redo.specs.Sets.{is_chosen}
 use Rattle.wf_resubmit.specs.Refused.{numbers_of, refused}

@@ -6,7 +6,7 @@ use Rattle.wf_val.specs.declared.digest.Digest.{Digest}
 use Rattle.wf_def.specs.ActionTree.{ActionTree, ActionTrees, KindTree, action_kind, action_name, action_number, foreach, until}
 use Rattle.wf_def.specs.AllActions.{all_actions}
 use Rattle.wf_def.specs.Names.{find_in}
-use Rattle.wf_order.specs.Table.{OrderTree, contains}
+use Rattle.wf_loops.specs.Table.{OrderTree, contains}
 use Rattle.wf_record.specs.Record.{RowTree, find_row}
 use Rattle.wf_record.specs.declared.status.Status.{Status}
 use Rattle.wf_resubmit.specs.Least.{least_of}

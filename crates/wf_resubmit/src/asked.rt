@@ -2,14 +2,14 @@
 ghost use Rattle.std.specs.Prelude.{◌≡◌, IfOk, if◌then◌else◌, map, option_map};
 ghost use Rattle.std.specs.List.{find};
 ghost use Rattle.wf_def.specs.ActionSeen.{action_tree, graph_tree, kind_tree};
-ghost use Rattle.wf_order.specs.OrderSeen.{order_tree};
+ghost use Rattle.wf_loops.specs.OrderSeen.{order_tree};
 ghost use Rattle.wf_record.specs.Seen.{record_tree, row_tree};
 ghost use Rattle.wf_resubmit.specs.Least.{least_of, lesser};
 ghost use Rattle.wf_resubmit.specs.Refused.{has_run, is_idle, is_in_loop, is_loop, is_missing, is_round, loop_of};
 
 use std::alloc::{AllocError, Global};
 use wf_def::{Action, Graph, Kind};
-use wf_order::Order;
+use wf_loops::Order;
 use wf_record::{Record, Row, Status};
 use wf_val::{Address, Indexes, Name};
 

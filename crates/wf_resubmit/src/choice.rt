@@ -1,7 +1,7 @@
 //! The actions from which a run is resubmitted.
 ghost use Rattle.std.specs.Prelude.{◌≡◌, ◌≢◌, IfErr, IfOk, None, OnOk, Some, map, option_map};
 ghost use Rattle.wf_def.specs.ActionSeen.{action_tree, graph_tree};
-ghost use Rattle.wf_order.specs.OrderSeen.{order_tree};
+ghost use Rattle.wf_loops.specs.OrderSeen.{order_tree};
 ghost use Rattle.wf_record.specs.Seen.{record_tree};
 ghost use Rattle.wf_resubmit.specs.Least.{least_of};
 ghost use Rattle.wf_resubmit.specs.Refused.{in_loop, is_idle, is_in_loop, is_missing, name_of, no_action, not_run, number_of};
@@ -13,7 +13,7 @@ use crate::fault::ResubmitFault;
 use std::alloc::{AllocError, Global};
 use wf_def::{Action, Graph, all_actions};
 use wf_lists::Series;
-use wf_order::Order;
+use wf_loops::Order;
 use wf_record::Record;
 use wf_val::{Digest, Name, Schedule};
 

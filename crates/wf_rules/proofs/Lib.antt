@@ -1,3 +1,5 @@
+pub use Rattle.wf_varorder.proofs.NumberLemmas
+pub use Rattle.wf_varorder.proofs.TurnLemmas
 mod ToldLemmas
 mod PairLemmas
 mod WorkedSeveral

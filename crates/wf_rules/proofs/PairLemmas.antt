@@ -6,7 +6,7 @@ use Rattle.std.proofs.lemmas.Map.Lookups.{exact_bytes}
 use Rattle.wf_json.specs.Pointer.{lesser, least}
 use Rattle.wf_json.proofs.PointerLemmas.{lesser-assoc, lesser-none}
 use Rattle.wf_val.specs.NameOrder.{bytes_cmp}
-use Rattle.wf_standing.specs.Standing.{pointer_at}
+use Rattle.wf_varorder.specs.Standing.{pointer_at}
 use Rattle.wf_rules.specs.Broken.{first_pointer}
 use Rattle.wf_varorder.specs.Least as least_pairs
 use Rattle.wf_varorder.specs.Least.{least_from}

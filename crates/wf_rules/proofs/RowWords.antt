@@ -7,13 +7,14 @@ use Rattle.wf_template.specs.TemplateTree.{whole, plain}
 use Rattle.wf_template.specs.DataTree.{DataTree, null, number, text, list, data_trees}
 use Rattle.wf_template.specs.CondTree.{CondTree, holds}
 use Rattle.wf_retry.specs.declared.policy.Policy.{Policy}
-use Rattle.wf_def.specs.ActionTree.{ActionTree, action, InitialTree, KindTree, compose, connector, wait, response, terminate, select, query}
-use Rattle.wf_def.specs.ActionTree.{join, parse_json, initialize, scope, branch, switch, switch_else, foreach, until, action_trees}
-use Rattle.wf_def.specs.ActionTree.{no_actions, no_cases}
-use Rattle.wf_def.specs.DefTree.{DefTree, OutputTree, TriggerTree}
-use Rattle.wf_def.specs.declared.after.After.{After}
-use Rattle.wf_def.specs.declared.sort.Sort.{Sort}
-use Rattle.wf_reading.specs.declared.definition.RuleFault.{RuleFault}
+use Rattle.wf_varorder.specs.ActionTree.{ActionTree, action, InitialTree, KindTree, compose, connector}
+use Rattle.wf_varorder.specs.ActionTree.{wait, response, terminate, select, query}
+use Rattle.wf_varorder.specs.ActionTree.{join, parse_json, initialize, scope, branch, switch, switch_else, foreach, until, action_trees}
+use Rattle.wf_varorder.specs.ActionTree.{no_actions, no_cases}
+use Rattle.wf_varorder.specs.DefTree.{DefTree, OutputTree, TriggerTree}
+use Rattle.wf_varorder.specs.After.{After}
+use Rattle.wf_varorder.specs.Sort.{Sort}
+use Rattle.wf_varorder.specs.RuleFault.{RuleFault}
 use Rattle.wf_rules.specs.Broken.{broken_of}
 
 -- a call without arguments, and one with a name

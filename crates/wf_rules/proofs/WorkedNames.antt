@@ -5,12 +5,12 @@ use Rattle.std.specs.Prelude.{codes, pos}
 use Rattle.wf_val.specs.ValueTree as value
 use Rattle.wf_template.specs.TemplateTree.{TemplateTree, whole, plain}
 use Rattle.wf_template.specs.DataTree.{null}
-use Rattle.wf_def.specs.ActionTree.{ActionTrees, no_actions, CaseTrees, no_cases, case_then, KindTree, action_trees, select, query}
-use Rattle.wf_def.specs.ActionTree.{initialize, set_to, increment, decrement, append_array, append_string, scope, branch, switch}
-use Rattle.wf_def.specs.ActionTree.{switch_else, foreach, until}
-use Rattle.wf_def.specs.DefTree.{DefTree, ParamTree}
-use Rattle.wf_def.specs.declared.sort.Sort.{Sort}
-use Rattle.wf_reading.specs.declared.definition.RuleFault.{RuleFault}
+use Rattle.wf_varorder.specs.ActionTree.{ActionTrees, no_actions, CaseTrees, no_cases, case_then, KindTree, action_trees, select, query}
+use Rattle.wf_varorder.specs.ActionTree.{initialize, set_to, increment, decrement, append_array, append_string, scope, branch, switch}
+use Rattle.wf_varorder.specs.ActionTree.{switch_else, foreach, until}
+use Rattle.wf_varorder.specs.DefTree.{DefTree, ParamTree}
+use Rattle.wf_varorder.specs.Sort.{Sort}
+use Rattle.wf_varorder.specs.RuleFault.{RuleFault}
 use Rattle.wf_rules.specs.Broken.{broken_of}
 use Rattle.wf_rules.proofs.RowWords.{after, asked, at, both, composes, data_of, fault, in_scope, init, of, one, output, reads, some}
 use Rattle.wf_rules.proofs.RowWords.{tracking, trigger, truth, turns, variable, yes}

@@ -2,9 +2,9 @@
 use Rattle.std.proofs.Common.{◌≡◌, List, [], ◌∷◌, Option, Some, None, refl}
 use Rattle.std.specs.Prelude.{codes}
 use Rattle.wf_template.specs.DataTree.{null}
-use Rattle.wf_def.specs.ActionTree.{ActionTree, KindTree, response, set_to, terminate}
-use Rattle.wf_def.specs.declared.sort.Sort.{Sort}
-use Rattle.wf_reading.specs.declared.definition.RuleFault.{RuleFault}
+use Rattle.wf_varorder.specs.ActionTree.{ActionTree, KindTree, response, set_to, terminate}
+use Rattle.wf_varorder.specs.Sort.{Sort}
+use Rattle.wf_varorder.specs.RuleFault.{RuleFault}
 use Rattle.wf_rules.specs.Broken.{broken_of}
 use Rattle.wf_rules.proofs.RowWords.{after, asked, asks, at, composes, each, fault, in_scope, init, of, one, output, reads, some, tracking}
 use Rattle.wf_rules.proofs.RowWords.{truth, turns}

@@ -2,9 +2,9 @@
 use Prim.Native.String.{String}
 use Rattle.std.proofs.Common.{◌≡◌, List, [], ◌∷◌, Some, None, refl}
 use Rattle.std.specs.Prelude.{codes}
-use Rattle.wf_def.specs.ActionTree.{InitialTree, KindTree, initialize, increment, append_array}
+use Rattle.wf_varorder.specs.ActionTree.{InitialTree, KindTree, initialize, increment, append_array}
 use Rattle.wf_template.specs.DataTree.{null}
-use Rattle.wf_def.specs.declared.sort.Sort.{Sort}
+use Rattle.wf_varorder.specs.Sort.{Sort}
 use Rattle.wf_rules.specs.Broken.{broken_of}
 use Rattle.wf_rules.proofs.RowWords.{after, asked, at, both, composes, data_of, fault, in_scope, of, variable}
 

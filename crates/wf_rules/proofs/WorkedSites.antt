@@ -6,12 +6,12 @@ use Rattle.std.specs.Prelude.{codes, pos}
 use Rattle.wf_val.specs.ValueTree as value
 use Rattle.wf_template.specs.ExprTree.{ExprTree}
 use Rattle.wf_template.specs.DataTree.{null}
-use Rattle.wf_def.specs.ActionTree.{ActionTree, KindTree, response, terminate, branch, no_actions, action_trees}
-use Rattle.wf_def.specs.DefTree.{DefTree}
-use Rattle.wf_def.specs.declared.sort.Sort.{Sort}
-use Rattle.wf_reading.specs.declared.definition.RuleFault.{RuleFault}
+use Rattle.wf_varorder.specs.ActionTree.{ActionTree, KindTree, response, terminate, branch, no_actions, action_trees}
+use Rattle.wf_varorder.specs.DefTree.{DefTree}
+use Rattle.wf_varorder.specs.Sort.{Sort}
+use Rattle.wf_varorder.specs.RuleFault.{RuleFault}
 use Rattle.wf_rules.specs.Broken.{broken_of}
-use Rattle.wf_def.specs.Sorts.{has_sort}
+use Rattle.wf_varorder.specs.Sorts.{has_sort}
 use Rattle.wf_rules.proofs.RowWords.{after, asked, asks, at, at_inputs, at_items, at_test, composes, each, each_is, everywhere}
 use Rattle.wf_rules.proofs.RowWords.{fault, in_scope, in_tracked, of, of_kinds, one, some, told_of, truth, turns, yes}
 

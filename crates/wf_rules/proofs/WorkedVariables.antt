@@ -4,10 +4,10 @@ use Rattle.std.proofs.Common.{◌≡◌, List, [], ◌∷◌, map, Option, Some,
 use Rattle.std.specs.Prelude.{codes}
 use Rattle.wf_template.specs.ExprTree.{ExprTree}
 use Rattle.wf_template.specs.DataTree.{null}
-use Rattle.wf_def.specs.ActionTree.{ActionTree, KindTree, initialize, set_to, increment, decrement, append_array, append_string}
-use Rattle.wf_def.specs.DefTree.{DefTree}
-use Rattle.wf_def.specs.declared.sort.Sort.{Sort}
-use Rattle.wf_reading.specs.declared.definition.RuleFault.{RuleFault}
+use Rattle.wf_varorder.specs.ActionTree.{ActionTree, KindTree, initialize, set_to, increment, decrement, append_array, append_string}
+use Rattle.wf_varorder.specs.DefTree.{DefTree}
+use Rattle.wf_varorder.specs.Sort.{Sort}
+use Rattle.wf_varorder.specs.RuleFault.{RuleFault}
 use Rattle.wf_rules.specs.Broken.{broken_of}
 use Rattle.wf_rules.proofs.RowWords.{after, asked, at, data_of, each_is, everywhere, fault, in_scope, in_tracked, init, of}
 use Rattle.wf_rules.proofs.RowWords.{of_kinds, at_inputs, at_items, at_test, output, reads, set_first, told_of, turns}

@@ -3,12 +3,12 @@ use Rattle.std.specs.Prelude.{ℕ, suc, List, [], ◌∷◌, ◌++◌, map, Bool
 use Rattle.wf_first.specs.First.{first_broken}
 use Rattle.wf_json.specs.Pointer.{member_step}
 use Rattle.wf_val.specs.Cut.{cut_u32}
-use Rattle.wf_def.specs.DefTree.{DefTree, ParamTree}
-use Rattle.wf_reading.specs.ReadSeen.{rule_fault}
-use Rattle.wf_reading.specs.declared.definition.RuleFault.{RuleFault}
+use Rattle.wf_varorder.specs.DefTree.{DefTree, ParamTree}
+use Rattle.wf_varorder.specs.ReadSeen.{rule_fault}
+use Rattle.wf_varorder.specs.RuleFault.{RuleFault}
 use Rattle.wf_breaks.specs.Rules.{action_breaks, output_breaks, parameter_breaks, rule_number, trigger_breaks}
-use Rattle.wf_standing.specs.Standing.{StandingTree, pointer_at, standings_of}
-use Rattle.wf_standing.specs.Whole.{Whole, whole_of}
+use Rattle.wf_varorder.specs.Standing.{StandingTree, pointer_at, standings_of}
+use Rattle.wf_varorder.specs.Whole.{Whole, whole_of}
 use Rattle.wf_varorder.specs.Pairs.{Pair, pairs_among}
 use Rattle.wf_varorder.specs.declared.rule.PairRule.{PairRule}
 use Rattle.wf_breaks.specs.declared.rule.Rule.{Rule}

@@ -1,3 +1,13 @@
+pub use Rattle.wf_varorder.specs.Inside
+pub use Rattle.wf_varorder.specs.Kinds
+pub use Rattle.wf_varorder.specs.declared.rule.PairRule
+pub use Rattle.wf_varorder.specs.Pairs
+pub use Rattle.wf_varorder.specs.Settled
+pub use Rattle.wf_varorder.specs.Site
+pub use Rattle.wf_varorder.specs.Sites
+pub use Rattle.wf_varorder.specs.Standing
+pub use Rattle.wf_varorder.specs.UsesTree
+pub use Rattle.wf_varorder.specs.Whole
 pub use Rattle.wf_first.specs.First
 pub use Rattle.wf_breaks.specs.Rules
 pub use Rattle.wf_breaks.specs.declared.rule.Rule

@@ -1,12 +1,11 @@
 //! A definition that breaks none of the rules.
 ghost use Rattle.std.specs.Prelude.{◌≡◌, None};
-ghost use Rattle.wf_order.specs.OrderSeen.{order_tree};
-ghost use Rattle.wf_reading.specs.ReadSeen.{def_tree};
+ghost use Rattle.wf_varorder.specs.OrderSeen.{order_tree};
+ghost use Rattle.wf_varorder.specs.ReadSeen.{def_tree};
 ghost use Rattle.wf_rules.specs.Broken.{broken_of};
-ghost use Rattle.wf_standing.specs.Whole.{order_in};
+ghost use Rattle.wf_varorder.specs.Whole.{order_in};
 
-use wf_order::Order;
-use wf_reading::Def;
+use wf_varorder::{Def, Order};
 
 /// A definition that was read and breaks none of the rules that `check` tries, with the order of its actions.
 #[derive(Drop)]

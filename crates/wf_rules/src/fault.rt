@@ -1,29 +1,27 @@
 //! Which rule a definition breaks first, and where.
 ghost use Rattle.std.specs.Prelude.{◌≡◌, ◌++◌, ℕ, List, [], Some, None, IfOk, codes, cond, map, option_map, string_bytes};
-ghost use Rattle.wf_def.specs.DefSeen.{output_tree, param_tree, trigger_tree};
+ghost use Rattle.wf_varorder.specs.DefSeen.{output_tree, param_tree, trigger_tree};
 ghost use Rattle.wf_first.specs.First.{first_broken};
 ghost use Rattle.wf_json.specs.Pointer.{least, lesser, member_step};
-ghost use Rattle.wf_order.specs.OrderSeen.{order_tree};
-ghost use Rattle.wf_reading.specs.ReadSeen.{def_tree};
+ghost use Rattle.wf_varorder.specs.OrderSeen.{order_tree};
+ghost use Rattle.wf_varorder.specs.ReadSeen.{def_tree};
 ghost use Rattle.wf_rules.specs.Broken.{first_pointer, offences, pairs_told, parameter_pointer, rules_in_order, told, told_in};
 ghost use Rattle.wf_varorder.specs.Pairs.{pairs_among};
-ghost use Rattle.wf_standing.specs.KnownSeen.{whole_seen};
+ghost use Rattle.wf_varorder.specs.KnownSeen.{whole_seen};
 ghost use Rattle.wf_breaks.specs.Rules.{action_breaks, output_breaks, parameter_breaks, trigger_breaks};
-ghost use Rattle.wf_standing.specs.Seen.{standing_tree};
-ghost use Rattle.wf_standing.specs.Standing.{pointer_at, standings_of};
-ghost use Rattle.wf_standing.specs.Whole.{order_in, whole_of};
+ghost use Rattle.wf_varorder.specs.StandingSeen.{standing_tree};
+ghost use Rattle.wf_varorder.specs.Standing.{pointer_at, standings_of};
+ghost use Rattle.wf_varorder.specs.Whole.{order_in, whole_of};
 ghost use Rattle.wf_val.specs.Cut.{cut_u32};
 
 use std::alloc::{AllocError, Global};
 use std::cmp::Ordering;
 use wf_breaks::{Rule, action_breaks, output_breaks, parameter_breaks, trigger_breaks};
-use wf_def::{Output, Param, Trigger};
 use wf_json::pointer::{lesser, lesser_of, step_to};
-use wf_order::Order;
-use wf_reading::Def;
-use wf_standing::{Known, Standing, refs, standings_of};
 use wf_val::{Fields, Name, Text};
-use wf_varorder::{PairRule, least_pair};
+use wf_varorder::{
+    Def, Known, Order, Output, PairRule, Param, Standing, Trigger, least_pair, refs, standings_of,
+};
 
 // The lesser of the pointer so far, if there is one, and another, where that is broken.
 fn with_pointer<'a>(best: Option<&'a Text>, broken: bool, pointer: &'a Text) -> Option<&'a Text>

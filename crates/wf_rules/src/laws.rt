@@ -1,6 +1,6 @@
 //! What the first fault is, in words of its own. Each call tells a caller so, and does nothing.
 ghost use Rattle.std.specs.Prelude.{◌≡◌, ℕ, List, Some, None};
-ghost use Rattle.wf_def.specs.DefTree.{DefTree};
+ghost use Rattle.wf_varorder.specs.DefTree.{DefTree};
 ghost use Rattle.wf_first.specs.First.{first_broken, Hold, IsFirstBroken};
 ghost use Rattle.wf_rules.specs.Broken.{offences, rules_in_order};
 ghost use Rattle.wf_breaks.specs.declared.rule.Rule.{Rule as RuleOf};

@@ -12,14 +12,14 @@ use Rattle.wf_environment.specs.Environment.{Environment}
 use Rattle.wf_record.specs.Cost.{cost}
 use Rattle.wf_record.specs.Record.{RecordTree}
 use Rattle.wf_record.specs.declared.row.Row as kept
-use Rattle.wf_meant.specs.Answering.{RowSource, table_by}
-use Rattle.wf_meant.specs.Points.{graph_of}
-use Rattle.wf_meant.specs.Record.{depth_of, record_of_table}
-use Rattle.wf_meant.specs.Record as meant
-use Rattle.wf_meant.specs.Resubmitted.{pinned, pinned_source, resubmitted}
-use Rattle.wf_meant.specs.Source as sources
-use Rattle.wf_trace.specs.Told as trace
-use Rattle.wf_views.specs.Seen.{rows_seen}
+use Rattle.wf_actions.specs.Answering.{RowSource, table_by}
+use Rattle.wf_actions.specs.Points.{graph_of}
+use Rattle.wf_actions.specs.Record.{depth_of, record_of_table}
+use Rattle.wf_actions.specs.Record as meant
+use Rattle.wf_actions.specs.Resubmitted.{pinned, pinned_source, resubmitted}
+use Rattle.wf_actions.specs.Source as sources
+use Rattle.wf_told.specs.Told as trace
+use Rattle.wf_actions.specs.Seen.{rows_seen}
 use Rattle.wf_told.specs.Resubmissions.{IsResubmittedUnder, resumed_state}
 use Rattle.wf_told.specs.Under.{IsRunUnder}
 use Rattle.wf_ended.specs.Ended.{HasEnded}

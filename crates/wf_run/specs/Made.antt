@@ -4,9 +4,9 @@ use Rattle.wf_asks.specs.Known.{store_in, writer}
 use Rattle.wf_asks.specs.declared.known.OpenAt.{OpenAt}
 use Rattle.wf_asks.specs.declared.known.RowAt.{RowAt}
 use Rattle.wf_asks.specs.declared.known.WriterAt.{WriterAt}
-use Rattle.wf_done.specs.DoneSeen.{begun_tree}
-use Rattle.wf_done.specs.Leaf.{BegunTree}
-use Rattle.wf_done.specs.declared.leaf.Begun.{Begun}
+use Rattle.wf_told.specs.DoneSeen.{begun_tree}
+use Rattle.wf_told.specs.Leaf.{BegunTree}
+use Rattle.wf_told.specs.Begun.{Begun}
 use Rattle.wf_drive.specs.Driven.{IsDriven, IsFirst}
 use Rattle.wf_layers.specs.Address.{Address}
 use Rattle.wf_layers.specs.Machine as machine
@@ -19,9 +19,9 @@ use Rattle.wf_opening.specs.declared.decide.Decision.{Decision}
 use Rattle.wf_opening.specs.declared.verdict.Verdict.{Verdict}
 use Rattle.wf_record.specs.Record as recorded
 use Rattle.wf_record.specs.declared.row.Row.{Row}
-use Rattle.wf_steps.specs.Shown.{shown}
+use Rattle.wf_actions.specs.Shown.{shown}
 use Rattle.wf_tables.specs.declared.entries.LeafAt.{LeafAt}
-use Rattle.wf_views.specs.Seen.{row_content, rows_seen}
+use Rattle.wf_actions.specs.Seen.{row_content, rows_seen}
 use Rattle.wf_actions.specs.Meant.{depth, fee, graph, rows_meant, source, told, writes}
 use Rattle.wf_actions.specs.declared.actions.Actions.{Actions}
 

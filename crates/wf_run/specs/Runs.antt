@@ -6,18 +6,18 @@ use Rattle.wf_asks.specs.Known.{store_in}
 use Rattle.wf_asks.specs.declared.known.RowAt.{RowAt}
 use Rattle.wf_asks.specs.declared.known.WriterAt.{WriterAt}
 use Rattle.wf_def.specs.DefTree.{DefTree}
-use Rattle.wf_done.specs.DoneSeen.{begun_tree}
+use Rattle.wf_told.specs.DoneSeen.{begun_tree}
 use Rattle.wf_actions.specs.Weights.{begun_weight, decision_weight}
 use Rattle.wf_ended.specs.Ended.{HasEnded}
 use Rattle.wf_environment.specs.Environment.{Environment, fresh}
 use Rattle.wf_layers.specs.Machine.{IsOver}
-use Rattle.wf_meant.specs.Answering.{RowSource}
-use Rattle.wf_meant.specs.Points.{graph_of}
-use Rattle.wf_meant.specs.Record.{depth_of, meaning, record_of_table}
-use Rattle.wf_meant.specs.Resubmitted.{pinned, resubmitted}
-use Rattle.wf_meant.specs.Source.{source}
-use Rattle.wf_metered.specs.Sums.{AreSumsOf}
-use Rattle.wf_metered.specs.declared.sums.Sums.{Sums}
+use Rattle.wf_actions.specs.Answering.{RowSource}
+use Rattle.wf_actions.specs.Points.{graph_of}
+use Rattle.wf_actions.specs.Record.{depth_of, meaning, record_of_table}
+use Rattle.wf_actions.specs.Resubmitted.{pinned, resubmitted}
+use Rattle.wf_actions.specs.Source.{source}
+use Rattle.wf_actions.specs.Sums.{AreSumsOf}
+use Rattle.wf_actions.specs.MeteredSums.{Sums}
 use Rattle.wf_opening.specs.DecisionSeen.{decision_tree, verdict_tree}
 use Rattle.wf_actions.specs.Paying.{cost_of_row}
 use Rattle.wf_plan.specs.PlanSeen.{plan_tree}
@@ -29,18 +29,18 @@ use Rattle.wf_record.specs.Seen.{record_tree}
 use Rattle.wf_record.specs.declared.record.Record.{Record}
 use Rattle.wf_record.specs.declared.row.Row.{Row}
 use Rattle.wf_resubmit.specs.Refused.{numbers_of}
-use Rattle.wf_rules.specs.declared.checked.Checked.{Checked}
-use Rattle.wf_prepare.specs.Prepared.{MayBeResubmitted}
+use Rattle.wf_pinned.specs.Checked.{Checked}
+use Rattle.wf_told.specs.Prepared.{MayBeResubmitted}
 use Rattle.wf_ended.specs.Writes.{writes}
-use Rattle.wf_steps.specs.Kept.{IsPlanned}
-use Rattle.wf_steps.specs.Rest.{IsRest}
+use Rattle.wf_actions.specs.Kept.{IsPlanned}
+use Rattle.wf_actions.specs.Rest.{IsRest}
 use Rattle.wf_tables.specs.declared.entries.CountAt.{CountAt}
 use Rattle.wf_tables.specs.declared.entries.EventAt.{EventAt}
 use Rattle.wf_told.specs.Resubmissions.{IsResubmittedUnder, resumed_state}
 use Rattle.wf_told.specs.Under.{IsRunUnder, Told}
 use Rattle.wf_trigger.specs.StartsSeen.{start_tree}
 use Rattle.wf_trigger.specs.declared.starts.Start.{Start}
-use Rattle.wf_views.specs.Seen.{row_content, rows_seen}
+use Rattle.wf_actions.specs.Seen.{row_content, rows_seen}
 use Rattle.wf_run.specs.Made.{Lists, Moment, moment}
 
 -- the definition of one that was accepted, and the environment of a run that begins so

@@ -13,10 +13,9 @@ use crate::opened::was_read;
 use crate::run::{Ended, is_too_large};
 use crate::runnable::{Runnable, is_planned};
 use std::alloc::{AllocError, Global};
-use wf_actions::Actions;
+use wf_actions::{Actions, Making};
 use wf_answers::Inputs;
 use wf_drive::DriveFault;
-use wf_making::Making;
 use wf_record::Record;
 use wf_regained::{Regained, regain};
 use wf_trigger::Start;
@@ -49,9 +48,9 @@ fn actions<'s>(
     was_read(&runnable.checked.def);
     runnable.checked.always_checked();
     wf_pinned::a_resubmission_is_answered();
-    wf_prepare::record_is_an_old_table();
-    wf_prepare::kept_rows_are_whole();
-    wf_prepare::kept_rows_give_what_they_write();
+    wf_told::record_is_an_old_table();
+    wf_told::kept_rows_are_whole();
+    wf_told::kept_rows_give_what_they_write();
     Actions::resumed(runnable.ready, start, inputs, log, from)
 }
 
@@ -77,10 +76,10 @@ fn first<'s, 'a>(
     was_read(&runnable.checked.def);
     runnable.checked.always_checked();
     wf_regained::a_definition_is_an_instance();
-    wf_prepare::what_is_chosen_stands_in_no_loop();
-    wf_prepare::record_has_the_right_shape();
-    wf_prepare::kept_rows_are_whole();
-    wf_prepare::record_is_an_old_table();
+    wf_told::what_is_chosen_stands_in_no_loop();
+    wf_told::record_has_the_right_shape();
+    wf_told::kept_rows_are_whole();
+    wf_told::record_is_an_old_table();
     let Regained { rows, opens, store } = regain(
         alloc,
         &runnable.ready.places,

@@ -5,9 +5,8 @@ ghost use Rattle.wf_run.specs.Made.{AreFew, AreLeft, IsAtFirst, IsMade, IsTooMuc
 
 use crate::made::{Made, given_up};
 use std::alloc::Global;
-use wf_actions::Actions;
+use wf_actions::{Actions, Making};
 use wf_drive::{DriveFault, Driven, drive};
-use wf_making::Making;
 use wf_val::Schedule;
 
 /// Makes a run's events from its first state on, until nothing may happen any more, where other runs have cost `spent`. Its rows are then

@@ -6,12 +6,11 @@ ghost use Rattle.wf_run.specs.Runs.{IsAsideAtLast, meant_record};
 use crate::made::given_up;
 use crate::runnable::{Runnable, is_planned};
 use std::alloc::{AllocError, Global};
-use wf_actions::Actions;
+use wf_actions::{Actions, Making, Rest};
 use wf_answers::Inputs;
-use wf_done::Begun;
-use wf_making::{Making, Rest};
 use wf_opening::{Decision, Verdict};
 use wf_record::{Record, Row};
+use wf_told::Begun;
 use wf_trigger::Start;
 
 impl<'a> Runnable<'a> {
@@ -26,7 +25,7 @@ impl<'a> Runnable<'a> {
         requires { IsAsideAtLast self.now.checked.now start inputs.now rest }
         ensures { IfOk result (λ r. record_tree r ≡ meant_record self.now.checked.now start inputs.now) }
     {
-        wf_meant::a_record_is_of_the_table();
+        wf_actions::a_record_is_of_the_table();
         is_planned(self);
         let actions = Actions::of(self.ready, &start, inputs);
         let (rows, store) = given_up(Making::again(&actions, self.plan, rest));

@@ -10,10 +10,9 @@ use crate::made::Made;
 use crate::run::{Ended, is_too_large};
 use crate::runnable::{Runnable, is_planned};
 use std::alloc::Global;
-use wf_actions::Actions;
+use wf_actions::{Actions, Making};
 use wf_answers::Inputs;
 use wf_drive::DriveFault;
-use wf_making::Making;
 use wf_trigger::Start;
 use wf_val::Schedule;
 
@@ -42,7 +41,7 @@ impl<'a> Runnable<'a> {
         ensures few { IfOk result (λ m. AreFew m.steps (meant_cost self.now.checked.now start.now inputs.now)) }
         ensures large { IfErr result (λ f. f ≢ DriveFault.Memory → IsTooMuch spent (meant_cost self.now.checked.now start.now inputs.now)) }
     {
-        wf_meant::a_record_is_of_the_table();
+        wf_actions::a_record_is_of_the_table();
         wf_actions::runs_cost_no_more_than_their_records();
         is_planned(self);
         let actions = Actions::of(self.ready, start, inputs);

@@ -29,5 +29,5 @@ mod runnable;
 pub use least::cost_too_much;
 pub use run::Ended;
 pub use runnable::{Runnable, is_planned};
-pub use wf_actions::Ready;
+pub use wf_actions::{Actions, Making, Places, Ready, Rest, name_of};
 pub use wf_ended::Ends;

@@ -1,9 +1,8 @@
 //! Runs whose events have happened.
 ghost use Rattle.wf_run.specs.Made.{AreLeft, IsAtLast};
 
-use wf_actions::Actions;
+use wf_actions::{Actions, Making};
 use wf_asks::{Rows, Store};
-use wf_making::Making;
 use wf_record::Row;
 
 /// A run in which nothing may happen any more, before its record is made: its rows and its last writers, how many events it had, how many

@@ -8,9 +8,9 @@ use wf_actions::Ready;
 use wf_answers::Inputs;
 use wf_asks::{Rows, Store};
 use wf_ended::Ends;
+use wf_pinned::Checked;
 use wf_plan::Plan;
 use wf_record::{Record, Row};
-use wf_rules::Checked;
 use wf_trigger::Start;
 
 /// An accepted definition, by what its runs ask of it again and again.

@@ -10,7 +10,7 @@ use Rattle.wf_def.specs.ActionTree.{KindTree, foreach, until}
 use Rattle.wf_def.specs.declared.sort.Initial.{Initial}
 use Rattle.wf_def.specs.declared.sort.Sort.{Sort}
 use Rattle.wf_def.proofs.SizeLemmas.{drop_at_place}
-use Rattle.wf_record.specs.Record.{Row}
+use Rattle.wf_data.specs.Record.{Row}
 use Rattle.wf_says.specs.Laws.{IsForeach, IsUntil, SkippedSaysNothing}
 use Rattle.wf_says.specs.Says.{Variable, fits_kind, initialized, is_few, is_skipped, says, says_or_nothing, says_rounds, tells, tells_each}
 use Rattle.wf_says.specs.Told.{count_told, items_said, rounds_said, told_rounds}

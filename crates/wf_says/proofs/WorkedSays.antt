@@ -7,8 +7,8 @@ use Rattle.wf_template.specs.DataTree.{DataTree}
 use Rattle.wf_template.specs.TemplateTree.{TemplateTree}
 use Rattle.wf_def.specs.ActionTree.{CaseTrees, KindTree, compose, foreach, increment, initialize, no_actions, no_cases, case_then, branch, scope, set_to, switch, terminate, until}
 use Rattle.wf_def.specs.declared.sort.Sort.{Sort}
-use Rattle.wf_record.specs.Record.{Row}
-use Rattle.wf_record.specs.declared.status.Status.{Status}
+use Rattle.wf_data.specs.Record.{Row}
+use Rattle.wf_data.specs.Status.{Status}
 use Rattle.wf_says.specs.Says.{fits_kind}
 use Rattle.wf_says.specs.Told.{items_said, rounds_said, taken_by, told_rounds}
 

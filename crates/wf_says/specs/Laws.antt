@@ -2,7 +2,7 @@
 use Rattle.std.specs.Prelude.{◌≡◌, Bool, true, Option}
 use Rattle.wf_def.specs.ActionTree.{KindTree, foreach, until}
 use Rattle.wf_def.specs.declared.sort.Sort.{Sort}
-use Rattle.wf_record.specs.Record.{Row}
+use Rattle.wf_data.specs.Record.{Row}
 use Rattle.wf_says.specs.Says.{fits_kind, is_skipped}
 use Rattle.wf_says.specs.Told.{items_said, rounds_said}
 

@@ -1,3 +1,8 @@
+pub use Rattle.wf_data.specs.Made
+pub use Rattle.wf_opening.specs.declared.decide.Decision
+pub use Rattle.wf_opening.specs.DecisionSeen
+pub use Rattle.wf_opening.specs.Uses
+pub use Rattle.wf_opening.specs.declared.verdict.Verdict
 pub use Rattle.wf_data.specs.Simple
 pub use Rattle.wf_opening.specs.Decisions
 pub use Rattle.wf_opening.specs.Verdicts

@@ -6,9 +6,9 @@ use Rattle.wf_def.specs.ActionTree.{InitialTree, KindTree, terminate, initialize
 use Rattle.wf_def.specs.Sorts.{has_sort}
 use Rattle.wf_def.specs.declared.sort.Sort.{Sort}
 use Rattle.wf_data.specs.Simple.{run_status_of}
-use Rattle.wf_record.specs.Record.{Row}
-use Rattle.wf_record.specs.declared.status.RunStatus.{RunStatus}
-use Rattle.wf_record.specs.declared.status.Status.{Status}
+use Rattle.wf_data.specs.Record.{Row}
+use Rattle.wf_data.specs.RunStatus.{RunStatus}
+use Rattle.wf_data.specs.Status.{Status}
 use Rattle.wf_says.specs.Told.{told_rounds}
 
 -- ---- statuses

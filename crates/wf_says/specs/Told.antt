@@ -2,7 +2,7 @@
 use Rattle.std.specs.Prelude.{ℕ, ℤ, pos, List, [], ◌∷◌, length, Option, Some, None, Ok, if◌then◌else◌, bytes_eq, codes}
 use Rattle.wf_val.specs.ValueTree.{ValueTree, number, list, object, items, pairs, Member}
 use Rattle.wf_def.specs.ActionTree.{KindTree, branch, switch, switch_else}
-use Rattle.wf_record.specs.Record.{Row}
+use Rattle.wf_data.specs.Record.{Row}
 use Rattle.wf_opening.specs.Decisions.{chosen_as, held_as, taken}
 
 -- The branch that would be taken with what the row has as inputs for the value of the condition or the expression: counted from 1, and 0

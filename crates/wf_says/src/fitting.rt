@@ -1,7 +1,7 @@
 //! Whether a row may be one of its action.
 ghost use Rattle.std.specs.Prelude.{◌≡◌, Some};
 ghost use Rattle.wf_def.specs.ActionSeen.{kind_tree};
-ghost use Rattle.wf_record.specs.Seen.{row_tree};
+ghost use Rattle.wf_data.specs.Seen.{row_tree};
 ghost use Rattle.wf_data.specs.Simple.{run_status_of};
 ghost use Rattle.wf_says.specs.Says.{fits_kind, has_status, is_boolean, is_count, is_few, is_skipped, is_text_or_number};
 ghost use Rattle.wf_says.specs.Says.{says, says_or_nothing, says_rounds, succeeded};
@@ -9,9 +9,8 @@ ghost use Rattle.wf_val.specs.Seen.{tree};
 
 use crate::told::told_rounds;
 use crate::variables::{tells_initials, tells_one};
-use wf_data::run_status;
+use wf_data::{Row, Status, run_status};
 use wf_def::{Kind, Sort};
-use wf_record::{Row, Status};
 use wf_val::Val;
 
 /// Whether it has the status Skipped.

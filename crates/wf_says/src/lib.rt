@@ -18,3 +18,4 @@ mod variables;
 pub use fitting::{fits, is_skipped};
 pub use laws::a_skipped_row_says_nothing;
 pub use told::{branch_said, items_said, rounds_said};
+pub use wf_opening::{Decision, Verdict, open, taken, test, what_a_container_decides_is_local};

@@ -3,12 +3,12 @@ ghost use Rattle.std.specs.Prelude.{◌≡◌, Ok, map};
 ghost use Rattle.wf_def.specs.ActionSeen.{cases_seen, kind_tree};
 ghost use Rattle.wf_def.specs.ActionTree.{case_trees};
 ghost use Rattle.wf_opening.specs.Decisions.{branch_from, chosen_as, held_as, taken};
-ghost use Rattle.wf_record.specs.Seen.{row_tree};
+ghost use Rattle.wf_data.specs.Seen.{row_tree};
 ghost use Rattle.wf_says.specs.Told.{count_items, count_told, items_said, number_in, rounds_said, taken_by, told_by, told_rounds};
 ghost use Rattle.wf_val.specs.Seen.{member, tree};
 
+use wf_data::Row;
 use wf_def::{Cases, Kind};
-use wf_record::Row;
 use wf_val::{Text, Val};
 
 // The number of the first case that is the value, else of the branch behind all cases.

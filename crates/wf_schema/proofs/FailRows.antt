@@ -2,7 +2,7 @@
 use Rattle.std.proofs.Common.{◌≡◌, ℕ, List, [], ◌∷◌, map, Bool, true, false, Option, Some, None, is_none, pos, refl}
 use Rattle.std.specs.Fmt.{digits}
 use Rattle.std.specs.Prelude.{codes, negsuc}
-use Rattle.wf_json.specs.Pointer.{least}
+use Rattle.wf_places.specs.Pointer.{least}
 use Rattle.wf_schema.specs.Fails.{fails}
 use Rattle.wf_val.specs.ValueTree.{ValueTree, null, boolean, number, text, list, object, trees, members, Member}
 

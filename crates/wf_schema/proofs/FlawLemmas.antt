@@ -1,8 +1,8 @@
 -- A value is a schema exactly where it has no flaw.
 use Rattle.std.proofs.Common.{◌≡◌, ℕ, suc, ℤ, List, [], ◌++◌, map, option_map, Bool, true, false, not, ◌&&◌, ◌||◌, if◌then◌else◌, Option, Some, None, is_none, refl, sym, ap, ap₂, ◌∙◌, bytes_eq, codes}
 use Rattle.std.specs.List.{list_all}
-use Rattle.wf_json.specs.Pointer.{here, least, lesser, member_step, item_step}
-use Rattle.wf_json.proofs.PointerLemmas.{least-append, least-front}
+use Rattle.wf_places.specs.Pointer.{here, least, lesser, member_step, item_step}
+use Rattle.wf_places.proofs.PointerLemmas.{least-append, least-front}
 use Rattle.wf_places.specs.Form.{places, in_members, in_items, in_part, in_list, own}
 use Rattle.wf_val.specs.ValueTree.{ValueTree, ValueTrees, MemberTrees, null, boolean, number, text, list, object, items, no_values, value_then, no_members, member_then}
 use Rattle.wf_schema.specs.Keywords.{is_schema, are_keywords, is_keyword, are_properties, are_schemas, are_names, are_types}

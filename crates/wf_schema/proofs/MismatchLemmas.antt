@@ -4,7 +4,7 @@ use Rattle.std.specs.List.{Contains, list_all, list_any}
 use Rattle.std.specs.Ordering.{is_eq}
 use Rattle.std.specs.declared.cmp.Ordering.{Ordering}
 use Rattle.std.proofs.lemmas.List.Elements.{Contains-append_right, Contains-append_cases, Contains-push_cases}
-use Rattle.wf_json.specs.Pointer.{member_step, item_step}
+use Rattle.wf_places.specs.Pointer.{member_step, item_step}
 use Rattle.wf_places.specs.Amiss.{IsAmiss, wrong, missing, beside, further, in_member as amiss_member, in_item as amiss_item}
 use Rattle.wf_places.proofs.AmissLemmas.{listed_iff_amiss}
 use Rattle.wf_val.specs.Get.{get}

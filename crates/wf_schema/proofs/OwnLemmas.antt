@@ -1,6 +1,6 @@
 -- What is amiss at a value itself, by its schema.
 use Rattle.std.proofs.Common.{◌≡◌, [], ◌++◌, Bool, true, false, not, refl, ap, ◌∙◌}
-use Rattle.wf_json.specs.Pointer.{here, least, lesser}
+use Rattle.wf_places.specs.Pointer.{here, least, lesser}
 use Rattle.wf_places.specs.Form.{own, places, in_members, in_items, in_list}
 use Rattle.wf_places.proofs.WalkLemmas.{own_and_members, own_and_items}
 use Rattle.wf_val.specs.ValueTree.{ValueTree, MemberTrees, ValueTrees, object, list}

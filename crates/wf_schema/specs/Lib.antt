@@ -1,3 +1,7 @@
+pub use Rattle.wf_places.specs.FaultText
+pub use Rattle.wf_places.specs.Follow
+pub use Rattle.wf_places.specs.Json
+pub use Rattle.wf_places.specs.Pointer
 pub mod SchemaForm
 pub mod Keywords
 pub mod Reading

@@ -1,6 +1,6 @@
 -- Where a value fails a schema, cause by cause: the same as `fails`, in other words. A pointer is from the value on.
 use Rattle.std.specs.Prelude.{◌≡◌, ℕ, List, [], ◌++◌, Contains, Some, None, false, codes, slice_get}
-use Rattle.wf_json.specs.Pointer.{item_step, member_step}
+use Rattle.wf_places.specs.Pointer.{item_step, member_step}
 use Rattle.wf_val.specs.Get.{get}
 use Rattle.wf_val.specs.ValueTree.{ValueTree, text, list, object, ValueTrees, items, MemberTrees, pairs}
 use Rattle.wf_schema.specs.Asked.{is_of_type}

@@ -1,6 +1,6 @@
 -- Which schema a value is, or where it is none.
 use Rattle.std.specs.Prelude.{ℕ, List, Option, Some, None, Result, Ok, Err}
-use Rattle.wf_json.specs.Pointer.{least}
+use Rattle.wf_places.specs.Pointer.{least}
 use Rattle.wf_places.specs.Form.{places}
 use Rattle.wf_val.specs.Seen.{tree}
 use Rattle.wf_val.specs.ValueTree.{ValueTree}

@@ -28,3 +28,4 @@ pub use keywords::is_schema;
 pub use laws::places_are_where_a_value_fails;
 pub use schema::Schema;
 pub use walk::mismatch;
+pub use wf_places::{fault_text, pointer, quoted};

@@ -1,6 +1,6 @@
 //! Where a value fails its schema.
 ghost use Rattle.std.specs.Prelude.{◌≡◌, IfOk, option_map, string_bytes, false};
-ghost use Rattle.wf_json.specs.Pointer.{here, least, lesser};
+ghost use Rattle.wf_places.specs.Pointer.{here, least, lesser};
 ghost use Rattle.wf_places.specs.Form.{in_items, in_members, in_part, places};
 ghost use Rattle.wf_places.specs.Least.{IsLeastOf};
 ghost use Rattle.wf_schema.specs.Fails.{by_schema, fails, item_schema, property};
@@ -12,7 +12,7 @@ ghost use Rattle.wf_val.specs.ValueTree.{members, trees};
 use crate::asked::is_as_asked;
 use crate::schema::Schema;
 use std::alloc::{AllocError, Global};
-use wf_json::pointer::{here, with_item, with_member};
+use wf_places::pointer::{here, with_item, with_member};
 use wf_val::{Fields, Text, Val, Vals};
 
 /// The least pointer of the places at which a value isn't as a schema asks; none where it is valid.

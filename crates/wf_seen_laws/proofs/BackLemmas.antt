@@ -10,7 +10,7 @@ use Rattle.wf_layers.specs.Definition.{add, holds, has, has_any}
 use Rattle.wf_layers.specs.Address.{Address, starts, is_in, owner, Lower, earlier_in, earlier_any, together}
 use Rattle.wf_layers.specs.Seen.{Once, OnceIn, OnceAny}
 use Rattle.wf_layers.proofs.Basics.{two, and_in, and_of, or_second, same_self, when, unless}
-use Rattle.wf_order.specs.Order.{Among, around, around_any, around_in, up}
+use Rattle.wf_loops.specs.Order.{Among, around, around_any, around_in, up}
 use Rattle.wf_loops.specs.Loops.{is_earlier, is_in_turn, paces_any, paces_in, paces_round}
 use Rattle.wf_loops.proofs.HeldLemmas.{paces_none, not_own, passed}
 use Rattle.wf_loops.proofs.NameLemmas.{earlier_has, earlier_has_any, together_has, within_has, within_starts}

@@ -1,3 +1,8 @@
+pub use Rattle.wf_loops.proofs.FewLemmas
+pub use Rattle.wf_loops.proofs.HeldLemmas
+pub use Rattle.wf_loops.proofs.InsideLemmas
+pub use Rattle.wf_loops.proofs.RoundLemmas as LoopsRoundLemmas
+pub use Rattle.wf_loops.proofs.PrefixLemmas
 pub mod BackLemmas
 pub mod RoundLemmas
 pub mod RowLemmas

@@ -1,1 +1,11 @@
+pub use Rattle.wf_loops.specs.ActionTree
+pub use Rattle.wf_loops.specs.AllActions
+pub use Rattle.wf_loops.specs.DefTree
+pub use Rattle.wf_loops.specs.Indexes
+pub use Rattle.wf_loops.specs.Layered
+pub use Rattle.wf_loops.specs.Loops
+pub use Rattle.wf_loops.specs.Names
+pub use Rattle.wf_loops.specs.Order
+pub use Rattle.wf_loops.specs.Sort
+pub use Rattle.wf_loops.specs.Turns
 pub mod Laws

@@ -18,11 +18,13 @@ ghost use Rattle.wf_layers.specs.Resubmission.{kept};
 ghost use Rattle.wf_layers.specs.Rule.{Obeys};
 ghost use Rattle.wf_layers.specs.Seen.{Once};
 ghost use Rattle.wf_layers.specs.Source.{Source, leaf};
-ghost use Rattle.wf_order.specs.Order.{Before, IsBelow};
+ghost use Rattle.wf_loops.specs.Order.{Before, IsBelow};
 ghost use Rattle.wf_loops.specs.Loops.{is_earlier, paces_round};
 ghost use Rattle.wf_seen_laws.specs.Laws.{HadTurn, IsInTurnFrom, IsInTurnOf, IsKept};
 
-use wf_order::{before_is_an_order, order_is_exact, what_stands_inside_goes_along};
+pub use wf_loops::{
+    before_is_an_order, order_is_exact, what_is_earlier_is_seen, what_stands_inside_goes_along,
+};
 
 /// What is seen is earlier by the loops round both: an index that differs is the lesser one in a loop that goes one iteration after the
 /// other; and where none differs, what is seen is before who sees it.

@@ -3,14 +3,14 @@ use Rattle.std.proofs.Common.{◌≡◌, ℕ, map, Option, sym, ap, ◌∙◌}
 use Rattle.wf_answers.specs.AnswerSeen.{answer_tree}
 use Rattle.wf_answers.specs.AnswerTree.{AnswerTree, find_answer}
 use Rattle.wf_connect.specs.Last.{answered_at}
-use Rattle.wf_doing.specs.Places.{named}
+use Rattle.wf_stands.specs.Places.{named}
 use Rattle.wf_layers.specs.Address.{Address}
 use Rattle.wf_layers.specs.Machine.{has_ended}
-use Rattle.wf_meant.specs.Look.{instance}
+use Rattle.wf_planned.specs.Look.{instance}
 use Rattle.wf_reading.specs.ReadSeen.{def_tree}
 use Rattle.wf_val.specs.declared.address.Address as values
-use Rattle.wf_actions.specs.declared.actions.Actions.{Actions}
-use Rattle.wf_actions.specs.Meant.{definition_of}
+use Rattle.wf_run.specs.Actions.{Actions}
+use Rattle.wf_run.specs.Meant.{definition_of}
 use Rattle.wf_session.specs.Begun.{answered_in, going}
 
 module _ (a : Actions) (address : values.Address) (x : Address) (is : address ≡ instance (def_tree a.ready.now.places) x) where

@@ -15,7 +15,7 @@ use Rattle.wf_quiet.specs.Quiet.{HasAnswer, IsQuiet}
 use Rattle.wf_quiet.proofs.Staying.{stays}
 use Rattle.wf_quiet.proofs.Wanted.{one_attempt, quiet_by_ready, wanted_is_ready}
 use Rattle.wf_stands.specs.Moment.{Moment}
-use Rattle.wf_steps.specs.Kept.{AreEnabled, IsEnabled}
+use Rattle.wf_planned.specs.Kept.{AreEnabled, IsEnabled}
 use Rattle.wf_tables.specs.Tables.{event_tree, events_in}
 use Rattle.wf_tables.specs.declared.entries.EventAt.{EventAt}
 use Rattle.wf_tables.proofs.OpenLemmas.{found_at}

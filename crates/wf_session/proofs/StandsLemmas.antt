@@ -2,7 +2,7 @@
 use Rattle.std.proofs.Common.{◌≡◌, ◌≢◌, ℕ, Bool, true, false, List, [], ◌∷◌, nat_lt, length, Option, None, Some, inl, sym, subst, refl, ◌∙◌, arith, true≢false, is_eq, ◌||◌, map}
 use Rattle.std.specs.List.{AllByRecursion}
 use Rattle.std.specs.Prelude.{IfSome, is_some}
-use Rattle.wf_answered.specs.Answered.{answered}
+use Rattle.wf_stands.specs.Answered.{answered}
 use Rattle.wf_answers.specs.AnswerTree.{Key, key_cmp}
 use Rattle.wf_answers.specs.Inputs.{InputsTree}
 use Rattle.wf_answers.specs.InputsSeen.{inputs_tree}
@@ -12,8 +12,8 @@ use Rattle.wf_asks.specs.Known.{open_tree}
 use Rattle.wf_asks.specs.declared.known.OpenAt.{OpenAt}
 use Rattle.wf_asks.specs.declared.known.RowAt.{RowAt}
 use Rattle.wf_def.specs.DefTree.{DefTree}
-use Rattle.wf_doing.specs.Costs.{cost_of_row}
-use Rattle.wf_doing.specs.Weights.{begun_weight, decision_weight}
+use Rattle.wf_stands.specs.Costs.{cost_of_row}
+use Rattle.wf_stands.specs.Weights.{begun_weight, decision_weight}
 use Rattle.wf_done.specs.DoneSeen.{begun_tree}
 use Rattle.wf_done.specs.declared.leaf.Begun.{Begun}
 use Rattle.wf_environment.specs.Environment.{fresh}
@@ -21,8 +21,8 @@ use Rattle.wf_layers.specs.Address.{Address}
 use Rattle.wf_layers.specs.Machine.{IsOver}
 use Rattle.wf_lists.specs.KeyOrder.{IsInKeyOrder}
 use Rattle.wf_lists.proofs.KeyOrderLemmas.{in_order-map, in_order-on}
-use Rattle.wf_meant.specs.Look.{instance}
-use Rattle.wf_meant.specs.Points.{graph_of}
+use Rattle.wf_planned.specs.Look.{instance}
+use Rattle.wf_planned.specs.Points.{graph_of}
 use Rattle.wf_meter.specs.Cost.{leaf_cost, open_cost}
 use Rattle.wf_opening.specs.DecisionSeen.{decision_tree, verdict_tree}
 use Rattle.wf_opening.specs.Decisions.{items_of}
@@ -31,7 +31,7 @@ use Rattle.wf_opening.specs.declared.verdict.Verdict.{Verdict}
 use Rattle.wf_quiet.proofs.Wanted.{over}
 use Rattle.wf_reading.specs.ReadSeen.{def_tree}
 use Rattle.wf_record.specs.declared.row.Row.{Row}
-use Rattle.wf_rules.specs.declared.checked.Checked.{Checked}
+use Rattle.wf_stands.specs.Checked.{Checked}
 use Rattle.wf_run.specs.Runs.{Aside, IsAside, IsAsideAtLast}
 use Rattle.wf_stands.specs.Moment.{Costs, source_of}
 use Rattle.wf_stands.specs.Stands as stands
@@ -43,7 +43,7 @@ use Rattle.wf_talk.specs.Standing.{TooLarge}
 use Rattle.wf_trigger.specs.Starts.{StartTree}
 use Rattle.wf_trigger.specs.StartsSeen.{start_tree}
 use Rattle.wf_trigger.specs.declared.starts.Start.{Start}
-use Rattle.wf_views.specs.Seen.{row_content}
+use Rattle.wf_stands.specs.Seen.{row_content}
 use Rattle.wf_session.specs.Begun.{AreListed, IsDear, Lists, moment, price}
 use Rattle.wf_session.specs.Stood.{Stands, run_of, run_with, wanted_in}
 use Rattle.wf_waits.specs.Kept.{keys_of, waiting_key}

@@ -1,6 +1,6 @@
 -- A run between two answers: what becomes of it as one comes.
 use Rattle.std.proofs.Common.{◌≡◌, ◌≢◌, ◌≤◌, ℕ, List, length, sym, ap, subst, ◌∙◌}
-use Rattle.wf_answered.specs.Answered.{answered}
+use Rattle.wf_stands.specs.Answered.{answered}
 use Rattle.wf_answers.specs.Added.{with_added}
 use Rattle.wf_answers.specs.AnswerTree.{AnswerTree, key_cmp, key_of}
 use Rattle.wf_answers.specs.Inputs.{InputsTree}
@@ -17,26 +17,26 @@ use Rattle.wf_layers.specs.Machine.{Run, fresh}
 use Rattle.wf_layers.specs.Meaning.{meaning}
 use Rattle.wf_layers.specs.Variables.{IsLastWritten, OneOrder}
 use Rattle.wf_lists.specs.KeyOrder.{IsInKeyOrder, without_key}
-use Rattle.wf_meant.specs.Answering.{RowSource}
-use Rattle.wf_meant.specs.Look.{instance}
-use Rattle.wf_meant.specs.Record.{depth_of}
+use Rattle.wf_planned.specs.Answering.{RowSource}
+use Rattle.wf_planned.specs.Look.{instance}
+use Rattle.wf_planned.specs.Record.{depth_of}
 use Rattle.wf_quiet.specs.Quiet.{AreAmong, KnowsMore, MadeAreAnswered}
 use Rattle.wf_quiet.proofs.Answered.{is_run, made_are_answered}
 use Rattle.wf_quiet.proofs.More.{run_goes_on}
 use Rattle.wf_quiet.proofs.Ready.{counts_stay, left_stays, ready_stays}
 use Rattle.wf_quiet.proofs.Staying.{waits_on}
 use Rattle.wf_quiet.proofs.Stored.{told_by_rows}
-use Rattle.wf_sight_laws.specs.Writes.{writes}
+use Rattle.wf_run.specs.Writes.{writes}
 use Rattle.wf_stands.specs.Moment.{source_of}
 use Rattle.wf_tables.specs.Tables.{count_in, events_in, left_in}
-use Rattle.wf_rules.specs.declared.checked.Checked.{Checked}
+use Rattle.wf_stands.specs.Checked.{Checked}
 use Rattle.wf_trigger.specs.Starts.{StartTree}
 use Rattle.wf_trigger.specs.StartsSeen.{start_tree}
 use Rattle.wf_trigger.specs.declared.starts.Start.{Start}
-use Rattle.wf_actions.specs.Acting.{ActFor, ActForItself, begun_with, ready_definition}
-use Rattle.wf_actions.specs.Meant.{definition_of, environment_of, source}
-use Rattle.wf_actions.specs.declared.actions.Actions.{Actions}
-use Rattle.wf_actions.specs.declared.actions.Ready.{Ready}
+use Rattle.wf_run.specs.Acting.{ActFor, ActForItself, begun_with, ready_definition}
+use Rattle.wf_run.specs.Meant.{definition_of, environment_of, source}
+use Rattle.wf_run.specs.Actions.{Actions}
+use Rattle.wf_run.specs.Ready.{Ready}
 use Rattle.wf_run.specs.Runs.{Aside, IsAside}
 use Rattle.wf_session.specs.Begun.{AreListed, Going, IsStill, Lists, going, graph, moment, price}
 use Rattle.wf_session.specs.Stood.{MayGoOn, Stands, run_of, run_with}

@@ -1,6 +1,6 @@
 -- An answer that is wanted, as it is taken.
 use Rattle.std.proofs.Common.{◌≡◌, ℕ, true, false, List, Option, None, Some, sym, ap, refl, ◌∙◌, true≢false}
-use Rattle.wf_answered.specs.Answered.{answered}
+use Rattle.wf_stands.specs.Answered.{answered}
 use Rattle.wf_answers.specs.Added.{with_added}
 use Rattle.wf_answers.specs.AnswerTree.{AnswerTree, find_answer, key_cmp, key_of}
 use Rattle.wf_answers.specs.Inputs.{InputsTree}
@@ -9,7 +9,7 @@ use Rattle.wf_def.specs.DefTree.{DefTree}
 use Rattle.wf_layers.specs.Address.{Address}
 use Rattle.wf_layers.specs.Machine.{has_ended}
 use Rattle.wf_lists.specs.KeyOrder.{IsInKeyOrder}
-use Rattle.wf_meant.specs.Look.{instance}
+use Rattle.wf_planned.specs.Look.{instance}
 use Rattle.wf_run.specs.Runs.{Aside}
 use Rattle.wf_talk.specs.Keys.{is_among}
 use Rattle.wf_talk.specs.Seen.{want_cmp}

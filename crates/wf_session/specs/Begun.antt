@@ -9,27 +9,27 @@ use Rattle.wf_asks.specs.declared.known.WriterAt.{WriterAt}
 use Rattle.wf_def.specs.DefTree.{DefTree}
 use Rattle.wf_done.specs.DoneSeen.{begun_tree}
 use Rattle.wf_done.specs.declared.leaf.Begun.{Begun}
-use Rattle.wf_doing.specs.Weights.{begun_weight, decision_weight}
+use Rattle.wf_stands.specs.Weights.{begun_weight, decision_weight}
 use Rattle.wf_environment.specs.Environment.{Environment}
 use Rattle.wf_layers.specs.Definition.{Graph}
 use Rattle.wf_layers.specs.Machine.{Event, fresh, has_ended}
-use Rattle.wf_making.specs.Priced.{lists_cost}
-use Rattle.wf_meant.specs.Answering.{RowSource}
-use Rattle.wf_meant.specs.Points.{graph_of}
-use Rattle.wf_meant.specs.Record.{depth_of}
+use Rattle.wf_run.specs.Priced.{lists_cost}
+use Rattle.wf_planned.specs.Answering.{RowSource}
+use Rattle.wf_planned.specs.Points.{graph_of}
+use Rattle.wf_planned.specs.Record.{depth_of}
 use Rattle.wf_opening.specs.DecisionSeen.{decision_tree, verdict_tree}
 use Rattle.wf_opening.specs.declared.decide.Decision.{Decision}
 use Rattle.wf_opening.specs.declared.verdict.Verdict.{Verdict}
-use Rattle.wf_doing.specs.Costs.{cost_of_row, first_cost}
+use Rattle.wf_stands.specs.Costs.{cost_of_row, first_cost}
 use Rattle.wf_quiet.specs.Quiet.{Answers, AnsweredRun, IsQuietState}
 use Rattle.wf_record.specs.declared.row.Row.{Row}
-use Rattle.wf_answered.specs.Answered.{answered}
+use Rattle.wf_stands.specs.Answered.{answered}
 use Rattle.wf_stands.specs.Moment.{Moment}
-use Rattle.wf_steps.specs.Shown.{shown}
+use Rattle.wf_planned.specs.Shown.{shown}
 use Rattle.wf_tables.specs.declared.entries.LeafAt.{LeafAt}
-use Rattle.wf_views.specs.Seen.{row_content}
-use Rattle.wf_actions.specs.Meant.{definition_of, environment_of, source}
-use Rattle.wf_actions.specs.declared.actions.Actions.{Actions}
+use Rattle.wf_stands.specs.Seen.{row_content}
+use Rattle.wf_run.specs.Meant.{definition_of, environment_of, source}
+use Rattle.wf_run.specs.Actions.{Actions}
 
 -- what a run goes by: a definition, an environment, and the source of its rows
 pub record Going : Type 0 where

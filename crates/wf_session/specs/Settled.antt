@@ -5,7 +5,7 @@ use Rattle.wf_asks.specs.Instances.{address_of}
 use Rattle.wf_answers.specs.AnswerTree.{Key}
 use Rattle.wf_quiet.specs.Quiet.{HasAnswer}
 use Rattle.wf_stands.specs.Moment.{Moment}
-use Rattle.wf_steps.specs.Kept.{IsEnabled}
+use Rattle.wf_planned.specs.Kept.{IsEnabled}
 use Rattle.wf_tables.specs.declared.entries.EventAt.{EventAt}
 use Rattle.wf_talk.specs.Keys.{is_among}
 use Rattle.wf_waits.specs.Kept.{AreNew, Kept, keys_of}

@@ -4,7 +4,7 @@ use Rattle.std.specs.List.{AllByRecursion}
 use Rattle.wf_layers.specs.Address.{Address}
 use Rattle.wf_asks.specs.Instances.{address_of}
 use Rattle.wf_answers.specs.AnswerTree.{Key}
-use Rattle.wf_meant.specs.Look.{instance}
+use Rattle.wf_planned.specs.Look.{instance}
 use Rattle.wf_quiet.specs.Quiet.{IsWanted}
 use Rattle.wf_stands.specs.Moment.{Moment}
 use Rattle.wf_talk.specs.Keys.{is_among}

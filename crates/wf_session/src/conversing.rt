@@ -10,8 +10,8 @@ use std::alloc::Global;
 use wf_answers::Inputs;
 use wf_outside::{Sink, Source};
 use wf_planned::plan;
-use wf_rules::Checked;
 use wf_run::{Ends, Ready, Runnable};
+use wf_stands::Checked;
 use wf_talk::{StandFault, hold, refuse};
 use wf_trigger::Start;
 

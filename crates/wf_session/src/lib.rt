@@ -15,3 +15,6 @@ mod standing;
 
 pub use conversing::converse;
 pub use session::Session;
+pub use wf_planned::plan;
+pub use wf_run::{Ended, Ends, Ready, Runnable, cost_too_much};
+pub use wf_stands::{Checked, Converses};

@@ -2,22 +2,20 @@
 ghost use Rattle.std.specs.Prelude.{◌≡◌, IfOk, IfSome, None};
 ghost use Rattle.wf_asks.specs.Instances.{address_of};
 ghost use Rattle.wf_layers.specs.Machine as machine;
-ghost use Rattle.wf_meant.specs.Look.{instance, name_of};
+ghost use Rattle.wf_planned.specs.Look.{instance, name_of};
 ghost use Rattle.wf_quiet.specs.Quiet.{HasAnswer};
 ghost use Rattle.wf_reading.specs.ReadSeen.{def_tree};
-ghost use Rattle.wf_steps.specs.Kept.{IsEnabled};
+ghost use Rattle.wf_planned.specs.Kept.{IsEnabled};
 ghost use Rattle.wf_tables.specs.Tables.{event_tree};
-ghost use Rattle.wf_actions.specs.Meant.{source};
+ghost use Rattle.wf_run.specs.Meant.{source};
 ghost use Rattle.wf_session.specs.Begun.{answered_in, going, graph, moment};
 ghost use Rattle.wf_session.specs.Waiting.{IsMissing};
 
 use std::alloc::{AllocError, Global};
-use wf_actions::Actions;
 use wf_asks::{Acts, Instance};
-use wf_catalog::Places;
-use wf_doing::answer_at;
 use wf_lists::TryCopy;
-use wf_making::Making;
+use wf_run::{Actions, Making, Places};
+use wf_stands::answer_at;
 use wf_tables::{EventAt, EventKind};
 use wf_talk::Want;
 use wf_val::{Address, Name, Text};
@@ -27,7 +25,7 @@ fn name_at(alloc: Global, places: &Places<'_>, number: u32) -> Result<Name, Allo
     ensures { IfOk result (λ n. n ≡ name_of (def_tree places.now) number) }
 {
     match places.action(number) {
-        Some(action) => wf_catalog::name_of(action).copy(alloc),
+        Some(action) => wf_run::name_of(action).copy(alloc),
         None => Text::of(alloc, ""),
     }
 }

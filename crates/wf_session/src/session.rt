@@ -9,14 +9,12 @@ ghost use Rattle.wf_waits.specs.Kept.{AreNew};
 use crate::settle::settle;
 use std::alloc::Global;
 use std::marker::Model;
-use wf_actions::Actions;
 use wf_answers::Inputs;
 use wf_asks::Acts;
 use wf_done::Begun;
-use wf_making::{Making, Rest};
 use wf_opening::{Decision, Verdict};
 use wf_record::Row;
-use wf_run::{Runnable, is_planned};
+use wf_run::{Actions, Making, Rest, Runnable, is_planned};
 use wf_talk::StandFault;
 use wf_trigger::Start;
 use wf_waits::Waits;
@@ -35,7 +33,7 @@ pub struct Session<'a> {
 impl<'a> Model for Session<'a> {
     ghost use Rattle.std.specs.Prelude.{IfSome, List, Option};
     ghost use Rattle.wf_answers.specs.declared.inputs.Inputs.{Inputs};
-    ghost use Rattle.wf_rules.specs.declared.checked.Checked.{Checked};
+    ghost use Rattle.wf_stands.specs.Checked.{Checked};
     ghost use Rattle.wf_run.specs.Runs.{Aside};
     ghost use Rattle.wf_session.specs.Stood.{Stands, run_with};
     ghost use Rattle.wf_waits.specs.declared.waiting.Waiting.{Waiting};

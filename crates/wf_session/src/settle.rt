@@ -2,9 +2,9 @@
 ghost use Rattle.std.specs.Prelude.{◌≡◌, ◌≢◌, ◌<◌, ◌≤◌, IfErr, IfOk, IfSome, List, None, OnOk, false, length, true};
 ghost use Rattle.wf_answers.specs.AnswerTree.{Key};
 ghost use Rattle.wf_quiet.specs.Quiet.{IsQuiet};
-ghost use Rattle.wf_steps.specs.Kept.{AreEnabled};
+ghost use Rattle.wf_planned.specs.Kept.{AreEnabled};
 ghost use Rattle.wf_tables.specs.Tables.{event_tree};
-ghost use Rattle.wf_actions.specs.Meant.{source};
+ghost use Rattle.wf_run.specs.Meant.{source};
 ghost use Rattle.wf_session.specs.Begun.{AreListed, Comes, IsDear, IsStill, answered_in, going, graph, has_answer, moment, price};
 ghost use Rattle.wf_waits.specs.Kept.{AreNew};
 ghost use Rattle.wf_session.specs.Settled.{AreHeld, HasLooked, IsHeld, WillHappen};
@@ -12,10 +12,9 @@ ghost use Rattle.wf_session.specs.Waiting.{AreAllKept, AreWaiting};
 
 use crate::missing::missing;
 use std::alloc::{AllocError, Global};
-use wf_actions::Actions;
 use wf_drive::Machine;
-use wf_making::Making;
 use wf_room::Roomy;
+use wf_run::{Actions, Making};
 use wf_tables::EventAt;
 use wf_talk::StandFault;
 use wf_waits::Waits;

@@ -118,8 +118,8 @@ impl<'a> Stand for Session<'a> {
             unreachable!()
         };
         self.waits.is_in_order();
-        wf_answered::one_more_answer_is_known();
-        wf_answered::answers_stay_answered();
+        wf_stands::one_more_answer_is_known();
+        wf_stands::answers_stay_answered();
         add(alloc, &mut self.inputs, &mut self.waits, answer)?;
         let rest = gone_on(
             alloc,

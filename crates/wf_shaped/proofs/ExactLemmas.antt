@@ -30,9 +30,9 @@ use Rattle.wf_ways.specs.CalledBy.{CalledBy, CalledInside, at_top, inside}
 use Rattle.wf_ways.proofs.CallLemmas.{called_by_a_row}
 use Rattle.wf_ways.proofs.StandLemmas.{stands_along}
 use Rattle.wf_ways.proofs.WayLemmas.{kinded}
-use Rattle.wf_meant.specs.Look.{name_in}
-use Rattle.wf_meant.specs.Points.{action_named, graph_of, has_action_name}
-use Rattle.wf_meant.specs.Resubmitted.{rows_by}
+use Rattle.wf_catalog.specs.Look.{name_in}
+use Rattle.wf_catalog.specs.Points.{action_named, graph_of, has_action_name}
+use Rattle.wf_catalog.specs.Resubmitted.{rows_by}
 use Rattle.wf_shaped.specs.Told.{fails_by, fails_named, held, indexes_inside, instances, instances_of, judged, judged_as, missing}
 use Rattle.wf_shaped.specs.Told.{missing_at_top, stands_at, told, told_as, told_by, turns_told}
 use Rattle.wf_shaped.specs.declared.judged.Judged.{Judged}

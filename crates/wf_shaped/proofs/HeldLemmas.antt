@@ -16,7 +16,7 @@ use Rattle.wf_def.specs.Layered.{layered, layered_cases, layered_kind}
 use Rattle.wf_record.specs.Record.{Row}
 use Rattle.wf_ways.specs.Along.{calls}
 use Rattle.wf_ways.specs.Way.{Into, whole, branch_of, item, round, enters, enters_branch}
-use Rattle.wf_meant.specs.References.{in_cases}
+use Rattle.wf_catalog.specs.References.{in_cases}
 use Rattle.wf_shaped.specs.Told.{count_from, held, indexes_inside, turns_from, turns_told}
 use Rattle.wf_shaped.proofs.ListLemmas.{In, in_either, in_left, in_map, in_right, of_map}
 

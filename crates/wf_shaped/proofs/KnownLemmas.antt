@@ -20,14 +20,14 @@ use Rattle.wf_def.specs.AllActions.{all_actions, numbered}
 use Rattle.wf_def.specs.DefTree.{DefTree}
 use Rattle.wf_def.specs.Layered.{layered, layered_kind}
 use Rattle.wf_def.specs.Names.{graph_names}
-use Rattle.wf_reading.specs.Facts.{AreOnce}
-use Rattle.wf_refs.proofs.NumberLemmas.{names_are}
-use Rattle.wf_meant.specs.Points.{graph_of, has_action_name}
+use Rattle.wf_catalog.specs.Facts.{AreOnce}
+use Rattle.wf_catalog.proofs.NumberLemmas.{names_are}
+use Rattle.wf_catalog.specs.Points.{graph_of, has_action_name}
 use Rattle.wf_record.specs.Record.{RowTree, address_of}
 use Rattle.wf_record.specs.Seen.{row_tree}
 use Rattle.wf_record.specs.declared.row.Row.{Row}
-use Rattle.wf_says.specs.Says.{is_skipped}
-use Rattle.wf_turns.specs.Reading.{reading}
+use Rattle.wf_catalog.specs.Says.{is_skipped}
+use Rattle.wf_fits.specs.Reading.{reading}
 use Rattle.wf_fits.specs.Fits.{fits_in}
 use Rattle.wf_shaped.specs.Failing.{IsLeastFailing, missing_at_top_in, told_in}
 use Rattle.wf_shaped.specs.Least.{IsLeastAt, least_from}

@@ -5,8 +5,8 @@ use Rattle.wf_val.specs.declared.address.Address.{Address}
 use Rattle.wf_def.specs.ActionTree.{ActionTree}
 use Rattle.wf_def.specs.DefTree.{DefTree}
 use Rattle.wf_record.specs.Record.{RowTree}
-use Rattle.wf_says.specs.Says.{is_skipped}
-use Rattle.wf_turns.specs.Reading.{reading}
+use Rattle.wf_catalog.specs.Says.{is_skipped}
+use Rattle.wf_fits.specs.Reading.{reading}
 use Rattle.wf_fits.specs.Fits.{fits_in}
 use Rattle.wf_shaped.specs.Least.{IsLeastAt}
 use Rattle.wf_shaped.specs.Told.{fails_named, judged, missing_at_top, told, told_as, told_by}

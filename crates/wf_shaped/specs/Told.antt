@@ -11,9 +11,9 @@ use Rattle.wf_record.specs.Record.{Row, RowTree, find_row}
 use Rattle.wf_shape.specs.Standing.{Standing, called, fails, unsaid, uncalled}
 use Rattle.wf_ways.specs.Along.{along}
 use Rattle.wf_ways.specs.Way.{way}
-use Rattle.wf_meant.specs.Points.{action_named, graph_of}
-use Rattle.wf_meant.specs.References.{first_level}
-use Rattle.wf_meant.specs.Resubmitted.{rows_by}
+use Rattle.wf_catalog.specs.Points.{action_named, graph_of}
+use Rattle.wf_catalog.specs.References.{first_level}
+use Rattle.wf_catalog.specs.Resubmitted.{rows_by}
 use Rattle.wf_shaped.specs.declared.judged.Judged.{Judged}
 
 -- ---- what the row of a container calls for inside it

@@ -3,7 +3,7 @@ ghost use Rattle.std.specs.Prelude.{◌≡◌, IfOk, if◌then◌else◌};
 ghost use Rattle.wf_def.specs.ActionSeen.{action_tree};
 ghost use Rattle.wf_fits.specs.Fits.{fits_in};
 ghost use Rattle.wf_fits.specs.FitsSeen.{standing_tree};
-ghost use Rattle.wf_reading.specs.ReadSeen.{def_tree};
+ghost use Rattle.wf_catalog.specs.ReadSeen.{def_tree};
 ghost use Rattle.wf_record.specs.Seen.{record_tree, row_tree};
 ghost use Rattle.wf_shaped.specs.Failing.{judged_in};
 ghost use Rattle.wf_shaped.specs.Told.{judged_as};

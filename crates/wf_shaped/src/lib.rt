@@ -14,3 +14,12 @@ mod missing;
 mod shape;
 
 pub use shape::least_failing;
+pub use wf_catalog::{
+    Def, TriggerFault, a_skipped_row_says_nothing, entries_stay_in_their_graph, loops_may_turn,
+    names_are_those_named, names_stand_once, numbers_are_below, numbers_stand_once,
+    read_actions_have_their_numbers, what_is_given_is_found, what_is_initialized_is_given,
+    what_is_written_keeps_its_type,
+};
+pub use wf_fits::{
+    attempts_are_few, numbers_have_the_kinds_of_their_actions, rows_tell_what_was_decided,
+};

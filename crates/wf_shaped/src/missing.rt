@@ -4,7 +4,7 @@ ghost use Rattle.wf_def.specs.ActionSeen.{action_tree, cases_seen, graph_tree, k
 ghost use Rattle.wf_def.specs.ActionTree.{action_name, actions_in, case_trees};
 ghost use Rattle.wf_record.specs.Seen.{record_tree};
 ghost use Rattle.wf_shaped.specs.Least.{least_from};
-ghost use Rattle.wf_meant.specs.References.{in_cases};
+ghost use Rattle.wf_catalog.specs.References.{in_cases};
 ghost use Rattle.wf_shaped.specs.Told.{held, indexes_inside, instances, instances_of, missing, turns_from};
 
 use crate::least::Least;

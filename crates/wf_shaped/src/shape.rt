@@ -2,22 +2,21 @@
 ghost use Rattle.std.specs.Prelude.{◌≡◌, IfOk, None, Some, flat_map, map, option_map};
 ghost use Rattle.wf_def.specs.ActionSeen.{action_tree, kind_tree};
 ghost use Rattle.wf_def.specs.ActionTree.{action_kind};
-ghost use Rattle.wf_reading.specs.ReadSeen.{def_tree};
+ghost use Rattle.wf_catalog.specs.ReadSeen.{def_tree};
 ghost use Rattle.wf_record.specs.Seen.{record_tree, row_tree};
 ghost use Rattle.wf_shaped.specs.Failing.{IsLeastFailing, missing_at_top_in, told_by_action, told_in, told_judged};
 ghost use Rattle.wf_shaped.specs.Least.{least_from};
 ghost use Rattle.wf_shaped.specs.Told.{missing_by, turns_told};
-ghost use Rattle.wf_turns.specs.Reading.{reading};
+ghost use Rattle.wf_fits.specs.Reading.{reading};
 
 use crate::judged::{Judged, judge};
 use crate::least::Least;
 use crate::missing::{missing_in_graph, missing_inside};
 use std::alloc::{AllocError, Global};
+use wf_catalog::{Def, items_said, rounds_said};
 use wf_def::{Action, Kind};
 use wf_fits::Ways;
-use wf_reading::Def;
 use wf_record::{Record, Row};
-use wf_says::{items_said, rounds_said};
 use wf_val::{Address, Indexes};
 
 // How many iterations the row of a loop says that it had.
@@ -164,10 +163,10 @@ fn missing_at_top(alloc: Global, def: &Def, log: &Record) -> Result<Least, Alloc
 pub fn least_failing(alloc: Global, def: &Def, log: &Record) -> Result<Option<Address>, AllocError>
     ensures { IfOk result (λ o. IsLeastFailing (def_tree def.now) (record_tree log.now).rows o) }
 {
-    wf_reading::names_stand_once();
-    wf_known_laws::numbers_stand_once();
-    wf_refs::read_actions_have_their_numbers();
-    wf_turns::numbers_have_the_kinds_of_their_actions();
+    wf_catalog::names_stand_once();
+    wf_catalog::numbers_stand_once();
+    wf_catalog::read_actions_have_their_numbers();
+    wf_fits::numbers_have_the_kinds_of_their_actions();
     def.always_read();
     let ways = Ways::of(alloc, def)?;
     let top = missing_at_top(alloc, def, log)?;

@@ -2,8 +2,8 @@
 use Rattle.std.proofs.Common.{◌≡◌, ℕ, List, [], ◌∷◌, Option, refl}
 use Rattle.wf_val.specs.ValueTree.{ValueTree}
 use Rattle.wf_val.specs.declared.function.Fun.{Fun}
-use Rattle.wf_look.specs.Told.{Told}
-use Rattle.wf_eval_expr.specs.Uses.{Agree, AgreeAt, Use, names, asks, asks_moment, asks_words}
+use Rattle.wf_views.specs.Told.{Told}
+use Rattle.wf_views.specs.Uses.{Agree, AgreeAt, Use, names, asks, asks_moment, asks_words}
 use Rattle.wf_sight.specs.Found.{FindsTold, WhereVariable}
 
 module _ (found : List ℕ → Option ValueTree) (l : Told) where

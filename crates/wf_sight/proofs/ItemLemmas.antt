@@ -7,13 +7,13 @@ use Rattle.wf_layers.specs.Address.{Table, address}
 use Rattle.wf_layers.specs.Seen.{Once}
 use Rattle.wf_def.specs.DefTree.{DefTree}
 use Rattle.wf_record.specs.Record.{Row}
-use Rattle.wf_opening.specs.Decisions.{DecisionTree, nothing, held, chosen, each, too_many, faulty}
-use Rattle.wf_environment.specs.Environment.{Environment}
-use Rattle.wf_loops.specs.Loops.{loops_of}
-use Rattle.wf_loops.proofs.RoundLemmas.{split_of}
-use Rattle.wf_meant.specs.Look.{Item, decided_within, item_as, item_in, items_from, name_of}
-use Rattle.wf_meant.specs.Points.{graph_of}
-use Rattle.wf_meant.specs.Source.{source}
+use Rattle.wf_views.specs.Decisions.{DecisionTree, nothing, held, chosen, each, too_many, faulty}
+use Rattle.wf_views.specs.Environment.{Environment}
+use Rattle.wf_views.specs.LoopsLoops.{loops_of}
+use Rattle.wf_views.proofs.RoundLemmas.{split_of}
+use Rattle.wf_views.specs.Look.{Item, decided_within, item_as, item_in, items_from, name_of}
+use Rattle.wf_views.specs.Points.{graph_of}
+use Rattle.wf_views.specs.Source.{source}
 use Rattle.wf_sight.specs.Sight.{Opens, item_held, item_open, items_open, named_item}
 use Rattle.wf_sight.proofs.OpenLemmas.{AreOpen, IsOpenLoop}
 

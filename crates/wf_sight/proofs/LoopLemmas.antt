@@ -6,8 +6,8 @@ use Rattle.wf_layers.specs.Definition.{Pace, Kind, Leaf, Scope, Choice, Foreach,
 use Rattle.wf_layers.specs.Definition.{holds, has, has_any}
 use Rattle.wf_layers.specs.Seen.{Once, OnceIn, OnceAny}
 use Rattle.wf_layers.proofs.Basics.{two, and_of, or_first, or_second, when, unless, same_self}
-use Rattle.wf_loops.specs.Loops.{left_any, left_in, left_round, loops_any, loops_in, loops_of, paces_any, paces_in, paces_round}
-use Rattle.wf_loops.proofs.HeldLemmas.{paces_none}
+use Rattle.wf_views.specs.LoopsLoops.{left_any, left_in, left_round, loops_any, loops_in, loops_of, paces_any, paces_in, paces_round}
+use Rattle.wf_views.proofs.HeldLemmas.{paces_none}
 use Rattle.wf_views.specs.Loops.{common}
 
 first_is : {n l : ℕ} {ns ls : List ℕ} → n ∷ ns ≡ l ∷ ls → n ≡ l

@@ -8,9 +8,9 @@ use Rattle.wf_layers.specs.Definition.{branch_at, is_one, less_one, holds, has, 
 use Rattle.wf_layers.specs.Machine.{In, here, there, IsOpen, top, scope, chosen, turn, round, Opening}
 use Rattle.wf_layers.specs.Seen.{Once, OnceIn, OnceAny}
 use Rattle.wf_layers.proofs.Basics.{two, or_first, or_second, when, unless, same_self}
-use Rattle.wf_loops.specs.Loops.{loops_any, loops_in, loops_of}
-use Rattle.wf_loops.proofs.RoundLemmas.{loops_none}
-use Rattle.wf_meant.specs.Answering.{IsLoop}
+use Rattle.wf_views.specs.LoopsLoops.{loops_any, loops_in, loops_of}
+use Rattle.wf_views.proofs.RoundLemmas.{loops_none}
+use Rattle.wf_views.specs.Answering.{IsLoop}
 
 -- ---- what stands in a graph
 

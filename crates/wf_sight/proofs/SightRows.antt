@@ -9,13 +9,13 @@ use Rattle.wf_def.specs.ActionTree.{compose, foreach, initialize, set_to, until,
 use Rattle.wf_def.specs.DefTree.{DefTree}
 use Rattle.wf_def.specs.declared.sort.Sort.{Sort}
 use Rattle.wf_record.specs.Record.{Row}
-use Rattle.wf_opening.specs.Decisions.{DecisionTree, each, faulty, nothing}
+use Rattle.wf_views.specs.Decisions.{DecisionTree, each, faulty, nothing}
 use Rattle.wf_val.specs.Arguments.{wrong_type}
 use Rattle.wf_val.specs.declared.function.Fun.{Fun}
-use Rattle.wf_meant.specs.Done as done
-use Rattle.wf_meant.specs.Look.{index_in}
-use Rattle.wf_meant.specs.Rows.{row_of, view_of}
-use Rattle.wf_meant.proofs.Terms.{act, fields, initial, many, nat, num, of_actions, value, values, words}
+use Rattle.wf_views.specs.Done as done
+use Rattle.wf_views.specs.Look.{index_in}
+use Rattle.wf_views.specs.Rows.{row_of, view_of}
+use Rattle.wf_views.proofs.Terms.{act, fields, initial, many, nat, num, of_actions, value, values, words}
 use Rattle.wf_views.specs.Loops.{beyond, common}
 use Rattle.wf_views.specs.Views.{result_from, view_from}
 use Rattle.wf_sight.specs.Sight.{Opens, items_open}

@@ -10,13 +10,13 @@ use Rattle.wf_layers.proofs.Basics.{two, same_self, unless, when}
 use Rattle.wf_def.specs.ActionTree.{ActionTree, action_kind, action_number}
 use Rattle.wf_def.specs.DefTree.{DefTree}
 use Rattle.wf_record.specs.Record.{Row}
-use Rattle.wf_order.proofs.HeldLemmas.{graph-holds}
-use Rattle.wf_loops.specs.Loops.{left_round, loops_of, paces_round}
-use Rattle.wf_loops.proofs.HeldLemmas.{told_of}
-use Rattle.wf_loops.proofs.RoundLemmas.{split_of}
-use Rattle.wf_meant.specs.Points.{Point, action_named, graph_of, held_by, is_inside, point_of, point_of_outputs, point_of_test}
-use Rattle.wf_meant.specs.References.{first_level, own_loop, result_at, result_by, result_in, shared, spots_by, view_at, view_by}
-use Rattle.wf_meant.specs.References.{view_in}
+use Rattle.wf_views.proofs.OrderHeldLemmas.{graph-holds}
+use Rattle.wf_views.specs.LoopsLoops.{left_round, loops_of, paces_round}
+use Rattle.wf_views.proofs.HeldLemmas.{told_of}
+use Rattle.wf_views.proofs.RoundLemmas.{split_of}
+use Rattle.wf_views.specs.Points.{Point, action_named, graph_of, held_by, is_inside, point_of, point_of_outputs, point_of_test}
+use Rattle.wf_views.specs.References.{first_level, own_loop, result_at, result_by, result_in, shared, spots_by, view_at, view_by}
+use Rattle.wf_views.specs.References.{view_in}
 use Rattle.wf_sight.specs.Laws.{GoesByLoops}
 use Rattle.wf_views.specs.Loops.{beyond, common}
 use Rattle.wf_views.specs.Views.{result_by_loops, result_from, view_by_loops, view_from}

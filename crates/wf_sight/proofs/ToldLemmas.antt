@@ -4,21 +4,21 @@ use Rattle.std.specs.Prelude.{bytes_eq, codes, find, reverse}
 use Rattle.wf_val.specs.Address.{address_text}
 use Rattle.wf_val.specs.Get.{value_of}
 use Rattle.wf_val.specs.ValueTree.{ValueTree}
-use Rattle.wf_look.specs.Told.{Told}
+use Rattle.wf_views.specs.Told.{Told}
 use Rattle.wf_layers.specs.Address.{Address, address}
 use Rattle.wf_layers.specs.Definition.{Graph, Kind, Until}
 use Rattle.wf_layers.specs.Machine.{Opening}
 use Rattle.wf_layers.specs.Seen.{Once}
-use Rattle.wf_asks.specs.Known.{IsInformed, IsInformedAtTest}
+use Rattle.wf_views.specs.Known.{IsInformed, IsInformedAtTest}
 use Rattle.wf_def.specs.DefTree.{DefTree}
-use Rattle.wf_opening.specs.Decisions.{DecisionTree}
-use Rattle.wf_opening.specs.Verdicts.{VerdictTree}
-use Rattle.wf_environment.specs.Environment.{Environment, Facts, facts_of, last_facts}
-use Rattle.wf_meant.specs.Answering.{AnswersAs, RowSource}
-use Rattle.wf_meant.specs.Look.{Item, index_in, instance, items_at, name_of, told_at, told_in_test, told_to_outputs}
-use Rattle.wf_meant.specs.Points.{Point, graph_of, point_of, point_of_outputs, point_of_test}
-use Rattle.wf_meant.specs.References.{result_at, view_at}
-use Rattle.wf_meant.specs.Source.{source}
+use Rattle.wf_views.specs.Decisions.{DecisionTree}
+use Rattle.wf_views.specs.Verdicts.{VerdictTree}
+use Rattle.wf_views.specs.Environment.{Environment, Facts, facts_of, last_facts}
+use Rattle.wf_views.specs.Answering.{AnswersAs, RowSource}
+use Rattle.wf_views.specs.Look.{Item, index_in, instance, items_at, name_of, told_at, told_in_test, told_to_outputs}
+use Rattle.wf_views.specs.Points.{Point, graph_of, point_of, point_of_outputs, point_of_test}
+use Rattle.wf_views.specs.References.{result_at, view_at}
+use Rattle.wf_views.specs.Source.{source}
 use Rattle.wf_sight.specs.Laws.{GoesByLoops, run_of, with_variables}
 use Rattle.wf_views.specs.Views.{result_from, view_from}
 use Rattle.wf_sight.specs.Sight.{KnownTree, items_open, seen_at, seen_by_outputs, seen_from, seen_in_test}

@@ -3,8 +3,8 @@ use Rattle.std.specs.Prelude.{◌≡◌, ℕ, List, Option}
 use Rattle.std.specs.List.{AllByRecursion}
 use Rattle.wf_val.specs.ValueTree.{ValueTree}
 use Rattle.wf_val.specs.declared.function.Fun.{Fun}
-use Rattle.wf_look.specs.Told.{Told}
-use Rattle.wf_eval_expr.specs.Uses.{Use, names}
+use Rattle.wf_views.specs.Told.{Told}
+use Rattle.wf_views.specs.Uses.{Use, names}
 
 abbrev pub WhereVariable : (List ℕ → Type 0) → Use → Type 0
 WhereVariable Holds (names Fun.Variables k) = Holds k

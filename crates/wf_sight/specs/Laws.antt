@@ -1,10 +1,10 @@
 -- In which words the laws tell that what is seen is what is meant.
 use Rattle.std.specs.Prelude.{◌≡◌, ℕ, length}
-use Rattle.wf_look.specs.Told.{Told}
+use Rattle.wf_views.specs.Told.{Told}
 use Rattle.wf_def.specs.DefTree.{DefTree}
-use Rattle.wf_loops.specs.Loops.{loops_of}
-use Rattle.wf_environment.specs.Environment.{Environment, Facts}
-use Rattle.wf_meant.specs.Points.{Point, graph_of}
+use Rattle.wf_views.specs.LoopsLoops.{loops_of}
+use Rattle.wf_views.specs.Environment.{Environment, Facts}
+use Rattle.wf_views.specs.Points.{Point, graph_of}
 use Rattle.wf_views.specs.Loops.{beyond, common}
 use Rattle.wf_sight.specs.Sight.{KnownTree, RunTree}
 use Rattle.wf_sight.specs.Variables.{variable_in}

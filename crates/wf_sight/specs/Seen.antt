@@ -1,16 +1,16 @@
 -- What is known as an action is asked, and the items round it, as contracts see them.
 use Rattle.std.specs.Prelude.{List, option_map}
 use Rattle.wf_val.specs.Seen.{tree}
-use Rattle.wf_asks.specs.Known.{opens_in, store_in}
-use Rattle.wf_asks.specs.declared.known.OpenAt.{OpenAt}
-use Rattle.wf_asks.specs.declared.known.RowAt.{RowAt}
-use Rattle.wf_asks.specs.declared.known.WriterAt.{WriterAt}
+use Rattle.wf_views.specs.Known.{opens_in, store_in}
+use Rattle.wf_views.specs.OpenAt.{OpenAt}
+use Rattle.wf_views.specs.RowAt.{RowAt}
+use Rattle.wf_views.specs.WriterAt.{WriterAt}
 use Rattle.wf_def.specs.ActionSeen.{action_tree}
 use Rattle.wf_record.specs.declared.row.Row.{Row}
-use Rattle.wf_opening.specs.DecisionSeen.{decision_tree, verdict_tree}
-use Rattle.wf_opening.specs.declared.decide.Decision.{Decision}
-use Rattle.wf_opening.specs.declared.verdict.Verdict.{Verdict}
-use Rattle.wf_meant.specs.Look.{Item, name_in}
+use Rattle.wf_views.specs.DecisionSeen.{decision_tree, verdict_tree}
+use Rattle.wf_views.specs.Decision.{Decision}
+use Rattle.wf_views.specs.Verdict.{Verdict}
+use Rattle.wf_views.specs.Look.{Item, name_in}
 use Rattle.wf_views.specs.Seen.{rows_seen}
 use Rattle.wf_sight.specs.Sight.{KnownTree, Opens}
 use Rattle.wf_sight.specs.declared.items.Held.{Held}

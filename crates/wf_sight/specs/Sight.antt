@@ -4,17 +4,17 @@ use Rattle.std.specs.Prelude.{codes}
 use Rattle.wf_val.specs.Address.{address_text}
 use Rattle.wf_val.specs.Get.{value_of}
 use Rattle.wf_val.specs.ValueTree.{ValueTree}
-use Rattle.wf_look.specs.Told.{Told}
+use Rattle.wf_views.specs.Told.{Told}
 use Rattle.wf_layers.specs.Address.{Address, Table, address}
 use Rattle.wf_layers.specs.Machine.{Opening}
 use Rattle.wf_def.specs.DefTree.{DefTree}
-use Rattle.wf_trigger.specs.Starts.{StartTree}
+use Rattle.wf_views.specs.Starts.{StartTree}
 use Rattle.wf_record.specs.Record.{Row}
-use Rattle.wf_opening.specs.Decisions.{DecisionTree, each}
-use Rattle.wf_opening.specs.Verdicts.{VerdictTree}
-use Rattle.wf_loops.specs.Loops.{loops_of}
-use Rattle.wf_meant.specs.Look.{Item, index_in, instance, name_of}
-use Rattle.wf_meant.specs.Points.{graph_of}
+use Rattle.wf_views.specs.Decisions.{DecisionTree, each}
+use Rattle.wf_views.specs.Verdicts.{VerdictTree}
+use Rattle.wf_views.specs.LoopsLoops.{loops_of}
+use Rattle.wf_views.specs.Look.{Item, index_in, instance, name_of}
+use Rattle.wf_views.specs.Points.{graph_of}
 use Rattle.wf_views.specs.Views.{result_from, view_from}
 use Rattle.wf_sight.specs.Variables.{variable_in}
 

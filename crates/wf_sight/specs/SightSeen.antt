@@ -1,9 +1,9 @@
 -- What a sight tells, as contracts see it.
 use Rattle.std.specs.Prelude.{ℕ, map}
-use Rattle.wf_look.specs.Told.{Told}
-use Rattle.wf_reading.specs.ReadSeen.{def_tree}
-use Rattle.wf_asks.specs.Known.{store_in}
-use Rattle.wf_trigger.specs.StartsSeen.{start_tree}
+use Rattle.wf_views.specs.Told.{Told}
+use Rattle.wf_views.specs.ReadSeen.{def_tree}
+use Rattle.wf_views.specs.Known.{store_in}
+use Rattle.wf_views.specs.StartsSeen.{start_tree}
 use Rattle.wf_views.specs.Seen.{rows_seen}
 use Rattle.wf_sight.specs.Seen.{item_tree}
 use Rattle.wf_sight.specs.Sight.{RunTree, seen_with}

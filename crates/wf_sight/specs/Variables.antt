@@ -5,7 +5,7 @@ use Rattle.wf_val.specs.ValueTree.{ValueTree}
 use Rattle.wf_layers.specs.Address.{Address, Table}
 use Rattle.wf_def.specs.DefTree.{DefTree}
 use Rattle.wf_record.specs.Record.{Row}
-use Rattle.wf_meant.specs.Variables.{given_by}
+use Rattle.wf_views.specs.MeantVariables.{given_by}
 use Rattle.wf_views.specs.Variables.{variable_number}
 
 -- the value that the row of its last writer gives a variable

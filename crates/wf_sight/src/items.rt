@@ -2,19 +2,17 @@
 ghost use Rattle.std.specs.Prelude.{◌≡◌, ◌++◌, [], ℕ, List, IfOk, bytes_eq, find, map, option_map, reverse, slice_get};
 ghost use Rattle.wf_def.specs.ActionSeen.{action_tree};
 ghost use Rattle.wf_layers.specs.Address.{address};
-ghost use Rattle.wf_meant.specs.Look.{index_in, name_in, name_of};
-ghost use Rattle.wf_opening.specs.DecisionSeen.{decision_tree};
+ghost use Rattle.wf_views.specs.Look.{index_in, name_in, name_of};
+ghost use Rattle.wf_views.specs.DecisionSeen.{decision_tree};
 ghost use Rattle.wf_val.specs.Seen.{tree};
-ghost use Rattle.wf_reading.specs.ReadSeen.{def_tree};
+ghost use Rattle.wf_views.specs.ReadSeen.{def_tree};
 ghost use Rattle.wf_sight.specs.Seen.{item_tree, opens_seen};
 ghost use Rattle.wf_sight.specs.Sight.{item_held, item_open, items_open, named_item};
 
 use std::alloc::{AllocError, Global};
-use wf_asks::{Instance, Opens};
 use wf_def::Action;
-use wf_opening::{Decision, Verdict};
 use wf_val::{Indexes, Name, Val};
-use wf_views::{Places, indexes, name_of};
+use wf_views::{Decision, Instance, Opens, Places, Verdict, indexes, name_of};
 
 /// An item, and the loop whose item it is.
 #[derive(Drop)]

@@ -1,14 +1,14 @@
 //! What is seen is what is meant. Each call tells a caller so, and does nothing.
 ghost use Rattle.std.specs.Prelude.{◌≡◌, ℕ};
-ghost use Rattle.wf_asks.specs.Known.{IsInformed, IsInformedAtTest};
+ghost use Rattle.wf_views.specs.Known.{IsInformed, IsInformedAtTest};
 ghost use Rattle.wf_layers.specs.Address.{Address};
 ghost use Rattle.wf_layers.specs.Definition.{Graph, Kind};
 ghost use Rattle.wf_layers.specs.Seen.{Once};
 ghost use Rattle.wf_def.specs.DefTree.{DefTree};
-ghost use Rattle.wf_environment.specs.Environment.{Environment, facts_of, last_facts};
-ghost use Rattle.wf_meant.specs.Answering.{AnswersAs, RowSource};
-ghost use Rattle.wf_meant.specs.Look.{name_of, told_at, told_in_test, told_to_outputs};
-ghost use Rattle.wf_meant.specs.Points.{graph_of};
+ghost use Rattle.wf_views.specs.Environment.{Environment, facts_of, last_facts};
+ghost use Rattle.wf_views.specs.Answering.{AnswersAs, RowSource};
+ghost use Rattle.wf_views.specs.Look.{name_of, told_at, told_in_test, told_to_outputs};
+ghost use Rattle.wf_views.specs.Points.{graph_of};
 ghost use Rattle.wf_sight.specs.Laws.{run_of, with_variables};
 ghost use Rattle.wf_sight.specs.Sight.{KnownTree, seen_at, seen_by_outputs, seen_in_test};
 

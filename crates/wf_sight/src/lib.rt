@@ -22,3 +22,7 @@ mod sight;
 
 pub use laws::what_is_seen_is_told;
 pub use sight::{Run, Sight};
+pub use wf_views::{
+    Places, actions_have_depths, entries_stay_in_their_graph, kind_of, name_of, number_of,
+    numbers_stand_once,
+};

@@ -1,13 +1,13 @@
 //! What is seen at a point of a run.
 ghost use Rattle.std.specs.Prelude.{◌≡◌, [], IfOk, option_map};
-ghost use Rattle.wf_asks.specs.Instances.{address_of};
-ghost use Rattle.wf_asks.specs.Known.{store_in};
+ghost use Rattle.wf_views.specs.Instances.{address_of};
+ghost use Rattle.wf_views.specs.Known.{store_in};
 ghost use Rattle.wf_layers.specs.Address.{address};
-ghost use Rattle.wf_meant.specs.Look.{instance};
+ghost use Rattle.wf_views.specs.Look.{instance};
 ghost use Rattle.wf_val.specs.Address.{address_text};
 ghost use Rattle.wf_val.specs.Seen.{tree};
-ghost use Rattle.wf_reading.specs.ReadSeen.{def_tree};
-ghost use Rattle.wf_meant.specs.Variables.{given_by};
+ghost use Rattle.wf_views.specs.ReadSeen.{def_tree};
+ghost use Rattle.wf_views.specs.MeantVariables.{given_by};
 ghost use Rattle.wf_views.specs.Seen.{row_content, rows_seen};
 ghost use Rattle.wf_sight.specs.Seen.{known_tree};
 ghost use Rattle.wf_sight.specs.Sight.{seen_at, seen_by_outputs, seen_from, seen_in_test};
@@ -16,16 +16,14 @@ ghost use Rattle.wf_sight.specs.Variables.{variable_in};
 
 use crate::items::{Held, index_of, item_of, items_of, nearest};
 use std::alloc::{AllocError, Global};
-use wf_asks::{Instance, Known, Rows, Store};
 use wf_fn_time::Ticks;
 use wf_lists::TryCopy;
-use wf_look::{Look, word_of};
-use wf_opening::{Decision, Verdict};
 use wf_record::{Row, Status};
-use wf_trigger::Start;
 use wf_val::{Address, Indexes, Name, Text, Val};
-use wf_variables::value_given;
-use wf_views::{Places, indexes, indexes_then, name_of, result_from, row_of, view_from};
+use wf_views::{
+    Decision, Instance, Known, Look, Places, Rows, Start, Store, Verdict, indexes, indexes_then,
+    name_of, result_from, row_of, value_given, view_from, word_of,
+};
 
 /// What a run goes by: how it was started, and what the action is told of the run itself. Where a part of a run is done anew, its actions
 /// are told of the run that did them last.

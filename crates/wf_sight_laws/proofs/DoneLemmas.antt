@@ -6,25 +6,25 @@ use Rattle.wf_val.specs.ValueTree.{ValueTree}
 use Rattle.wf_template.specs.CondTree.{CondTree}
 use Rattle.wf_layers.specs.Address.{Address, Table}
 use Rattle.wf_look.specs.Told.{Told}
-use Rattle.wf_eval_expr.specs.Uses.{AgreeAt, Use}
-use Rattle.wf_eval.specs.Uses.{cond_uses}
+use Rattle.wf_meant_laws.specs.Uses.{AgreeAt, Use}
+use Rattle.wf_meant_laws.specs.EvalUses.{cond_uses}
 use Rattle.wf_def.specs.ActionTree.{ActionTree, KindTree, action_kind, until}
 use Rattle.wf_def.specs.AllActions.{numbered}
 use Rattle.wf_def.specs.DefTree.{DefTree}
-use Rattle.wf_uses.specs.UsesTree.{ordered}
-use Rattle.wf_refs.specs.Sites.{test_uses}
-use Rattle.wf_instance.specs.Variables.{ReadsIt, WritesIt}
-use Rattle.wf_opening.specs.Decisions.{decided}
-use Rattle.wf_opening.specs.Uses.{opening_uses}
-use Rattle.wf_opening.specs.Verdicts.{VerdictTree, tested_from}
-use Rattle.wf_done.specs.Leaf.{begun, begun_from}
-use Rattle.wf_done.specs.Uses.{kind_uses}
+use Rattle.wf_meant_laws.specs.UsesTree.{ordered}
+use Rattle.wf_meant_laws.specs.Sites.{test_uses}
+use Rattle.wf_meant_laws.specs.AcceptedLawsVariables.{ReadsIt, WritesIt}
+use Rattle.wf_meant_laws.specs.Decisions.{decided}
+use Rattle.wf_meant_laws.specs.OpeningUses.{opening_uses}
+use Rattle.wf_meant_laws.specs.Verdicts.{VerdictTree, tested_from}
+use Rattle.wf_meant_laws.specs.Leaf.{begun, begun_from}
+use Rattle.wf_meant_laws.specs.DoneUses.{kind_uses}
 use Rattle.wf_record.specs.Record.{Row}
-use Rattle.wf_environment.specs.Environment.{Environment}
-use Rattle.wf_meant.specs.Containers.{tested}
-use Rattle.wf_meant.specs.Look.{decided_by, told_at, told_in_test}
-use Rattle.wf_meant.specs.Source as source_of
-use Rattle.wf_meant.specs.Source.{test_of}
+use Rattle.wf_meant_laws.specs.Environment.{Environment}
+use Rattle.wf_meant_laws.specs.Containers.{tested}
+use Rattle.wf_meant_laws.specs.Look.{decided_by, told_at, told_in_test}
+use Rattle.wf_meant_laws.specs.Source as source_of
+use Rattle.wf_meant_laws.specs.Source.{test_of}
 use Rattle.wf_sight.proofs.FoundLemmas.{all_agree}
 use Rattle.wf_sight_laws.proofs.LookLemmas.{at_opening, at_start, at_test}
 

@@ -10,12 +10,12 @@ use Rattle.wf_layers.proofs.Basics.{two, unless}
 use Rattle.wf_asks.specs.Known.{writer}
 use Rattle.wf_def.specs.DefTree.{DefTree}
 use Rattle.wf_record.specs.Record.{Row}
-use Rattle.wf_meant.specs.Answering.{RowSource}
-use Rattle.wf_meant.specs.Points.{Point, graph_of}
-use Rattle.wf_meant.specs.Variables.{given_by, variable_at}
+use Rattle.wf_meant_laws.specs.Answering.{RowSource}
+use Rattle.wf_meant_laws.specs.Points.{Point, graph_of}
+use Rattle.wf_meant_laws.specs.Variables.{given_by, variable_at}
 use Rattle.wf_meant_laws.specs.Last.{LastIsRead}
 use Rattle.wf_meant_laws.specs.Writers.{is_writer, value_at, writes_to}
-use Rattle.wf_catalog.specs.Variables.{variable_number}
+use Rattle.wf_sight.specs.CatalogVariables.{variable_number}
 use Rattle.wf_sight.specs.Variables.{variable_in}
 use Rattle.wf_sight_laws.specs.Writes.{writes}
 use Rattle.wf_sight_laws.proofs.NumberLemmas.{written_has_number}

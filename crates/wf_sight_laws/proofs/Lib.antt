@@ -1,3 +1,7 @@
+pub use Rattle.wf_meant_laws.proofs.KindLemmas
+pub use Rattle.wf_meant_laws.proofs.RangeLemmas
+pub use Rattle.wf_meant_laws.proofs.WriterLemmas
+pub use Rattle.wf_sight.proofs.LoopLemmas
 pub mod NumberLemmas
 pub mod RowLemmas
 pub mod OrderLemmas

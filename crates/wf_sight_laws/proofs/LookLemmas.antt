@@ -9,22 +9,22 @@ use Rattle.wf_val.specs.NameOrder.{bytes_cmp}
 use Rattle.wf_val.specs.declared.function.Fun.{Fun}
 use Rattle.wf_template.specs.DataTree.{DataTree}
 use Rattle.wf_layers.proofs.Basics.{or_first, or_second}
-use Rattle.wf_eval_expr.specs.Uses.{Use, asks, asks_moment, asks_words, names}
-use Rattle.wf_eval.specs.Uses.{template_uses, tree_uses}
+use Rattle.wf_meant_laws.specs.Uses.{Use, asks, asks_moment, asks_words, names}
+use Rattle.wf_meant_laws.specs.EvalUses.{template_uses, tree_uses}
 use Rattle.wf_def.specs.ActionTree.{ActionTree, InitialTree, KindTree, action, action_kind, append_array, append_string, branch, compose}
 use Rattle.wf_def.specs.ActionTree.{connector, decrement, foreach, increment, initialize, join, parse_json, query, response, scope, select}
 use Rattle.wf_def.specs.ActionTree.{set_to, switch, switch_else, terminate, until, wait}
 use Rattle.wf_def.specs.AllActions.{numbered}
 use Rattle.wf_def.specs.DefTree.{DefTree}
-use Rattle.wf_uses.specs.UsesTree.{ordered, uses_tree}
-use Rattle.wf_refs.specs.Sites as sites
-use Rattle.wf_refs.specs.Sites.{inputs_uses, items_uses, test_uses, uses_at_inputs, uses_at_items, uses_at_test, uses_of, writes_of}
-use Rattle.wf_refs.specs.declared.site.Site.{Site}
-use Rattle.wf_varorder.specs.Pairs.{reads_if, writes_if}
-use Rattle.wf_instance.specs.Variables.{ReadsIt, WritesIt}
-use Rattle.wf_done.specs.Uses as done
-use Rattle.wf_done.specs.Uses.{beneath, kind_uses}
-use Rattle.wf_opening.specs.Uses.{opening_uses}
+use Rattle.wf_meant_laws.specs.UsesTree.{ordered, uses_tree}
+use Rattle.wf_meant_laws.specs.Sites as sites
+use Rattle.wf_meant_laws.specs.Sites.{inputs_uses, items_uses, test_uses, uses_at_inputs, uses_at_items, uses_at_test, uses_of, writes_of}
+use Rattle.wf_meant_laws.specs.Site.{Site}
+use Rattle.wf_meant_laws.specs.Pairs.{reads_if, writes_if}
+use Rattle.wf_meant_laws.specs.AcceptedLawsVariables.{ReadsIt, WritesIt}
+use Rattle.wf_meant_laws.specs.DoneUses as done
+use Rattle.wf_meant_laws.specs.DoneUses.{beneath, kind_uses}
+use Rattle.wf_meant_laws.specs.OpeningUses.{opening_uses}
 use Rattle.wf_sight.specs.Found.{WhereVariable}
 use Rattle.wf_sight_laws.proofs.NumberLemmas.{any_back, any_front, own_name}
 

@@ -11,10 +11,10 @@ use Rattle.wf_asks.specs.Known.{is_among}
 use Rattle.wf_def.specs.ActionTree.{ActionTree, action_kind}
 use Rattle.wf_def.specs.AllActions.{all_actions, has_number, numbered}
 use Rattle.wf_def.specs.DefTree.{DefTree}
-use Rattle.wf_refs.specs.Sites.{writes_of}
+use Rattle.wf_meant_laws.specs.Sites.{writes_of}
 use Rattle.wf_meant_laws.specs.Writers.{is_writer, writes_if}
 use Rattle.wf_meant_laws.proofs.WriterLemmas.{find_is, some_is}
-use Rattle.wf_catalog.specs.Variables.{first_place, listed, numbers_by, numbers_of, variable_number, written, written_names}
+use Rattle.wf_sight.specs.CatalogVariables.{first_place, listed, numbers_by, numbers_of, variable_number, written, written_names}
 
 -- ---- truth values and names
 

@@ -6,11 +6,11 @@ use Rattle.wf_layers.specs.Machine.{In, IsOpen, Opening}
 use Rattle.wf_layers.specs.Seen.{Once}
 use Rattle.wf_loops.proofs.InsideLemmas.{kind_has}
 use Rattle.wf_def.specs.DefTree.{DefTree}
-use Rattle.wf_opening.specs.Decisions.{DecisionTree}
-use Rattle.wf_opening.specs.Verdicts.{VerdictTree}
-use Rattle.wf_instance.specs.Variables.{ReadsIt, WritesIt}
-use Rattle.wf_meant.specs.Answering.{RowSource}
-use Rattle.wf_meant.specs.Points.{graph_of}
+use Rattle.wf_meant_laws.specs.Decisions.{DecisionTree}
+use Rattle.wf_meant_laws.specs.Verdicts.{VerdictTree}
+use Rattle.wf_meant_laws.specs.AcceptedLawsVariables.{ReadsIt, WritesIt}
+use Rattle.wf_meant_laws.specs.Answering.{RowSource}
+use Rattle.wf_meant_laws.specs.Points.{graph_of}
 use Rattle.wf_meant_laws.specs.Store.{Accesses}
 use Rattle.wf_meant_laws.proofs.WholeLemmas.{round_of}
 use Rattle.wf_sight.proofs.OpenLemmas.{kind_open, loops_open}

@@ -14,23 +14,23 @@ use Rattle.wf_def.specs.AllActions.{numbered}
 use Rattle.wf_def.specs.DefTree.{DefTree}
 use Rattle.wf_order.specs.Turns.{IsInstance}
 use Rattle.wf_loops.specs.Loops.{loops_of}
-use Rattle.wf_refs.specs.Sites.{uses_at_inputs, writes_of}
-use Rattle.wf_uses.specs.UsesTree.{ordered}
-use Rattle.wf_varorder.specs.Pairs as pairs
-use Rattle.wf_instance.specs.Variables.{ReadsIt, VariablesAreInOneOrder, WritesIt}
+use Rattle.wf_meant_laws.specs.Sites.{uses_at_inputs, writes_of}
+use Rattle.wf_meant_laws.specs.UsesTree.{ordered}
+use Rattle.wf_meant_laws.specs.Pairs as pairs
+use Rattle.wf_meant_laws.specs.AcceptedLawsVariables.{ReadsIt, VariablesAreInOneOrder, WritesIt}
 use Rattle.wf_record.specs.Record.{Row}
 use Rattle.wf_record.specs.declared.status.Status.{Status}
-use Rattle.wf_environment.specs.Environment.{Environment}
-use Rattle.wf_environment.specs.Statuses.{status_tree}
-use Rattle.wf_meant.specs.Answering.{AnswersAs, RowSource}
-use Rattle.wf_meant.specs.Points.{graph_of}
-use Rattle.wf_meant.specs.Record.{depth_of}
+use Rattle.wf_meant_laws.specs.Environment.{Environment}
+use Rattle.wf_meant_laws.specs.Statuses.{status_tree}
+use Rattle.wf_meant_laws.specs.Answering.{AnswersAs, RowSource}
+use Rattle.wf_meant_laws.specs.Points.{graph_of}
+use Rattle.wf_meant_laws.specs.Record.{depth_of}
 use Rattle.wf_meant_laws.specs.Store.{Accesses}
 use Rattle.wf_meant_laws.specs.Tables.{StandAtInstances}
 use Rattle.wf_meant_laws.specs.Writers.{is_writer, writes_if}
 use Rattle.wf_meant_laws.proofs.AccessLemmas.{writer_is_leaf}
 use Rattle.wf_meant_laws.proofs.WholeLemmas.{round_of}
-use Rattle.wf_catalog.specs.Variables.{variable_number, written}
+use Rattle.wf_sight.specs.CatalogVariables.{variable_number, written}
 use Rattle.wf_sight_laws.specs.Writes.{if_succeeded, is_full, writes}
 use Rattle.wf_sight_laws.proofs.NumberLemmas.{one_number, writer_of}
 

@@ -7,11 +7,11 @@ use Rattle.wf_asks.specs.Known.{writer}
 use Rattle.wf_def.specs.DefTree.{DefTree}
 use Rattle.wf_loops.specs.Loops.{loops_of}
 use Rattle.wf_record.specs.Record.{Row}
-use Rattle.wf_environment.specs.Environment.{Environment}
+use Rattle.wf_meant_laws.specs.Environment.{Environment}
 use Rattle.wf_seen_laws.proofs.RoundLemmas.{none_split}
-use Rattle.wf_meant.specs.Answering.{RowSource}
-use Rattle.wf_meant.specs.Look.{told_to_outputs}
-use Rattle.wf_meant.specs.Points.{graph_of, point_of_outputs}
+use Rattle.wf_meant_laws.specs.Answering.{RowSource}
+use Rattle.wf_meant_laws.specs.Look.{told_to_outputs}
+use Rattle.wf_meant_laws.specs.Points.{graph_of, point_of_outputs}
 use Rattle.wf_meant_laws.specs.Last.{LastIsRead}
 use Rattle.wf_meant_laws.specs.Tables.{LoopsTell}
 use Rattle.wf_meant_laws.proofs.PointLemmas.{Seeing}
@@ -20,7 +20,7 @@ use Rattle.wf_meant_laws.proofs.WriterLemmas.{last_is_read}
 use Rattle.wf_meant_laws.specs.Writers.{writes_to}
 use Rattle.wf_sight.specs.Laws.{with_variables}
 use Rattle.wf_sight.specs.Sight.{KnownTree}
-use Rattle.wf_catalog.specs.Variables.{variable_number}
+use Rattle.wf_sight.specs.CatalogVariables.{variable_number}
 use Rattle.wf_sight_laws.specs.Writes.{writes}
 use Rattle.wf_sight_laws.proofs.LastLemmas.{told_by_number}
 

@@ -9,13 +9,13 @@ use Rattle.wf_def.specs.DefTree.{DefTree}
 use Rattle.wf_loops.specs.Loops.{loops_of}
 use Rattle.wf_record.specs.Record.{Row}
 use Rattle.wf_record.specs.declared.status.Status.{Status}
-use Rattle.wf_meant.specs.Points.{graph_of}
-use Rattle.wf_meant.specs.Variables.{given_as, given_by}
+use Rattle.wf_meant_laws.specs.Points.{graph_of}
+use Rattle.wf_meant_laws.specs.Variables.{given_as, given_by}
 use Rattle.wf_meant_laws.specs.Answered.{GiveWhatTheyWrite}
 use Rattle.wf_meant_laws.specs.Tables.{StandAtInstances}
 use Rattle.wf_meant_laws.specs.Writers.{is_writer, writes_to}
 use Rattle.wf_meant_laws.proofs.WholeLemmas.{full_of}
-use Rattle.wf_catalog.specs.Variables.{variable_number, written}
+use Rattle.wf_sight.specs.CatalogVariables.{variable_number, written}
 use Rattle.wf_sight_laws.specs.Writes.{if_succeeded, is_full, writes}
 use Rattle.wf_sight_laws.proofs.NumberLemmas.{writer_same}
 

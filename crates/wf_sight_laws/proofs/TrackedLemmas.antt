@@ -7,22 +7,22 @@ use Rattle.wf_val.specs.ValueTree.{ValueTree}
 use Rattle.wf_template.specs.DataTree.{DataMember, data_members}
 use Rattle.wf_layers.proofs.Basics.{two, unless, when}
 use Rattle.wf_look.specs.Told.{Told}
-use Rattle.wf_eval_expr.specs.Uses.{AgreeAt}
-use Rattle.wf_eval.specs.Uses.{members_uses}
+use Rattle.wf_meant_laws.specs.Uses.{AgreeAt}
+use Rattle.wf_meant_laws.specs.EvalUses.{members_uses}
 use Rattle.wf_def.specs.ActionTree.{ActionTree, action, action_number}
 use Rattle.wf_def.specs.AllActions.{all_actions, has_number, numbered}
 use Rattle.wf_def.specs.DefTree.{DefTree}
-use Rattle.wf_uses.specs.UsesTree.{UsesTree, ordered, uses_tree}
-use Rattle.wf_refs.specs.Sites.{uses_at_tracked, uses_of}
-use Rattle.wf_refs.specs.declared.site.Site.{Site}
-use Rattle.wf_standing.specs.Standing.{StandingTree, number_at, pointer_at, standings_of}
-use Rattle.wf_standing.specs.Whole.{whole_of}
-use Rattle.wf_breaks.specs.Rules.{action_breaks, breaks_at, breaks_if, breaks_itself, is_any}
-use Rattle.wf_breaks.specs.declared.rule.Rule.{Rule}
-use Rattle.wf_instance.specs.Broken.{broken_of, offences, rules_in_order, told}
+use Rattle.wf_meant_laws.specs.UsesTree.{UsesTree, ordered, uses_tree}
+use Rattle.wf_meant_laws.specs.Sites.{uses_at_tracked, uses_of}
+use Rattle.wf_meant_laws.specs.Site.{Site}
+use Rattle.wf_meant_laws.specs.Standing.{StandingTree, number_at, pointer_at, standings_of}
+use Rattle.wf_meant_laws.specs.Whole.{whole_of}
+use Rattle.wf_meant_laws.specs.Rules.{action_breaks, breaks_at, breaks_if, breaks_itself, is_any}
+use Rattle.wf_meant_laws.specs.Rule.{Rule}
+use Rattle.wf_meant_laws.specs.Broken.{broken_of, offences, rules_in_order, told}
 use Rattle.wf_first.specs.First.{first_broken}
-use Rattle.wf_done.specs.Tracked.{tracked_from, tracked_value}
-use Rattle.wf_meant.specs.Source.{tracked_of}
+use Rattle.wf_meant_laws.specs.Tracked.{tracked_from, tracked_value}
+use Rattle.wf_meant_laws.specs.Source.{tracked_of}
 use Rattle.wf_meant_laws.proofs.WriterLemmas.{find_is, some_is}
 use Rattle.wf_sight.proofs.FoundLemmas.{all_agree}
 use Rattle.wf_sight_laws.proofs.LookLemmas.{AllHold, all_hold, tree_reads, variables_named}

@@ -9,8 +9,8 @@ use Rattle.wf_def.specs.DefTree.{DefTree}
 use Rattle.wf_def.specs.declared.sort.Sort.{Sort}
 use Rattle.wf_record.specs.Record.{Row}
 use Rattle.wf_record.specs.declared.status.Status.{Status}
-use Rattle.wf_meant.proofs.Terms.{act, alone, initial, many, nat, of, of_actions, success_of, txt}
-use Rattle.wf_catalog.specs.Variables.{variable_number}
+use Rattle.wf_meant_laws.proofs.Terms.{act, alone, initial, many, nat, of, of_actions, success_of, txt}
+use Rattle.wf_sight.specs.CatalogVariables.{variable_number}
 use Rattle.wf_sight_laws.specs.Writes.{numbers_written, writes}
 
 -- C writes nothing; P writes in each iteration of L; V makes two variables, of which the second is written by no other.

@@ -5,21 +5,21 @@ use Rattle.wf_template.specs.DataTree.{data_members}
 use Rattle.wf_layers.specs.Address.{Address}
 use Rattle.wf_layers.specs.Definition.{Graph, Kind, Leaf}
 use Rattle.wf_look.specs.Told.{Told}
-use Rattle.wf_eval_expr.specs.Uses.{Use}
-use Rattle.wf_eval.specs.Uses.{members_uses}
+use Rattle.wf_meant_laws.specs.Uses.{Use}
+use Rattle.wf_meant_laws.specs.EvalUses.{members_uses}
 use Rattle.wf_def.specs.ActionTree.{ActionTree, action_kind}
 use Rattle.wf_def.specs.AllActions.{numbered}
 use Rattle.wf_def.specs.DefTree.{DefTree}
-use Rattle.wf_refs.specs.Sites.{test_uses}
+use Rattle.wf_meant_laws.specs.Sites.{test_uses}
 use Rattle.wf_asks.specs.Known.{HoldsLast, HoldsLastAtTest, IsInformed, IsInformedAtTest}
-use Rattle.wf_opening.specs.Uses.{opening_uses}
-use Rattle.wf_done.specs.Uses.{kind_uses}
-use Rattle.wf_environment.specs.Environment.{Environment}
-use Rattle.wf_meant.specs.Answering.{RowSource}
-use Rattle.wf_meant.specs.Look.{told_at, told_in_test}
-use Rattle.wf_meant.specs.Points.{graph_of}
-use Rattle.wf_meant.specs.Record.{depth_of}
-use Rattle.wf_meant.specs.Source.{tracked_of}
+use Rattle.wf_meant_laws.specs.OpeningUses.{opening_uses}
+use Rattle.wf_meant_laws.specs.DoneUses.{kind_uses}
+use Rattle.wf_meant_laws.specs.Environment.{Environment}
+use Rattle.wf_meant_laws.specs.Answering.{RowSource}
+use Rattle.wf_meant_laws.specs.Look.{told_at, told_in_test}
+use Rattle.wf_meant_laws.specs.Points.{graph_of}
+use Rattle.wf_meant_laws.specs.Record.{depth_of}
+use Rattle.wf_meant_laws.specs.Source.{tracked_of}
 use Rattle.wf_sight.specs.Found.{FindsTold}
 use Rattle.wf_sight.specs.Sight.{KnownTree}
 use Rattle.wf_sight.specs.Variables.{variable_in}

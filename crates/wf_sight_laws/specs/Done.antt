@@ -10,16 +10,16 @@ use Rattle.wf_def.specs.ActionTree.{ActionTree, action_kind}
 use Rattle.wf_def.specs.AllActions.{numbered}
 use Rattle.wf_def.specs.DefTree.{DefTree}
 use Rattle.wf_asks.specs.Known.{HoldsLast, HoldsLastAtTest, IsInformed, IsInformedAtTest, writer}
-use Rattle.wf_opening.specs.Decisions.{decided}
-use Rattle.wf_done.specs.Leaf.{begun}
-use Rattle.wf_done.specs.Tracked.{tracked_value, with_own}
-use Rattle.wf_environment.specs.Environment.{Environment, facts_of, last_facts}
-use Rattle.wf_meant.specs.Answering.{RowSource, table_by}
-use Rattle.wf_meant.specs.Containers.{tested}
-use Rattle.wf_meant.specs.Look.{name_of, told_ending, told_to_outputs}
-use Rattle.wf_meant.specs.Points.{graph_of}
-use Rattle.wf_meant.specs.Record.{depth_of}
-use Rattle.wf_meant.specs.Source.{source, tracked_of}
+use Rattle.wf_meant_laws.specs.Decisions.{decided}
+use Rattle.wf_meant_laws.specs.Leaf.{begun}
+use Rattle.wf_meant_laws.specs.Tracked.{tracked_value, with_own}
+use Rattle.wf_meant_laws.specs.Environment.{Environment, facts_of, last_facts}
+use Rattle.wf_meant_laws.specs.Answering.{RowSource, table_by}
+use Rattle.wf_meant_laws.specs.Containers.{tested}
+use Rattle.wf_meant_laws.specs.Look.{name_of, told_ending, told_to_outputs}
+use Rattle.wf_meant_laws.specs.Points.{graph_of}
+use Rattle.wf_meant_laws.specs.Record.{depth_of}
+use Rattle.wf_meant_laws.specs.Source.{source, tracked_of}
 use Rattle.wf_sight.specs.Laws.{run_of}
 use Rattle.wf_sight.specs.Sight.{KnownTree, seen_at, seen_by_outputs, seen_in_test}
 use Rattle.wf_sight_laws.specs.Writes.{writes}

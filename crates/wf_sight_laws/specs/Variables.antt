@@ -3,17 +3,17 @@ use Rattle.std.specs.Prelude.{◌≡◌, ◌⊎◌, ℕ, List, Some}
 use Rattle.wf_layers.specs.Address.{Address, Table}
 use Rattle.wf_layers.specs.Definition.{Graph, Kind}
 use Rattle.wf_def.specs.DefTree.{DefTree}
-use Rattle.wf_instance.specs.Variables.{ReadsIt, WritesIt}
+use Rattle.wf_meant_laws.specs.AcceptedLawsVariables.{ReadsIt, WritesIt}
 use Rattle.wf_asks.specs.Known.{HoldsLast, HoldsLastAtTest, IsInformed, IsInformedAtTest, MayRead, writer}
 use Rattle.wf_record.specs.Record.{Row}
-use Rattle.wf_meant.specs.Answering.{RowSource}
-use Rattle.wf_meant.specs.Points.{graph_of, point_of, point_of_test}
-use Rattle.wf_meant.specs.Record.{depth_of}
-use Rattle.wf_meant.specs.Variables.{variable_at}
+use Rattle.wf_meant_laws.specs.Answering.{RowSource}
+use Rattle.wf_meant_laws.specs.Points.{graph_of, point_of, point_of_test}
+use Rattle.wf_meant_laws.specs.Record.{depth_of}
+use Rattle.wf_meant_laws.specs.Variables.{variable_at}
 use Rattle.wf_meant_laws.specs.Store.{Accesses}
 use Rattle.wf_meant_laws.specs.Writers.{writes_to}
 use Rattle.wf_sight.specs.Sight.{KnownTree}
-use Rattle.wf_catalog.specs.Variables.{variable_number}
+use Rattle.wf_sight.specs.CatalogVariables.{variable_number}
 use Rattle.wf_sight.specs.Variables.{variable_in}
 use Rattle.wf_sight_laws.specs.Writes.{writes}
 

@@ -7,8 +7,8 @@ use Rattle.wf_loops.specs.Loops.{loops_of}
 use Rattle.wf_asks.specs.Known.{is_among}
 use Rattle.wf_record.specs.Record.{Row}
 use Rattle.wf_record.specs.declared.status.Status.{Status}
-use Rattle.wf_meant.specs.Points.{graph_of}
-use Rattle.wf_catalog.specs.Variables.{written}
+use Rattle.wf_meant_laws.specs.Points.{graph_of}
+use Rattle.wf_sight.specs.CatalogVariables.{written}
 
 -- it has an index for each loop round its action
 abbrev pub is_full : DefTree → Address → Bool

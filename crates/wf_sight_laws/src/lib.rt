@@ -18,13 +18,13 @@ ghost use Rattle.std.specs.Prelude.{◌≡◌, ℕ, None};
 ghost use Rattle.wf_layers.specs.Address.{Table};
 ghost use Rattle.wf_layers.specs.Variables.{OneOrder};
 ghost use Rattle.wf_def.specs.DefTree.{DefTree};
-ghost use Rattle.wf_reading.specs.Read.{IsRead};
+ghost use Rattle.wf_meant_laws.specs.Read.{IsRead};
 ghost use Rattle.wf_record.specs.Record.{Row};
-ghost use Rattle.wf_instance.specs.Broken.{broken_of};
-ghost use Rattle.wf_environment.specs.Environment.{Environment};
-ghost use Rattle.wf_meant.specs.Answering.{AnswersAs, RowSource};
-ghost use Rattle.wf_meant.specs.Points.{graph_of};
-ghost use Rattle.wf_meant.specs.Source.{source};
+ghost use Rattle.wf_meant_laws.specs.Broken.{broken_of};
+ghost use Rattle.wf_meant_laws.specs.Environment.{Environment};
+ghost use Rattle.wf_meant_laws.specs.Answering.{AnswersAs, RowSource};
+ghost use Rattle.wf_meant_laws.specs.Points.{graph_of};
+ghost use Rattle.wf_meant_laws.specs.Source.{source};
 ghost use Rattle.wf_meant_laws.specs.Answered.{GiveWhatTheyWrite, IsAnswered};
 ghost use Rattle.wf_meant_laws.specs.Tables.{AreWhole, StandAtInstances};
 ghost use Rattle.wf_asks.specs.Known.{writer};
@@ -33,12 +33,18 @@ ghost use Rattle.wf_sight_laws.specs.Done.{Decides, OutputsSee, Starts, Tests, T
 ghost use Rattle.wf_sight_laws.specs.Variables.{AccessesMayRead, IsTold, IsToldInTest, WriteWhatTheyGive};
 ghost use Rattle.wf_sight_laws.specs.Writes.{writes};
 
+pub use wf_meant_laws::{
+    Checked, a_definition_is_an_instance, depths_are_how_many_are_before,
+    listed_rows_stand_for_the_table,
+};
+pub use wf_sight::{Places, Run, Sight, kind_of, name_of, number_of};
+
 /// A run of its own is by a source of which all this holds: the rows that an accepted definition means are whole, and give what they write.
 pub fn a_definition_is_answered()
     ensures { (d : DefTree) → IsRead d → broken_of d ≡ None → (e : Environment) → IsAnswered d e (source d e) }
 {
     wf_meant_laws::meant_rows_are_whole();
-    wf_instance::a_definition_is_an_instance();
+    wf_meant_laws::a_definition_is_an_instance();
     wf_meant_laws::new_rows_give_what_they_write();
 }
 
@@ -55,9 +61,9 @@ pub fn numbered_writers_are_in_one_order()
         → (rows : Table Row) → StandAtInstances d rows → (v : ℕ) → OneOrder (graph_of d) m (writer (writes d) v) rows }
     ensures readers { (d : DefTree) → IsRead d → broken_of d ≡ None → (m : RowSource) → AccessesMayRead d m }
 {
-    wf_instance::variables_are_in_one_order();
-    wf_known_laws::numbers_stand_once();
-    wf_uses::names_are_those_named();
+    wf_meant_laws::variables_are_in_one_order();
+    wf_meant_laws::numbers_stand_once();
+    wf_meant_laws::names_are_those_named();
 }
 
 /// Where what is known is what the machine promises, a sight tells of each variable that an action reads or writes the value that is meant.
@@ -67,7 +73,7 @@ pub fn sights_tell_variables()
         → IsToldInTest d m }
 {
     wf_meant_laws::the_last_writer_is_read();
-    wf_known_laws::numbers_stand_once();
+    wf_meant_laws::numbers_stand_once();
     rows_write_what_they_give();
     numbered_writers_are_in_one_order();
 }
@@ -83,9 +89,9 @@ pub fn what_is_asked_for_is_found()
     ensures ends { (d : DefTree) → IsRead d → broken_of d ≡ None → FindsAsItEnds d }
 {
     sights_tell_variables();
-    wf_instance::the_first_broken_rule();
-    wf_instance::standings_are_the_actions();
-    wf_uses::names_are_those_named();
+    wf_meant_laws::the_first_broken_rule();
+    wf_meant_laws::standings_are_the_actions();
+    wf_meant_laws::names_are_those_named();
 }
 
 /// And what an action does in what it sees is what the definition means.
@@ -97,13 +103,13 @@ pub fn what_is_done_in_a_sight_is_meant()
     ensures tracks { (d : DefTree) → IsRead d → broken_of d ≡ None → (e : Environment) (m : RowSource) → AnswersAs d e m → Tracks d e m }
 {
     sights_tell_variables();
-    wf_instance::the_first_broken_rule();
-    wf_instance::standings_are_the_actions();
+    wf_meant_laws::the_first_broken_rule();
+    wf_meant_laws::standings_are_the_actions();
     wf_sight::what_is_seen_is_told();
-    wf_done::what_an_action_does_is_local();
-    wf_opening::what_a_container_decides_is_local();
-    wf_known_laws::numbers_stand_once();
-    wf_uses::names_are_those_named();
+    wf_meant_laws::what_an_action_does_is_local();
+    wf_meant_laws::what_a_container_decides_is_local();
+    wf_meant_laws::numbers_stand_once();
+    wf_meant_laws::names_are_those_named();
 }
 
 /// And once all rows are there, the section `outputs` sees by the last writers of all what it is told.
@@ -117,12 +123,12 @@ pub fn outputs_see_the_last_writers()
     wf_seen_laws::loops_round_what_is_seen_are_seen();
     wf_seen_laws::nobody_sees_who_sees_him();
     wf_loops::what_is_earlier_is_seen();
-    wf_instance::depths_are_how_many_are_before();
+    wf_meant_laws::depths_are_how_many_are_before();
     wf_order::order_is_exact();
     wf_order::before_is_an_order();
     wf_order::what_stands_inside_goes_along();
-    wf_known_laws::numbers_stand_once();
-    wf_known_laws::numbers_are_below();
-    wf_known_laws::entries_stay_in_their_graph();
-    wf_refs::read_actions_have_their_numbers();
+    wf_meant_laws::numbers_stand_once();
+    wf_meant_laws::numbers_are_below();
+    wf_meant_laws::entries_stay_in_their_graph();
+    wf_meant_laws::read_actions_have_their_numbers();
 }

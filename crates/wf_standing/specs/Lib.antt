@@ -1,3 +1,16 @@
+pub use Rattle.wf_def.specs.ActionTree
+pub use Rattle.wf_def.specs.DefSeen
+pub use Rattle.wf_def.specs.DefTree
+pub use Rattle.wf_def.specs.declared.sort.Sort
+pub use Rattle.wf_def.specs.Sorts
+pub use Rattle.wf_order.specs.Order
+pub use Rattle.wf_order.specs.OrderSeen
+pub use Rattle.wf_order.specs.Turns
+pub use Rattle.wf_use_table.specs.ReadSeen
+pub use Rattle.wf_use_table.specs.RuleFault
+pub use Rattle.wf_use_table.specs.Sites
+pub use Rattle.wf_use_table.specs.UsesSeen
+pub use Rattle.wf_use_table.specs.UsesTree
 pub use Rattle.wf_use_table.specs.Site
 pub mod Standing
 pub mod Kinds

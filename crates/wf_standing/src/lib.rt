@@ -26,4 +26,6 @@ pub use kinds::{
 pub use known::Known;
 pub use sites::{has_item, is_in_loop, is_outside, is_test, is_tracked, loops_left};
 pub use standing::{Standing, standings_of};
-pub use wf_use_table::{Site, refs};
+pub use wf_def::{Param, Sort};
+pub use wf_order::{Order, order_is_exact};
+pub use wf_use_table::{Def, Names, RuleFault, Site, Uses, refs};

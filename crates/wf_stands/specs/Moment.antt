@@ -8,18 +8,18 @@ use Rattle.wf_meter.specs.Cost.{leaf_cost, open_cost}
 use Rattle.wf_answered.specs.Answered.{answered}
 use Rattle.wf_answers.specs.Inputs.{InputsTree}
 use Rattle.wf_def.specs.DefTree.{DefTree}
-use Rattle.wf_done.specs.Leaf.{BegunTree}
+use Rattle.wf_answered.specs.Leaf.{BegunTree}
 use Rattle.wf_doing.specs.Weights.{begun_weight, decision_weight}
-use Rattle.wf_environment.specs.Environment as environment
+use Rattle.wf_answered.specs.Environment as environment
 use Rattle.wf_layers.specs.Source.{Source}
-use Rattle.wf_meant.specs.Points.{graph_of}
-use Rattle.wf_meant.specs.Source.{source}
-use Rattle.wf_opening.specs.Decisions.{DecisionTree, items_of}
-use Rattle.wf_opening.specs.Verdicts.{VerdictTree}
+use Rattle.wf_answered.specs.Points.{graph_of}
+use Rattle.wf_answered.specs.Source.{source}
+use Rattle.wf_answered.specs.Decisions.{DecisionTree, items_of}
+use Rattle.wf_answered.specs.Verdicts.{VerdictTree}
 use Rattle.wf_doing.specs.Costs.{cost_of_row, first_cost}
 use Rattle.wf_priced.specs.Priced.{TellsRows}
 use Rattle.wf_record.specs.Record.{Row}
-use Rattle.wf_trigger.specs.Starts.{StartTree}
+use Rattle.wf_answered.specs.Starts.{StartTree}
 
 abbrev pub Moment : Type 0
 Moment = State Row BegunTree DecisionTree VerdictTree

@@ -5,14 +5,14 @@ use Rattle.wf_layers.specs.Address.{Address}
 use Rattle.wf_answers.specs.AnswerTree.{Key, key_cmp}
 use Rattle.wf_answers.specs.Inputs.{InputsTree}
 use Rattle.wf_def.specs.DefTree.{DefTree}
-use Rattle.wf_environment.specs.Environment as environment
-use Rattle.wf_meant.specs.Look.{instance}
-use Rattle.wf_meant.specs.Record.{meaning}
+use Rattle.wf_answered.specs.Environment as environment
+use Rattle.wf_answered.specs.Look.{instance}
+use Rattle.wf_answered.specs.Record.{meaning}
 use Rattle.wf_record.specs.Cost as record_cost
 use Rattle.wf_record.specs.Record.{RecordTree, record_line}
 use Rattle.wf_talk.specs.Keys.{is_among}
 use Rattle.wf_talk.specs.Standing.{Standing, TooLarge, Waits, Ends}
-use Rattle.wf_trigger.specs.Starts.{StartTree}
+use Rattle.wf_answered.specs.Starts.{StartTree}
 use Rattle.wf_stands.specs.Moment as moment
 use Rattle.wf_stands.specs.Moment.{ComesTo, Costs, IsStill, Moment}
 

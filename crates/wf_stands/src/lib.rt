@@ -12,16 +12,18 @@
 ghost use Rattle.std.specs.Prelude.{◌≡◌, ◌⊎◌, ◌<◌};
 ghost use Rattle.wf_outside.specs.Outside.{Rose};
 ghost use Rattle.wf_answers.specs.InputsSeen.{inputs_tree};
-ghost use Rattle.wf_reading.specs.ReadSeen.{def_tree};
+ghost use Rattle.wf_answered.specs.ReadSeen.{def_tree};
 ghost use Rattle.wf_talk.specs.Talks.{Talks};
-ghost use Rattle.wf_trigger.specs.StartsSeen.{start_tree};
+ghost use Rattle.wf_answered.specs.StartsSeen.{start_tree};
 ghost use Rattle.wf_stands.specs.Stands.{Stands};
 
 use std::alloc::Global;
+use wf_answered::Start;
+pub use wf_answered::{answers_stay_answered, one_more_answer_is_known};
 use wf_answers::Inputs;
+pub use wf_doing::answer_at;
 use wf_outside::{Sink, Source};
-use wf_rules::Checked;
-use wf_trigger::Start;
+pub use wf_rules::Checked;
 
 /// What holds the talk of a run whose answers come from outside.
 pub trait Converses {

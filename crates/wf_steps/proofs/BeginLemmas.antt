@@ -18,29 +18,29 @@ use Rattle.wf_kept.proofs.Known.{goes_on}
 use Rattle.wf_kept.proofs.Stored.{store_goes_on}
 use Rattle.wf_step_laws.specs.Edits.{is_foreach, size_of, turned_graph}
 use Rattle.wf_step_laws.proofs.Entered.{iterations_are_counted}
-use Rattle.wf_asks.specs.Instances.{address_of, instance_cmp, instance_of, rows_in, table_of}
-use Rattle.wf_asks.specs.Known.{open_tree, opens_in, store_in, writer}
-use Rattle.wf_asks.specs.declared.instance.Instance.{Instance}
-use Rattle.wf_asks.specs.declared.known.OpenAt.{OpenAt}
-use Rattle.wf_asks.specs.declared.known.RowAt.{RowAt}
-use Rattle.wf_asks.specs.declared.known.WriterAt.{WriterAt}
-use Rattle.wf_plan.specs.Plan.{EntryTree, PlanTree, shape_of}
-use Rattle.wf_plan.specs.PlanOf.{IsEntryOf}
-use Rattle.wf_plan.specs.PlanSeen.{at_place}
-use Rattle.wf_tables.specs.Counts.{or_zero, set_all}
-use Rattle.wf_tables.specs.Tables.{count_in, count_or_none, events_in, left_in, running_in, state_of}
-use Rattle.wf_tables.specs.declared.entries.CountAt.{CountAt}
-use Rattle.wf_tables.specs.declared.entries.EventAt.{EventAt}
-use Rattle.wf_tables.specs.declared.entries.LeafAt.{LeafAt}
-use Rattle.wf_tables.proofs.CountLemmas.{own_size}
-use Rattle.wf_tables.proofs.OpenLemmas.{found_at, table_changed}
+use Rattle.wf_events.specs.Instances.{address_of, instance_cmp, instance_of, rows_in, table_of}
+use Rattle.wf_events.specs.Known.{open_tree, opens_in, store_in, writer}
+use Rattle.wf_events.specs.Instance.{Instance}
+use Rattle.wf_events.specs.OpenAt.{OpenAt}
+use Rattle.wf_events.specs.RowAt.{RowAt}
+use Rattle.wf_events.specs.WriterAt.{WriterAt}
+use Rattle.wf_events.specs.Plan.{EntryTree, PlanTree, shape_of}
+use Rattle.wf_events.specs.PlanOf.{IsEntryOf}
+use Rattle.wf_events.specs.PlanSeen.{at_place}
+use Rattle.wf_events.specs.Counts.{or_zero, set_all}
+use Rattle.wf_events.specs.Tables.{count_in, count_or_none, events_in, left_in, running_in, state_of}
+use Rattle.wf_events.specs.CountAt.{CountAt}
+use Rattle.wf_events.specs.EventAt.{EventAt}
+use Rattle.wf_events.specs.LeafAt.{LeafAt}
+use Rattle.wf_events.proofs.CountLemmas.{own_size}
+use Rattle.wf_events.proofs.OpenLemmas.{found_at, table_changed}
 use Rattle.wf_events.specs.Looked.{idle_at, look_each, open_at}
-use Rattle.wf_enter.specs.Begun.{IsBelow, begun, begun_by, begun_in, counts_at, counts_by, counts_turns, limit_by, limit_of}
-use Rattle.wf_enter.specs.Entered.{IsMade, is_at}
-use Rattle.wf_enter.specs.Graphs.{turned_at}
-use Rattle.wf_enter.specs.declared.edits.Entering.{Entering}
-use Rattle.wf_enter.proofs.EnteredLemmas.{iteration_is_entered}
-use Rattle.wf_enter.proofs.MadeLemmas.{made_is_entered}
+use Rattle.wf_resting.specs.Begun.{IsBelow, begun, begun_by, begun_in, counts_at, counts_by, counts_turns, limit_by, limit_of}
+use Rattle.wf_resting.specs.Entered.{IsMade, is_at}
+use Rattle.wf_resting.specs.Graphs.{turned_at}
+use Rattle.wf_resting.specs.Entering.{Entering}
+use Rattle.wf_resting.proofs.EnteredLemmas.{iteration_is_entered}
+use Rattle.wf_resting.proofs.MadeLemmas.{made_is_entered}
 use Rattle.wf_steps.specs.Kept.{Goes, IsEnabled, IsKept, IsPlanned}
 
 -- no more are unfinished than have begun

@@ -19,20 +19,20 @@ use Rattle.wf_kept.proofs.Informed.{kinds_are_known, reached_facts}
 use Rattle.wf_kept.proofs.Known.{known}
 use Rattle.wf_kept.proofs.Stored.{store_goes_on}
 use Rattle.wf_step_laws.proofs.Idle as idle
-use Rattle.wf_asks.specs.Instances.{address_of, instance_cmp, instance_of, instance_total, rows_in}
-use Rattle.wf_asks.specs.Known.{IsInformed, open_tree, opens_in, store_in, writer}
-use Rattle.wf_asks.specs.declared.instance.Instance.{Instance}
-use Rattle.wf_asks.specs.declared.known.OpenAt.{OpenAt}
-use Rattle.wf_asks.specs.declared.known.RowAt.{RowAt}
-use Rattle.wf_asks.specs.declared.known.WriterAt.{WriterAt}
-use Rattle.wf_plan.specs.Plan.{PlanTree, shape_of}
-use Rattle.wf_plan.specs.PlanSeen.{at_place}
-use Rattle.wf_tables.specs.Tables.{count_in, count_or_none, events_in, left_in, running_in, state_of}
-use Rattle.wf_tables.specs.declared.entries.CountAt.{CountAt}
-use Rattle.wf_tables.specs.declared.entries.EventAt.{EventAt}
-use Rattle.wf_tables.specs.declared.entries.LeafAt.{LeafAt}
-use Rattle.wf_tables.proofs.OpenLemmas.{opens_same}
-use Rattle.wf_tables.proofs.TableLemmas.{own_place, table_put, table_take}
+use Rattle.wf_events.specs.Instances.{address_of, instance_cmp, instance_of, instance_total, rows_in}
+use Rattle.wf_events.specs.Known.{IsInformed, open_tree, opens_in, store_in, writer}
+use Rattle.wf_events.specs.Instance.{Instance}
+use Rattle.wf_events.specs.OpenAt.{OpenAt}
+use Rattle.wf_events.specs.RowAt.{RowAt}
+use Rattle.wf_events.specs.WriterAt.{WriterAt}
+use Rattle.wf_events.specs.Plan.{PlanTree, shape_of}
+use Rattle.wf_events.specs.PlanSeen.{at_place}
+use Rattle.wf_events.specs.Tables.{count_in, count_or_none, events_in, left_in, running_in, state_of}
+use Rattle.wf_events.specs.CountAt.{CountAt}
+use Rattle.wf_events.specs.EventAt.{EventAt}
+use Rattle.wf_events.specs.LeafAt.{LeafAt}
+use Rattle.wf_events.proofs.OpenLemmas.{opens_same}
+use Rattle.wf_events.proofs.TablesTableLemmas.{own_place, table_put, table_take}
 use Rattle.wf_events.specs.Closed.{iterations_by, iterations_of, last_by, last_of}
 use Rattle.wf_events.specs.Round.{IsLast, outer_or_same, round_at, round_in}
 use Rattle.wf_events.specs.RowEdits.{AreRowEdits, IsSettled}

@@ -12,19 +12,19 @@ use Rattle.wf_layers.proofs.Basics.{when}
 use Rattle.wf_layers.proofs.Tables.{own_self}
 use Rattle.wf_kept.specs.Stored.{IsStored}
 use Rattle.wf_kept.proofs.Stored.{store_goes_on}
-use Rattle.wf_asks.specs.Instances.{address_of, instance_cmp, rows_in}
-use Rattle.wf_asks.specs.Known.{IsInformed, opens_in, store_in, writer}
-use Rattle.wf_asks.specs.declared.instance.Instance.{Instance}
-use Rattle.wf_asks.specs.declared.known.OpenAt.{OpenAt}
-use Rattle.wf_asks.specs.declared.known.RowAt.{RowAt}
-use Rattle.wf_asks.specs.declared.known.WriterAt.{WriterAt}
-use Rattle.wf_plan.specs.Plan.{PlanTree}
-use Rattle.wf_tables.specs.Tables.{count_in, events_in, leaf_tree, left_in, running_in, state_of}
-use Rattle.wf_tables.specs.declared.entries.CountAt.{CountAt}
-use Rattle.wf_tables.specs.declared.entries.EventAt.{EventAt}
-use Rattle.wf_tables.specs.declared.entries.LeafAt.{LeafAt}
-use Rattle.wf_tables.proofs.OpenLemmas.{opens_same}
-use Rattle.wf_tables.proofs.TableLemmas.{table_put, table_take}
+use Rattle.wf_events.specs.Instances.{address_of, instance_cmp, rows_in}
+use Rattle.wf_events.specs.Known.{IsInformed, opens_in, store_in, writer}
+use Rattle.wf_events.specs.Instance.{Instance}
+use Rattle.wf_events.specs.OpenAt.{OpenAt}
+use Rattle.wf_events.specs.RowAt.{RowAt}
+use Rattle.wf_events.specs.WriterAt.{WriterAt}
+use Rattle.wf_events.specs.Plan.{PlanTree}
+use Rattle.wf_events.specs.Tables.{count_in, events_in, leaf_tree, left_in, running_in, state_of}
+use Rattle.wf_events.specs.CountAt.{CountAt}
+use Rattle.wf_events.specs.EventAt.{EventAt}
+use Rattle.wf_events.specs.LeafAt.{LeafAt}
+use Rattle.wf_events.proofs.OpenLemmas.{opens_same}
+use Rattle.wf_events.proofs.TablesTableLemmas.{table_put, table_take}
 use Rattle.wf_events.specs.RowEdits.{IsSettled}
 use Rattle.wf_events.proofs.PlacedLemmas.{end_idles}
 use Rattle.wf_steps.specs.Kept.{Goes, IsEnabled, IsKept, IsPlanned}

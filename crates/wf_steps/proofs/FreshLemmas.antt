@@ -20,15 +20,15 @@ use Rattle.wf_kept.specs.Stored.{begun as store_begun}
 use Rattle.wf_kept.proofs.Events.{event_same}
 use Rattle.wf_kept.proofs.Informed.{kinds_are_known}
 use Rattle.wf_kept.proofs.Known.{Known, known}
-use Rattle.wf_asks.specs.Known.{is_among}
-use Rattle.wf_asks.specs.declared.instance.Instance.{Instance}
-use Rattle.wf_plan.specs.Plan.{PlanTree}
-use Rattle.wf_plan.proofs.GraphLemmas.{own_is}
-use Rattle.wf_tables.specs.Counts.{entered_counts, needs_at, set_all}
-use Rattle.wf_tables.specs.Tables.{count_in, events_in, left_in}
-use Rattle.wf_tables.specs.declared.entries.CountAt.{CountAt}
-use Rattle.wf_tables.specs.declared.entries.EventAt.{EventAt}
-use Rattle.wf_tables.proofs.CountLemmas.{entered_set, needs_are}
+use Rattle.wf_events.specs.Known.{is_among}
+use Rattle.wf_events.specs.Instance.{Instance}
+use Rattle.wf_events.specs.Plan.{PlanTree}
+use Rattle.wf_events.proofs.GraphLemmas.{own_is}
+use Rattle.wf_events.specs.Counts.{entered_counts, needs_at, set_all}
+use Rattle.wf_events.specs.Tables.{count_in, events_in, left_in}
+use Rattle.wf_events.specs.CountAt.{CountAt}
+use Rattle.wf_events.specs.EventAt.{EventAt}
+use Rattle.wf_events.proofs.CountLemmas.{entered_set, needs_are}
 use Rattle.wf_events.specs.Looked.{idle_at, instances_at, look_each}
 use Rattle.wf_events.proofs.LookLemmas.{idle_there, looked_all}
 use Rattle.wf_steps.specs.Kept.{IsKept, IsPlanned}

@@ -11,8 +11,8 @@ use Rattle.wf_kept.specs.Reached.{IsReached}
 use Rattle.wf_kept.specs.Stored.{IsStored, MayRead}
 use Rattle.wf_kept.proofs.Informed.{decided_sees, kinds_are_known, open_decides, open_sees, open_stands, running_sees, running_stands, test_sees}
 use Rattle.wf_kept.proofs.Stored.{store_decided, store_tested}
-use Rattle.wf_asks.specs.Known as asks
-use Rattle.wf_asks.specs.Known.{HoldsLast, HoldsLastAtTest, IsInformed, IsInformedAtTest, writer}
+use Rattle.wf_events.specs.Known as asks
+use Rattle.wf_events.specs.Known.{HoldsLast, HoldsLastAtTest, IsInformed, IsInformedAtTest, writer}
 
 the_kind : {A : Type 0} {u v : A} → Some u ≡ Some v → u ≡ v
 the_kind e = cc (e)

@@ -1,3 +1,4 @@
+pub use Rattle.wf_events.proofs.OpenLemmas
 pub mod OverLemmas
 pub mod InformedLemmas
 pub mod QuietLemmas

@@ -19,29 +19,29 @@ use Rattle.wf_kept.proofs.Known.{goes_on}
 use Rattle.wf_kept.proofs.Resumed.{decided_is_new, inside_is_new}
 use Rattle.wf_kept.proofs.Stored.{store_goes_on}
 use Rattle.wf_step_laws.proofs.Entered.{openings_are_counted}
-use Rattle.wf_asks.specs.Instances.{address_of, instance_cmp, instance_of, rows_in, table_of}
-use Rattle.wf_asks.specs.Known.{HoldsLast, IsInformed, is_among, open_tree, opens_in, store_in, writer}
-use Rattle.wf_asks.specs.declared.instance.Instance.{Instance}
-use Rattle.wf_asks.specs.declared.known.OpenAt.{OpenAt}
-use Rattle.wf_asks.specs.declared.known.RowAt.{RowAt}
-use Rattle.wf_asks.specs.declared.known.WriterAt.{WriterAt}
-use Rattle.wf_plan.specs.Plan.{EntryTree, PlanTree}
-use Rattle.wf_plan.specs.PlanOf.{IsEntryOf, passes}
-use Rattle.wf_plan.specs.PlanSeen.{at_place}
-use Rattle.wf_tables.specs.Blocks.{put_rows, skipped_at}
-use Rattle.wf_tables.specs.Counts.{or_zero, set_all}
-use Rattle.wf_tables.specs.Tables.{count_in, count_or_none, events_in, left_in, running_in, state_of}
-use Rattle.wf_tables.specs.declared.entries.CountAt.{CountAt}
-use Rattle.wf_tables.specs.declared.entries.EventAt.{EventAt}
-use Rattle.wf_tables.specs.declared.entries.LeafAt.{LeafAt}
-use Rattle.wf_tables.proofs.BlockLemmas.{block_placed, passed_is}
+use Rattle.wf_events.specs.Instances.{address_of, instance_cmp, instance_of, rows_in, table_of}
+use Rattle.wf_events.specs.Known.{HoldsLast, IsInformed, is_among, open_tree, opens_in, store_in, writer}
+use Rattle.wf_events.specs.Instance.{Instance}
+use Rattle.wf_events.specs.OpenAt.{OpenAt}
+use Rattle.wf_events.specs.RowAt.{RowAt}
+use Rattle.wf_events.specs.WriterAt.{WriterAt}
+use Rattle.wf_events.specs.Plan.{EntryTree, PlanTree}
+use Rattle.wf_events.specs.PlanOf.{IsEntryOf, passes}
+use Rattle.wf_events.specs.PlanSeen.{at_place}
+use Rattle.wf_events.specs.Blocks.{put_rows, skipped_at}
+use Rattle.wf_events.specs.Counts.{or_zero, set_all}
+use Rattle.wf_events.specs.Tables.{count_in, count_or_none, events_in, left_in, running_in, state_of}
+use Rattle.wf_events.specs.CountAt.{CountAt}
+use Rattle.wf_events.specs.EventAt.{EventAt}
+use Rattle.wf_events.specs.LeafAt.{LeafAt}
+use Rattle.wf_events.proofs.BlockLemmas.{block_placed, passed_is}
 use Rattle.wf_events.specs.Looked.{idle_at, look_each, open_at}
 use Rattle.wf_events.proofs.TableLemmas.{put_entry}
-use Rattle.wf_enter.specs.Entered.{IsMade, is_at}
-use Rattle.wf_enter.specs.Graphs.{opened_at, passed_at, passed_by}
-use Rattle.wf_enter.specs.declared.edits.Entering.{Entering}
-use Rattle.wf_enter.proofs.EnteredLemmas.{opening_is_entered}
-use Rattle.wf_enter.proofs.MadeLemmas.{made_is_entered}
+use Rattle.wf_resting.specs.Entered.{IsMade, is_at}
+use Rattle.wf_resting.specs.Graphs.{opened_at, passed_at, passed_by}
+use Rattle.wf_resting.specs.Entering.{Entering}
+use Rattle.wf_resting.proofs.EnteredLemmas.{opening_is_entered}
+use Rattle.wf_resting.proofs.MadeLemmas.{made_is_entered}
 use Rattle.wf_steps.specs.Kept.{Goes, IsEnabled, IsKept, IsPlanned}
 use Rattle.wf_steps.proofs.InformedLemmas.{decided_holds_last, decided_is_informed}
 

@@ -10,13 +10,13 @@ use Rattle.wf_layers.specs.Machine as machine
 use Rattle.wf_layers.specs.Machine.{State}
 use Rattle.wf_layers.specs.Source.{Source}
 use Rattle.wf_kept.proofs.Known.{exact_there}
-use Rattle.wf_asks.specs.Instances.{instance_cmp, instance_total}
+use Rattle.wf_events.specs.Instances.{instance_cmp, instance_total}
 use Rattle.wf_steps.specs.Kept.{IsEnabled, IsOver, IsKept}
-use Rattle.wf_tables.specs.Tables.{event_tree}
-use Rattle.wf_tables.specs.declared.entries.CountAt.{CountAt}
-use Rattle.wf_tables.specs.declared.entries.EventAt.{EventAt}
-use Rattle.wf_asks.specs.declared.known.OpenAt.{OpenAt}
-use Rattle.wf_asks.specs.declared.known.WriterAt.{WriterAt}
+use Rattle.wf_events.specs.Tables.{event_tree}
+use Rattle.wf_events.specs.CountAt.{CountAt}
+use Rattle.wf_events.specs.EventAt.{EventAt}
+use Rattle.wf_events.specs.OpenAt.{OpenAt}
+use Rattle.wf_events.specs.WriterAt.{WriterAt}
 
 module _ {Row Begun Decision Verdict Decided Told : Type 0} (d : Graph) (m : Source Row Begun Decision Verdict) (depth : ℕ → ℕ)
     (writes : ℕ → Address → Row → Bool) (s : State Row Begun Decision Verdict) (opens : List (OpenAt Decided Told)) (store : List WriterAt)

@@ -16,20 +16,20 @@ use Rattle.wf_kept.specs.Stored.{IsStored}
 use Rattle.wf_kept.proofs.Stored.{store_goes_on}
 use Rattle.wf_kept.proofs.Known.{Known, known, goes_on}
 use Rattle.wf_kept.proofs.Quiet.{counts_stay, left_stays, ready_but_own}
-use Rattle.wf_asks.specs.Instances.{address_of, instance_cmp, rows_in}
-use Rattle.wf_asks.specs.Known.{opens_in, store_in, writer}
-use Rattle.wf_asks.specs.declared.instance.Instance.{Instance}
-use Rattle.wf_asks.specs.declared.known.RowAt.{RowAt}
-use Rattle.wf_asks.specs.declared.known.WriterAt.{WriterAt}
+use Rattle.wf_events.specs.Instances.{address_of, instance_cmp, rows_in}
+use Rattle.wf_events.specs.Known.{opens_in, store_in, writer}
+use Rattle.wf_events.specs.Instance.{Instance}
+use Rattle.wf_events.specs.RowAt.{RowAt}
+use Rattle.wf_events.specs.WriterAt.{WriterAt}
 use Rattle.wf_steps.specs.Kept.{Goes, IsEnabled, IsKept}
-use Rattle.wf_tables.specs.Tables.{count_in, event_tree, events_in, leaf_tree, left_in, running_in, state_of}
-use Rattle.wf_tables.specs.declared.entries.CountAt.{CountAt}
-use Rattle.wf_tables.specs.declared.entries.EventAt.{EventAt}
-use Rattle.wf_tables.specs.declared.entries.EventKind.{EventKind}
-use Rattle.wf_tables.specs.declared.entries.EventKind.TheVariants.{Try, End}
-use Rattle.wf_tables.specs.declared.entries.LeafAt.{LeafAt}
-use Rattle.wf_asks.specs.declared.known.OpenAt.{OpenAt}
-use Rattle.wf_tables.proofs.TableLemmas.{table_put, table_take}
+use Rattle.wf_events.specs.Tables.{count_in, event_tree, events_in, leaf_tree, left_in, running_in, state_of}
+use Rattle.wf_events.specs.CountAt.{CountAt}
+use Rattle.wf_events.specs.EventAt.{EventAt}
+use Rattle.wf_events.specs.EventKind.{EventKind}
+use Rattle.wf_events.specs.EventKind.TheVariants.{Try, End}
+use Rattle.wf_events.specs.LeafAt.{LeafAt}
+use Rattle.wf_events.specs.OpenAt.{OpenAt}
+use Rattle.wf_events.proofs.TablesTableLemmas.{table_put, table_take}
 
 some_is : {A : Type 0} {u v : A} → Some u ≡ Some v → u ≡ v
 some_is e = cc (e)

@@ -23,25 +23,25 @@ use Rattle.wf_kept.proofs.Known.{exact_there}
 use Rattle.wf_kept.proofs.Quiet.{there_events}
 use Rattle.wf_kept.proofs.Resumed.{resumption_is_reached, resumption_is_stored, resumption_opens}
 use Rattle.wf_step_laws.specs.Edits.{has_own_of, opened_graph}
-use Rattle.wf_asks.specs.Instances.{address_of, instance_cmp, instance_of, instance_total}
-use Rattle.wf_asks.specs.Known.{is_among, open_tree, store_in, writer}
-use Rattle.wf_asks.specs.declared.instance.Instance.{Instance}
-use Rattle.wf_asks.specs.declared.known.OpenAt.{OpenAt}
-use Rattle.wf_asks.specs.declared.known.RowAt.{RowAt}
-use Rattle.wf_asks.specs.declared.known.WriterAt.{WriterAt}
-use Rattle.wf_plan.specs.Plan.{PlanTree, own_numbers}
-use Rattle.wf_plan.specs.PlanSeen.{or_none}
-use Rattle.wf_plan.proofs.ExactLemmas.{among_or}
-use Rattle.wf_plan.proofs.GraphLemmas.{among_both}
-use Rattle.wf_plan.proofs.GraphLemmas as graphs
-use Rattle.wf_tables.specs.Tables.{count_in, events_in, left_in, state_of}
-use Rattle.wf_tables.specs.declared.entries.CountAt.{CountAt}
-use Rattle.wf_tables.specs.declared.entries.EventAt.{EventAt}
-use Rattle.wf_tables.proofs.CountLemmas.{needs_are}
-use Rattle.wf_tables.proofs.OpenLemmas.{found_at}
+use Rattle.wf_events.specs.Instances.{address_of, instance_cmp, instance_of, instance_total}
+use Rattle.wf_events.specs.Known.{is_among, open_tree, store_in, writer}
+use Rattle.wf_events.specs.Instance.{Instance}
+use Rattle.wf_events.specs.OpenAt.{OpenAt}
+use Rattle.wf_events.specs.RowAt.{RowAt}
+use Rattle.wf_events.specs.WriterAt.{WriterAt}
+use Rattle.wf_events.specs.Plan.{PlanTree, own_numbers}
+use Rattle.wf_events.specs.PlanSeen.{or_none}
+use Rattle.wf_events.proofs.ExactLemmas.{among_or}
+use Rattle.wf_events.proofs.GraphLemmas.{among_both}
+use Rattle.wf_events.proofs.GraphLemmas as graphs
+use Rattle.wf_events.specs.Tables.{count_in, events_in, left_in, state_of}
+use Rattle.wf_events.specs.CountAt.{CountAt}
+use Rattle.wf_events.specs.EventAt.{EventAt}
+use Rattle.wf_events.proofs.CountLemmas.{needs_are}
+use Rattle.wf_events.proofs.OpenLemmas.{found_at}
 use Rattle.wf_events.proofs.LookLemmas.{idle_there, open_there}
-use Rattle.wf_enter.specs.Graphs.{opened_at}
-use Rattle.wf_enter.proofs.EnteredLemmas.{among_is, opened_there, some_of}
+use Rattle.wf_resting.specs.Graphs.{opened_at}
+use Rattle.wf_resting.proofs.EnteredLemmas.{among_is, opened_there, some_of}
 use Rattle.wf_resting.proofs.RestingLemmas.{the_same}
 use Rattle.wf_steps.specs.Kept.{IsKept, IsPlanned}
 use Rattle.wf_resting.specs.Resting.{all_entered, entered_by, lacking_of, lacks_at, lacks_by, resting_at, resting_by, standing, waits_at}

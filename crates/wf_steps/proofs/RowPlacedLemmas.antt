@@ -10,15 +10,15 @@ use Rattle.wf_kept.specs.Event.{AreLeft}
 use Rattle.wf_kept.specs.Stored.{IsStored}
 use Rattle.wf_kept.proofs.Known.{goes_on}
 use Rattle.wf_step_laws.proofs.Placed.{rows_are_counted}
-use Rattle.wf_asks.specs.Instances.{instance_of}
-use Rattle.wf_asks.specs.Known.{is_among, store_in, writer}
-use Rattle.wf_asks.specs.declared.known.OpenAt.{OpenAt}
-use Rattle.wf_asks.specs.declared.known.WriterAt.{WriterAt}
-use Rattle.wf_plan.specs.Plan.{PlanTree}
-use Rattle.wf_plan.specs.PlanSeen.{list_at}
-use Rattle.wf_tables.specs.Tables.{count_in, events_in, left_in}
-use Rattle.wf_tables.specs.declared.entries.CountAt.{CountAt}
-use Rattle.wf_tables.specs.declared.entries.EventAt.{EventAt}
+use Rattle.wf_events.specs.Instances.{instance_of}
+use Rattle.wf_events.specs.Known.{is_among, store_in, writer}
+use Rattle.wf_events.specs.OpenAt.{OpenAt}
+use Rattle.wf_events.specs.WriterAt.{WriterAt}
+use Rattle.wf_events.specs.Plan.{PlanTree}
+use Rattle.wf_events.specs.PlanSeen.{list_at}
+use Rattle.wf_events.specs.Tables.{count_in, events_in, left_in}
+use Rattle.wf_events.specs.CountAt.{CountAt}
+use Rattle.wf_events.specs.EventAt.{EventAt}
 use Rattle.wf_events.specs.Looked.{idle_at, open_at}
 use Rattle.wf_events.specs.Round.{is_finished, is_graph, look_out, round_at}
 use Rattle.wf_events.proofs.PlacedLemmas.{placed_by, there}

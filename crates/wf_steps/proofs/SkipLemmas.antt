@@ -10,20 +10,20 @@ use Rattle.wf_layers.specs.Source.{Source}
 use Rattle.wf_kept.proofs.Informed.{kinds_are_known}
 use Rattle.wf_kept.proofs.Stored.{store_goes_on}
 use Rattle.wf_step_laws.proofs.Idle.{no_row_then, not_open_then, not_running_then}
-use Rattle.wf_asks.specs.Instances.{rows_in}
-use Rattle.wf_asks.specs.Known.{is_among, opens_in, store_in, writer}
-use Rattle.wf_asks.specs.declared.instance.Instance.{Instance}
-use Rattle.wf_asks.specs.declared.known.OpenAt.{OpenAt}
-use Rattle.wf_asks.specs.declared.known.RowAt.{RowAt}
-use Rattle.wf_asks.specs.declared.known.WriterAt.{WriterAt}
-use Rattle.wf_plan.specs.Plan.{PlanTree}
-use Rattle.wf_tables.specs.Blocks.{put_rows, skipped_at}
-use Rattle.wf_tables.specs.Tables.{count_in, events_in, left_in, running_in, state_of}
-use Rattle.wf_tables.specs.declared.entries.CountAt.{CountAt}
-use Rattle.wf_tables.specs.declared.entries.EventAt.{EventAt}
-use Rattle.wf_tables.specs.declared.entries.LeafAt.{LeafAt}
-use Rattle.wf_tables.proofs.BlockLemmas.{block_placed, skip_is}
-use Rattle.wf_tables.proofs.OpenLemmas.{opens_same}
+use Rattle.wf_events.specs.Instances.{rows_in}
+use Rattle.wf_events.specs.Known.{is_among, opens_in, store_in, writer}
+use Rattle.wf_events.specs.Instance.{Instance}
+use Rattle.wf_events.specs.OpenAt.{OpenAt}
+use Rattle.wf_events.specs.RowAt.{RowAt}
+use Rattle.wf_events.specs.WriterAt.{WriterAt}
+use Rattle.wf_events.specs.Plan.{PlanTree}
+use Rattle.wf_events.specs.Blocks.{put_rows, skipped_at}
+use Rattle.wf_events.specs.Tables.{count_in, events_in, left_in, running_in, state_of}
+use Rattle.wf_events.specs.CountAt.{CountAt}
+use Rattle.wf_events.specs.EventAt.{EventAt}
+use Rattle.wf_events.specs.LeafAt.{LeafAt}
+use Rattle.wf_events.proofs.BlockLemmas.{block_placed, skip_is}
+use Rattle.wf_events.proofs.OpenLemmas.{opens_same}
 use Rattle.wf_events.specs.RowEdits.{IsSettled}
 use Rattle.wf_events.specs.Skipped.{block_of, block_or_none}
 use Rattle.wf_steps.specs.Kept.{Goes, IsEnabled, IsKept, IsPlanned}

@@ -18,21 +18,21 @@ use Rattle.wf_kept.proofs.Informed.{kinds_are_known, running_stands}
 use Rattle.wf_kept.proofs.Known.{Known, known, goes_on}
 use Rattle.wf_kept.proofs.Quiet.{counts_stay, left_stays, ready_but_own}
 use Rattle.wf_kept.proofs.Stored.{store_goes_on}
-use Rattle.wf_asks.specs.Instances.{address_of, instance_cmp, instance_of, rows_in, table_of}
-use Rattle.wf_asks.specs.Known.{HoldsLastAtTest, IsInformedAtTest, open_tree, opens_in, store_in, writer}
-use Rattle.wf_asks.specs.declared.instance.Instance.{Instance}
-use Rattle.wf_asks.specs.declared.known.OpenAt.{OpenAt}
-use Rattle.wf_asks.specs.declared.known.RowAt.{RowAt}
-use Rattle.wf_asks.specs.declared.known.WriterAt.{WriterAt}
-use Rattle.wf_plan.specs.Plan.{PlanTree}
-use Rattle.wf_plan.specs.PlanSeen.{at_place}
-use Rattle.wf_tables.specs.Counts.{or_zero}
-use Rattle.wf_tables.specs.Tables.{count_in, count_or_none, event_at, events_in, left_in, running_in, state_of}
-use Rattle.wf_tables.specs.declared.entries.CountAt.{CountAt}
-use Rattle.wf_tables.specs.declared.entries.EventAt.{EventAt}
-use Rattle.wf_tables.specs.declared.entries.EventKind.{EventKind}
-use Rattle.wf_tables.specs.declared.entries.LeafAt.{LeafAt}
-use Rattle.wf_tables.proofs.OpenLemmas.{found_at, found_is, table_changed}
+use Rattle.wf_events.specs.Instances.{address_of, instance_cmp, instance_of, rows_in, table_of}
+use Rattle.wf_events.specs.Known.{HoldsLastAtTest, IsInformedAtTest, open_tree, opens_in, store_in, writer}
+use Rattle.wf_events.specs.Instance.{Instance}
+use Rattle.wf_events.specs.OpenAt.{OpenAt}
+use Rattle.wf_events.specs.RowAt.{RowAt}
+use Rattle.wf_events.specs.WriterAt.{WriterAt}
+use Rattle.wf_events.specs.Plan.{PlanTree}
+use Rattle.wf_events.specs.PlanSeen.{at_place}
+use Rattle.wf_events.specs.Counts.{or_zero}
+use Rattle.wf_events.specs.Tables.{count_in, count_or_none, event_at, events_in, left_in, running_in, state_of}
+use Rattle.wf_events.specs.CountAt.{CountAt}
+use Rattle.wf_events.specs.EventAt.{EventAt}
+use Rattle.wf_events.specs.EventKind.{EventKind}
+use Rattle.wf_events.specs.LeafAt.{LeafAt}
+use Rattle.wf_events.proofs.OpenLemmas.{found_at, found_is, table_changed}
 use Rattle.wf_events.specs.Events.{count_of, count_or_zero, tested_kind}
 use Rattle.wf_steps.specs.Kept.{Goes, IsEnabled, IsKept, IsPlanned}
 use Rattle.wf_events.proofs.EventLemmas.{tested_same}

@@ -11,15 +11,15 @@ use Rattle.wf_kept.specs.Event.{AreLeft}
 use Rattle.wf_kept.specs.Reached.{IsReached}
 use Rattle.wf_kept.specs.Ready.{IsReady}
 use Rattle.wf_kept.specs.Stored.{IsStored}
-use Rattle.wf_asks.specs.Instances.{instance_cmp}
-use Rattle.wf_tables.specs.Tables.{count_in, events_in, left_in}
-use Rattle.wf_tables.specs.declared.entries.CountAt.{CountAt}
-use Rattle.wf_tables.specs.declared.entries.EventAt.{EventAt}
-use Rattle.wf_asks.specs.Known.{store_in, writer}
-use Rattle.wf_plan.specs.Plan.{PlanTree}
-use Rattle.wf_plan.specs.PlanOf.{IsPlanOf}
-use Rattle.wf_asks.specs.declared.known.OpenAt.{OpenAt}
-use Rattle.wf_asks.specs.declared.known.WriterAt.{WriterAt}
+use Rattle.wf_events.specs.Instances.{instance_cmp}
+use Rattle.wf_events.specs.Tables.{count_in, events_in, left_in}
+use Rattle.wf_events.specs.CountAt.{CountAt}
+use Rattle.wf_events.specs.EventAt.{EventAt}
+use Rattle.wf_events.specs.Known.{store_in, writer}
+use Rattle.wf_events.specs.Plan.{PlanTree}
+use Rattle.wf_events.specs.PlanOf.{IsPlanOf}
+use Rattle.wf_events.specs.OpenAt.{OpenAt}
+use Rattle.wf_events.specs.WriterAt.{WriterAt}
 
 -- The plan is one of the graph, in which each action names another once at most.
 pub record IsPlanned (d : Graph) (p : PlanTree) : Type 0 where

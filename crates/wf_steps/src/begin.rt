@@ -6,9 +6,8 @@ ghost use Rattle.wf_steps.specs.Shown.{shown};
 
 use crate::state::State;
 use std::alloc::{AllocError, Global};
-use wf_asks::{Acts, Instance};
-use wf_enter::{begin_iteration, enter_graph, make_room, turning_edits};
-use wf_events::next_index;
+use wf_events::{Acts, Instance, next_index};
+use wf_resting::{begin_iteration, enter_graph, make_room, turning_edits};
 
 impl<'a, A: Acts> State<'a, A> {
     /// The next iteration of an open loop begins. Where memory runs out nothing has happened.

@@ -5,10 +5,10 @@ ghost use Rattle.wf_layers.specs.Definition.{Kind, kind_of};
 ghost use Rattle.wf_layers.specs.Machine as machine;
 ghost use Rattle.wf_layers.specs.Machine.{IsContainer};
 ghost use Rattle.wf_lists.specs.KeyOrder.{IsInKeyOrder, without_key};
-ghost use Rattle.wf_asks.specs.Instances.{address_of, instance_cmp, rows_in};
-ghost use Rattle.wf_asks.specs.Known.{IsInformed, opens_in};
-ghost use Rattle.wf_asks.specs.declared.known.OpenAt.{OpenAt};
-ghost use Rattle.wf_plan.specs.PlanSeen.{at_place, plan_tree};
+ghost use Rattle.wf_events.specs.Instances.{address_of, instance_cmp, rows_in};
+ghost use Rattle.wf_events.specs.Known.{IsInformed, opens_in};
+ghost use Rattle.wf_events.specs.OpenAt.{OpenAt};
+ghost use Rattle.wf_events.specs.PlanSeen.{at_place, plan_tree};
 ghost use Rattle.wf_events.specs.Closed.{iterations_by, last_by};
 ghost use Rattle.wf_events.specs.RowEdits.{AreRowEdits};
 ghost use Rattle.wf_steps.specs.Kept.{Goes, IsEnabled};
@@ -16,9 +16,10 @@ ghost use Rattle.wf_steps.specs.Shown.{shown};
 
 use crate::state::State;
 use std::alloc::{AllocError, Global};
-use wf_asks::{Acts, Instance, Known, OpenAt, Opens, RowAt};
-use wf_events::{RowEdits, count_and_settle, iterations, last_test, make_room, row_edits};
-use wf_plan::Plan;
+use wf_events::{
+    Acts, Instance, Known, OpenAt, Opens, Plan, RowAt, RowEdits, count_and_settle, iterations,
+    last_test, make_room, row_edits,
+};
 
 // All that is made before a container closes.
 #[derive(Drop)]

@@ -5,22 +5,22 @@ ghost use Rattle.wf_layers.specs.Changes.{next_of};
 ghost use Rattle.wf_layers.specs.Definition.{Leaf};
 ghost use Rattle.wf_layers.specs.Machine as machine;
 ghost use Rattle.wf_lists.specs.KeyOrder.{IsInKeyOrder, without_key};
-ghost use Rattle.wf_asks.specs.Instances.{address_of, instance_cmp, rows_in};
-ghost use Rattle.wf_asks.specs.Known.{IsInformed, opens_in};
-ghost use Rattle.wf_plan.specs.PlanSeen.{plan_tree};
+ghost use Rattle.wf_events.specs.Instances.{address_of, instance_cmp, rows_in};
+ghost use Rattle.wf_events.specs.Known.{IsInformed, opens_in};
+ghost use Rattle.wf_events.specs.PlanSeen.{plan_tree};
 ghost use Rattle.wf_events.specs.RowEdits.{AreRowEdits};
 ghost use Rattle.wf_events.specs.Written.{put_each};
-ghost use Rattle.wf_tables.specs.declared.entries.LeafAt.{LeafAt};
+ghost use Rattle.wf_events.specs.LeafAt.{LeafAt};
 ghost use Rattle.wf_steps.specs.Kept.{Goes, IsEnabled};
 ghost use Rattle.wf_steps.specs.Shown.{shown};
 
 use crate::state::State;
 use std::alloc::{AllocError, Global};
-use wf_asks::{Acts, Instance, Known, RowAt, WriterAt};
-use wf_events::{RowEdits, count_and_settle, make_room, put_writers, row_edits, writers};
-use wf_plan::Plan;
+use wf_events::{
+    Acts, Instance, Known, LeafAt, Plan, RowAt, RowEdits, WriterAt, count_and_settle, make_room,
+    put_writers, row_edits, writers,
+};
 use wf_room::Roomy;
-use wf_tables::LeafAt;
 
 // All that is made before a leaf ends.
 #[derive(Drop)]

@@ -4,22 +4,21 @@ ghost use Rattle.wf_layers.specs.Address.{Address, same_at};
 ghost use Rattle.wf_layers.specs.Laws.{IsInstance};
 ghost use Rattle.wf_layers.specs.Machine.{fresh};
 ghost use Rattle.wf_kept.specs.Counted.{nonzero};
-ghost use Rattle.wf_asks.specs.Instances.{rows_in};
-ghost use Rattle.wf_asks.specs.Known.{is_among};
-ghost use Rattle.wf_plan.specs.PlanSeen.{plan_tree};
+ghost use Rattle.wf_events.specs.Instances.{rows_in};
+ghost use Rattle.wf_events.specs.Known.{is_among};
+ghost use Rattle.wf_events.specs.PlanSeen.{plan_tree};
 ghost use Rattle.wf_events.specs.Looked.{idle_at};
-ghost use Rattle.wf_tables.specs.Counts.{needs_at};
-ghost use Rattle.wf_tables.specs.Tables.{count_in, events_in};
+ghost use Rattle.wf_events.specs.Counts.{needs_at};
+ghost use Rattle.wf_events.specs.Tables.{count_in, events_in};
 ghost use Rattle.wf_steps.specs.Kept.{IsPlanned};
 ghost use Rattle.wf_steps.specs.Shown.{shown};
 
 use crate::state::State;
 use std::alloc::{AllocError, Global};
-use wf_asks::{Acts, Opens, Rows, Store};
-use wf_events::{instances, look_at_each};
-use wf_plan::Plan;
+use wf_events::{
+    Acts, CountAt, EventAt, Opens, Plan, Rows, Store, entered, instances, look_at_each, set_counts,
+};
 use wf_room::Roomy;
-use wf_tables::{CountAt, EventAt, entered, set_counts};
 use wf_val::Indexes;
 
 // How much each action of the definition's own graph waits for, where nothing has a row.

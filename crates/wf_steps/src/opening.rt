@@ -6,9 +6,8 @@ ghost use Rattle.wf_steps.specs.Shown.{shown};
 
 use crate::state::State;
 use std::alloc::{AllocError, Global};
-use wf_asks::{Acts, Instance, Known, OpenAt};
-use wf_enter::{enter_graph, make_room, opening_edits, passed_rows};
-use wf_tables::put_rows;
+use wf_events::{Acts, Instance, Known, OpenAt, put_rows};
+use wf_resting::{enter_graph, make_room, opening_edits, passed_rows};
 
 impl<'a, A: Acts> State<'a, A> {
     /// A container opens: what it decides tells which branch it enters, and those that it passes over get their rows. Where memory runs out

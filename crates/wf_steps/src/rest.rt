@@ -1,15 +1,13 @@
 //! A state that is put aside, without the actions and the plan that it borrows.
 ghost use Rattle.std.specs.Prelude.{◌≡◌};
-ghost use Rattle.wf_plan.specs.PlanSeen.{plan_tree};
+ghost use Rattle.wf_events.specs.PlanSeen.{plan_tree};
 ghost use Rattle.wf_steps.specs.Kept.{IsPlanned};
 ghost use Rattle.wf_steps.specs.Rest.{IsRest};
 
 use crate::state::State;
 use std::marker::Model;
-use wf_asks::{Acts, Opens, Rows, Store};
-use wf_plan::Plan;
+use wf_events::{Acts, CountAt, EventAt, LeafAt, Opens, Plan, Rows, Store};
 use wf_room::Roomy;
-use wf_tables::{CountAt, EventAt, LeafAt};
 
 /// What a state has of its own. So the actions may change while it is put aside, as more becomes known of what they do, and the state is
 /// taken up again with those. Contracts see the lists that a state shows, and behind them counts and ready set.
@@ -26,12 +24,12 @@ pub struct Rest<R, B, D, V> {
 
 impl<R, B, D, V> Model for Rest<R, B, D, V> {
     ghost use Rattle.std.specs.Prelude.{List};
-    ghost use Rattle.wf_asks.specs.declared.known.OpenAt.{OpenAt};
-    ghost use Rattle.wf_asks.specs.declared.known.RowAt.{RowAt};
-    ghost use Rattle.wf_asks.specs.declared.known.WriterAt.{WriterAt};
-    ghost use Rattle.wf_tables.specs.declared.entries.CountAt.{CountAt};
-    ghost use Rattle.wf_tables.specs.declared.entries.EventAt.{EventAt};
-    ghost use Rattle.wf_tables.specs.declared.entries.LeafAt.{LeafAt};
+    ghost use Rattle.wf_events.specs.OpenAt.{OpenAt};
+    ghost use Rattle.wf_events.specs.RowAt.{RowAt};
+    ghost use Rattle.wf_events.specs.WriterAt.{WriterAt};
+    ghost use Rattle.wf_events.specs.CountAt.{CountAt};
+    ghost use Rattle.wf_events.specs.EventAt.{EventAt};
+    ghost use Rattle.wf_events.specs.LeafAt.{LeafAt};
 
     ghost Value = { (List (RowAt R) × (List (LeafAt B) × (List (OpenAt D V) × List WriterAt)))
         × (List CountAt × (List CountAt × List EventAt)) };

@@ -2,16 +2,15 @@
 ghost use Rattle.std.specs.Prelude.{◌≡◌, [], IfOk, ℕ};
 ghost use Rattle.wf_layers.specs.Variables.{IsLastWritten};
 ghost use Rattle.wf_kept.specs.Reached.{IsResumption};
-ghost use Rattle.wf_asks.specs.Instances.{rows_in};
-ghost use Rattle.wf_asks.specs.Known.{store_in, writer};
-ghost use Rattle.wf_plan.specs.PlanSeen.{plan_tree};
+ghost use Rattle.wf_events.specs.Instances.{rows_in};
+ghost use Rattle.wf_events.specs.Known.{store_in, writer};
+ghost use Rattle.wf_events.specs.PlanSeen.{plan_tree};
 ghost use Rattle.wf_steps.specs.Kept.{IsPlanned};
 ghost use Rattle.wf_steps.specs.Shown.{shown};
 
 use crate::state::State;
 use std::alloc::{AllocError, Global};
-use wf_asks::{Acts, Opens, Rows, Store};
-use wf_plan::Plan;
+use wf_events::{Acts, Opens, Plan, Rows, Store};
 use wf_resting::{first_lacks, first_ready, first_waits, standing};
 use wf_room::Roomy;
 

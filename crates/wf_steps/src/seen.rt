@@ -5,18 +5,16 @@ ghost use Rattle.wf_layers.specs.Address.{Address};
 ghost use Rattle.wf_layers.specs.Meaning.{meaning};
 ghost use Rattle.wf_layers.specs.Variables.{IsLastWritten};
 ghost use Rattle.wf_kept.specs.Reached.{IsReached};
-ghost use Rattle.wf_asks.specs.Instances.{address_of, instance_cmp};
-ghost use Rattle.wf_asks.specs.Known.{open_tree, store_in, writer};
-ghost use Rattle.wf_plan.specs.PlanSeen.{plan_tree};
-ghost use Rattle.wf_tables.specs.Tables.{leaf_tree};
+ghost use Rattle.wf_events.specs.Instances.{address_of, instance_cmp};
+ghost use Rattle.wf_events.specs.Known.{open_tree, store_in, writer};
+ghost use Rattle.wf_events.specs.PlanSeen.{plan_tree};
+ghost use Rattle.wf_events.specs.Tables.{leaf_tree};
 ghost use Rattle.wf_steps.specs.Kept.{AreEnabled, IsOver, IsPlanned};
 ghost use Rattle.wf_steps.specs.Shown.{shown};
 
 use crate::state::State;
-use wf_asks::{Acts, Instance, OpenAt, Opens, Rows, Store};
-use wf_plan::Plan;
+use wf_events::{Acts, EventAt, Instance, LeafAt, OpenAt, Opens, Plan, Rows, Store};
 use wf_room::Roomy;
-use wf_tables::{EventAt, LeafAt};
 
 impl<'a, A: Acts> State<'a, A> {
     /// How many leaves run.

@@ -2,9 +2,9 @@
 ghost use Rattle.std.specs.Prelude.{◌≡◌, IfOk, OnErr, OnOk, map};
 ghost use Rattle.wf_layers.specs.Changes.{next_of};
 ghost use Rattle.wf_layers.specs.Machine as machine;
-ghost use Rattle.wf_asks.specs.Known.{opens_in};
-ghost use Rattle.wf_plan.specs.PlanSeen.{plan_tree};
-ghost use Rattle.wf_tables.specs.Blocks.{skipped_at};
+ghost use Rattle.wf_events.specs.Known.{opens_in};
+ghost use Rattle.wf_events.specs.PlanSeen.{plan_tree};
+ghost use Rattle.wf_events.specs.Blocks.{skipped_at};
 ghost use Rattle.wf_events.specs.RowEdits.{AreRowEdits};
 ghost use Rattle.wf_events.specs.Skipped.{block_of};
 ghost use Rattle.wf_steps.specs.Kept.{Goes, IsEnabled};
@@ -12,10 +12,10 @@ ghost use Rattle.wf_steps.specs.Shown.{shown};
 
 use crate::state::State;
 use std::alloc::{AllocError, Global};
-use wf_asks::{Acts, Instance, Opens, RowAt};
-use wf_events::{RowEdits, block_rows, count_and_settle, make_room, row_edits};
-use wf_plan::Plan;
-use wf_tables::put_rows;
+use wf_events::{
+    Acts, Instance, Opens, Plan, RowAt, RowEdits, block_rows, count_and_settle, make_room,
+    put_rows, row_edits,
+};
 
 // All that is made before an action is skipped.
 #[derive(Drop)]

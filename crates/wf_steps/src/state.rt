@@ -1,18 +1,18 @@
 //! The state of a run.
 ghost use Rattle.std.specs.Prelude.{◌≡◌, OnOk, OnErr, cond, false, nat_lt, true};
 ghost use Rattle.wf_layers.specs.Machine as machine;
-ghost use Rattle.wf_asks.specs.Instances.{address_of};
+ghost use Rattle.wf_events.specs.Instances.{address_of};
 ghost use Rattle.wf_steps.specs.Kept.{Goes, IsEnabled, IsOver, Picked};
-ghost use Rattle.wf_tables.specs.Tables.{event_tree};
+ghost use Rattle.wf_events.specs.Tables.{event_tree};
 ghost use Rattle.wf_steps.specs.Shown.{shown};
 
 use std::alloc::{AllocError, Global};
 use std::marker::Model;
-use wf_asks::{Acts, Instance, Known, Opens, Rows, Store};
-use wf_events::{count_of, next_index, set_event, tested_kind, with_test};
-use wf_plan::Plan;
+use wf_events::{
+    Acts, CountAt, EventAt, EventKind, Instance, Known, LeafAt, Opens, Plan, Rows, Store, count_of,
+    next_index, set_event, tested_kind, with_test,
+};
 use wf_room::Roomy;
-use wf_tables::{CountAt, EventAt, EventKind, LeafAt};
 
 /// What has happened so far in a run, and what may happen next.
 #[derive(Drop)]
@@ -30,13 +30,13 @@ pub struct State<'a, A: Acts> {
 
 impl<'a, A: Acts> Model for State<'a, A> {
     ghost use Rattle.std.specs.Prelude.{List};
-    ghost use Rattle.wf_plan.specs.PlanSeen.{plan_tree};
-    ghost use Rattle.wf_asks.specs.declared.known.OpenAt.{OpenAt};
-    ghost use Rattle.wf_asks.specs.declared.known.RowAt.{RowAt};
-    ghost use Rattle.wf_asks.specs.declared.known.WriterAt.{WriterAt};
-    ghost use Rattle.wf_tables.specs.declared.entries.LeafAt.{LeafAt};
+    ghost use Rattle.wf_events.specs.PlanSeen.{plan_tree};
+    ghost use Rattle.wf_events.specs.OpenAt.{OpenAt};
+    ghost use Rattle.wf_events.specs.RowAt.{RowAt};
+    ghost use Rattle.wf_events.specs.WriterAt.{WriterAt};
+    ghost use Rattle.wf_events.specs.LeafAt.{LeafAt};
     ghost use Rattle.wf_steps.specs.Kept.{IsKept, IsPlanned};
-    ghost use Rattle.wf_tables.specs.Tables.{state_of};
+    ghost use Rattle.wf_events.specs.Tables.{state_of};
 
     ghost Value = { A × (List (RowAt A.Row) × (List (LeafAt A.Begun) × (List (OpenAt A.Decision A.Verdict) × List WriterAt))) };
 

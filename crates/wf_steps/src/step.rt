@@ -2,12 +2,11 @@
 ghost use Rattle.std.specs.Prelude.{◌≡◌, OnOk, OnErr};
 ghost use Rattle.wf_steps.specs.Kept.{Goes, IsEnabled};
 ghost use Rattle.wf_steps.specs.Shown.{shown};
-ghost use Rattle.wf_tables.specs.Tables.{event_tree};
+ghost use Rattle.wf_events.specs.Tables.{event_tree};
 
 use crate::state::State;
 use std::alloc::{AllocError, Global};
-use wf_asks::Acts;
-use wf_tables::{EventAt, EventKind};
+use wf_events::{Acts, EventAt, EventKind};
 
 impl<'a, A: Acts> State<'a, A> {
     /// An event that may happen happens. Where memory runs out nothing has happened.

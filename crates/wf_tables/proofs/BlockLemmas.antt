@@ -1,17 +1,18 @@
 -- Rows that are put together, and what the laws say of actions that are passed over.
 use Rattle.std.proofs.Common.{◌≡◌, ℕ, suc, Bool, true, false, ◌&&◌, ◌||◌, cond, List, [], ◌∷◌, Option, Some, None, length, map, nat_eq, ⊎_elim, refl, sym, ap, ◌∙◌, arith, true≢false}
 use Rattle.wf_lists.specs.KeyOrder.{put_key}
-use Rattle.wf_layers.specs.Address.{Address, Table, is_within, same_at, starts}
-use Rattle.wf_layers.specs.Definition.{Kind, Leaf, Scope, Choice, Foreach, Until, Branches, no_branch, branch, has, has_any, holds, is_one, less_one, plain, shows}
-use Rattle.wf_layers.specs.Machine.{one, or_else, passed_over, place, skip_others}
-use Rattle.wf_layers.specs.Meaning.{only, skip}
-use Rattle.wf_layers.specs.Source.{Source}
-use Rattle.wf_layers.proofs.Basics.{not_true, starts_self, two, when, unless}
-use Rattle.wf_layers.proofs.Tables.{same_at_is}
-use Rattle.wf_asks.specs.Instances.{instance_cmp, rows_in}
-use Rattle.wf_asks.specs.Known.{is_among}
-use Rattle.wf_asks.specs.declared.instance.Instance.{Instance}
-use Rattle.wf_asks.specs.declared.known.RowAt.{RowAt}
+use Rattle.wf_plan.specs.Address.{Address, Table, is_within, same_at, starts}
+use Rattle.wf_plan.specs.Definition.{Kind, Leaf, Scope, Choice, Foreach, Until, Branches, no_branch, branch, has, has_any, holds, is_one}
+use Rattle.wf_plan.specs.Definition.{less_one, plain, shows}
+use Rattle.wf_plan.specs.Machine.{one, or_else, passed_over, place, skip_others}
+use Rattle.wf_plan.specs.Meaning.{only, skip}
+use Rattle.wf_plan.specs.Source.{Source}
+use Rattle.wf_plan.proofs.Basics.{not_true, starts_self, two, when, unless}
+use Rattle.wf_plan.proofs.Tables.{same_at_is}
+use Rattle.wf_plan.specs.Instances.{instance_cmp, rows_in}
+use Rattle.wf_plan.specs.Known.{is_among}
+use Rattle.wf_plan.specs.Instance.{Instance}
+use Rattle.wf_plan.specs.RowAt.{RowAt}
 use Rattle.wf_plan.specs.PlanOf.{in_other, passes}
 use Rattle.wf_tables.specs.Blocks.{block_at, put_rows, skipped_at}
 use Rattle.wf_tables.proofs.TableLemmas.{table_put}

@@ -3,16 +3,16 @@ use Rattle.std.proofs.Common.{◌≡◌, ℕ, zero, suc, ◌<◌, ◌≤◌, ◌
 use Rattle.std.proofs.lemmas.Map.Text.{is_eq-slice_cmp}
 use Rattle.std.proofs.lemmas.Option.{none-some}
 use Rattle.wf_lists.specs.KeyOrder.{IsInKeyOrder, find_key, put_key, without_key}
-use Rattle.wf_layers.specs.Address.{Address, Table, is_own, same_at}
-use Rattle.wf_layers.specs.Machine.{or_else}
-use Rattle.wf_layers.specs.Meaning.{only}
-use Rattle.wf_layers.proofs.Basics.{two, when, unless}
-use Rattle.wf_layers.proofs.Tables.{own_is, same_at_is}
-use Rattle.wf_layers.specs.Definition.{Graph, Kind, done, add, kind_of, needs_of}
+use Rattle.wf_plan.specs.Address.{Address, Table, is_own, same_at}
+use Rattle.wf_plan.specs.Machine.{or_else}
+use Rattle.wf_plan.specs.Meaning.{only}
+use Rattle.wf_plan.proofs.Basics.{two, when, unless}
+use Rattle.wf_plan.proofs.Tables.{own_is, same_at_is}
+use Rattle.wf_plan.specs.Definition.{Graph, Kind, done, add, kind_of, needs_of}
 use Rattle.wf_kept.specs.Counted.{nonzero, less, size}
-use Rattle.wf_asks.specs.Instances.{address_of, instance_cmp, instance_key}
-use Rattle.wf_asks.specs.declared.instance.Instance.{Instance}
-use Rattle.wf_asks.specs.Known.{is_among}
+use Rattle.wf_plan.specs.Instances.{address_of, instance_cmp, instance_key}
+use Rattle.wf_plan.specs.Instance.{Instance}
+use Rattle.wf_plan.specs.Known.{is_among}
 use Rattle.wf_plan.specs.Plan.{PlanTree, own_numbers}
 use Rattle.wf_plan.specs.PlanOf.{IsPlanOf}
 use Rattle.wf_tables.specs.Counts.{entered_counts, needs_at, needs_or_none, or_zero, set_all}

@@ -3,15 +3,15 @@ use Rattle.std.proofs.Common.{◌≡◌, ℕ, ◌-◌, Bool, true, false, cond, 
 use Rattle.std.proofs.lemmas.Map.Text.{is_eq-slice_cmp}
 use Rattle.std.proofs.lemmas.Option.{none-some}
 use Rattle.wf_lists.specs.KeyOrder.{IsInKeyOrder, find_key, put_key, without_key}
-use Rattle.wf_layers.specs.Address.{Address, is_own}
-use Rattle.wf_layers.specs.Machine.{Opening, or_else}
-use Rattle.wf_layers.specs.Meaning.{only}
-use Rattle.wf_layers.proofs.Basics.{two, when, unless}
-use Rattle.wf_layers.proofs.Tables.{own_is, same_at_is}
-use Rattle.wf_asks.specs.Instances.{instance_cmp, instance_key, instance_of, table_of}
-use Rattle.wf_asks.specs.Known.{open_tree, opens_in}
-use Rattle.wf_asks.specs.declared.instance.Instance.{Instance}
-use Rattle.wf_asks.specs.declared.known.OpenAt.{OpenAt}
+use Rattle.wf_plan.specs.Address.{Address, is_own}
+use Rattle.wf_plan.specs.Machine.{Opening, or_else}
+use Rattle.wf_plan.specs.Meaning.{only}
+use Rattle.wf_plan.proofs.Basics.{two, when, unless}
+use Rattle.wf_plan.proofs.Tables.{own_is, same_at_is}
+use Rattle.wf_plan.specs.Instances.{instance_cmp, instance_key, instance_of, table_of}
+use Rattle.wf_plan.specs.Known.{open_tree, opens_in}
+use Rattle.wf_plan.specs.Instance.{Instance}
+use Rattle.wf_plan.specs.OpenAt.{OpenAt}
 use Rattle.wf_tables.specs.Counts.{or_zero}
 use Rattle.wf_tables.specs.Tables.{count_or_none, left_in}
 use Rattle.wf_tables.proofs.TableLemmas.{bytes_same, table_put, table_take}

@@ -3,11 +3,11 @@ use Rattle.std.proofs.Common.{◌≡◌, ℕ, Bool, true, false, ◌&&◌, cond,
 use Rattle.std.proofs.lemmas.Map.Text.{is_eq-slice_cmp}
 use Rattle.wf_lists.specs.KeyOrder.{IsInKeyOrder, find_key, put_key, without_key}
 use Rattle.wf_lists.proofs.KeyOrderLemmas.{find-put, find-without}
-use Rattle.wf_layers.specs.Address.{Address, is_own, same_at}
-use Rattle.wf_layers.specs.Machine.{place, one, without, or_else}
-use Rattle.wf_layers.specs.Meaning.{only}
-use Rattle.wf_asks.specs.Instances.{instance_cmp, instance_of, instance_total, table_of}
-use Rattle.wf_asks.specs.declared.instance.Instance.{Instance}
+use Rattle.wf_plan.specs.Address.{Address, is_own, same_at}
+use Rattle.wf_plan.specs.Machine.{place, one, without, or_else}
+use Rattle.wf_plan.specs.Meaning.{only}
+use Rattle.wf_plan.specs.Instances.{instance_cmp, instance_of, instance_total, table_of}
+use Rattle.wf_plan.specs.Instance.{Instance}
 
 flipped : (a b : ℕ) → nat_eq a b ≡ nat_eq b a
 flipped a b = grind (arith)

@@ -1,11 +1,11 @@
 -- Worked rows of the tables that the lists of a state are.
 use Rattle.std.proofs.Common.{◌≡◌, ℕ, Bool, true, false, List, [], ◌∷◌, Some, None, refl}
-use Rattle.wf_layers.specs.Address.{address}
-use Rattle.wf_layers.specs.Machine as machine
-use Rattle.wf_asks.specs.declared.instance.Instance.{Instance}
-use Rattle.wf_asks.specs.Known.{is_among}
-use Rattle.wf_asks.specs.declared.known.OpenAt.{OpenAt}
-use Rattle.wf_asks.specs.declared.known.RowAt.{RowAt}
+use Rattle.wf_plan.specs.Address.{address}
+use Rattle.wf_plan.specs.Machine as machine
+use Rattle.wf_plan.specs.Instance.{Instance}
+use Rattle.wf_plan.specs.Known.{is_among}
+use Rattle.wf_plan.specs.OpenAt.{OpenAt}
+use Rattle.wf_plan.specs.RowAt.{RowAt}
 use Rattle.wf_plan.specs.Once.{AreDistinct}
 use Rattle.wf_plan.specs.Plan as plan
 use Rattle.wf_plan.specs.Plan.{PlanTree}

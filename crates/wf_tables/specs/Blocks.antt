@@ -1,11 +1,11 @@
 -- Rows that are put together.
 use Rattle.std.specs.Prelude.{ℕ, ◌&&◌, List, [], ◌∷◌, Some, cond, None, map}
 use Rattle.wf_lists.specs.KeyOrder.{put_key}
-use Rattle.wf_layers.specs.Address.{Table, same_at}
-use Rattle.wf_asks.specs.Instances.{instance_cmp}
-use Rattle.wf_asks.specs.Known.{is_among}
-use Rattle.wf_asks.specs.declared.instance.Instance.{Instance}
-use Rattle.wf_asks.specs.declared.known.RowAt.{RowAt}
+use Rattle.wf_plan.specs.Address.{Table, same_at}
+use Rattle.wf_plan.specs.Instances.{instance_cmp}
+use Rattle.wf_plan.specs.Known.{is_among}
+use Rattle.wf_plan.specs.Instance.{Instance}
+use Rattle.wf_plan.specs.RowAt.{RowAt}
 
 -- a row of each action at these indexes
 abbrev pub skipped_at : {Row : Type 0} → Row → List ℕ → List ℕ → List (Instance × Row)

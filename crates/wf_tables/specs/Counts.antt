@@ -1,7 +1,7 @@
 -- Counts that are put and that fall.
 use Rattle.std.specs.Prelude.{ℕ, cond, List, [], ◌∷◌, Option, Some, None, length, map}
-use Rattle.wf_layers.specs.Address.{Table, is_own}
-use Rattle.wf_layers.specs.Definition.{Need}
+use Rattle.wf_plan.specs.Address.{Table, is_own}
+use Rattle.wf_plan.specs.Definition.{Need}
 use Rattle.wf_kept.specs.Counted.{nonzero}
 use Rattle.wf_plan.specs.Plan.{EntryTree, PlanTree}
 use Rattle.wf_plan.specs.PlanSeen.{at_place}

@@ -1,12 +1,12 @@
 -- The lists of a state as the tables of the machine.
 use Rattle.std.specs.Prelude.{ℕ, List, Option, None, Some}
 use Rattle.wf_lists.specs.KeyOrder.{find_key}
-use Rattle.wf_layers.specs.Address.{Address, Table}
-use Rattle.wf_layers.specs.Machine as machine
-use Rattle.wf_asks.specs.Instances.{instance_cmp, instance_of, rows_in, table_of}
-use Rattle.wf_asks.specs.Known.{opens_in}
-use Rattle.wf_asks.specs.declared.known.OpenAt.{OpenAt}
-use Rattle.wf_asks.specs.declared.known.RowAt.{RowAt}
+use Rattle.wf_plan.specs.Address.{Address, Table}
+use Rattle.wf_plan.specs.Machine as machine
+use Rattle.wf_plan.specs.Instances.{instance_cmp, instance_of, rows_in, table_of}
+use Rattle.wf_plan.specs.Known.{opens_in}
+use Rattle.wf_plan.specs.OpenAt.{OpenAt}
+use Rattle.wf_plan.specs.RowAt.{RowAt}
 use Rattle.wf_tables.specs.declared.entries.CountAt.{CountAt}
 use Rattle.wf_tables.specs.declared.entries.EventAt.{EventAt}
 use Rattle.wf_tables.specs.declared.entries.EventKind.{EventKind}

@@ -3,8 +3,8 @@ ghost use Rattle.std.specs.Prelude.{◌≡◌, ◌≤◌, IfOk, length, map};
 ghost use Rattle.wf_tables.specs.Blocks.{put_rows, skipped_at};
 
 use std::alloc::{AllocError, Global};
-use wf_asks::{Acts, Instance, RowAt, Rows};
 use wf_lists::TryCopy;
+use wf_plan::{Acts, Instance, RowAt, Rows};
 use wf_val::Indexes;
 
 /// The rows of actions that don't run, at these indexes.

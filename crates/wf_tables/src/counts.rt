@@ -1,15 +1,15 @@
 //! Counts of what is waited for, as an action gets its row.
 ghost use Rattle.std.specs.Prelude.{◌≡◌, ◌<◌, ◌≤◌, ◌+◌, ◌&&◌, cond, length};
-ghost use Rattle.wf_layers.specs.Address.{Address, is_own, same_at};
+ghost use Rattle.wf_plan.specs.Address.{Address, is_own, same_at};
 ghost use Rattle.wf_kept.specs.Counted.{less, nonzero};
-ghost use Rattle.wf_asks.specs.Instances.{address_of};
-ghost use Rattle.wf_asks.specs.Known.{is_among};
+ghost use Rattle.wf_plan.specs.Instances.{address_of};
+ghost use Rattle.wf_plan.specs.Known.{is_among};
 ghost use Rattle.wf_plan.specs.Once.{AreDistinct};
 ghost use Rattle.wf_tables.specs.Counts.{or_zero, set_all};
 ghost use Rattle.wf_tables.specs.Tables.{count_in};
 
 use crate::entries::CountAt;
-use wf_asks::Instance;
+use wf_plan::Instance;
 use wf_room::Roomy;
 
 // The count of an instance; 0 isn't kept.

@@ -1,6 +1,6 @@
 //! What a state has at an instance.
-use wf_asks::Instance;
 use wf_lists::Keyed;
+use wf_plan::Instance;
 
 /// A running leaf: what it has from its start on, and how many attempts it has made.
 #[derive(Drop)]

@@ -1,10 +1,10 @@
 //! Counts of a graph, as it is entered and as one of its actions gets its row.
 ghost use Rattle.std.specs.Prelude.{◌≡◌, ◌<◌, ◌≤◌, ◌+◌, ◌-◌, ◌&&◌, IfOk, cond, length, not};
-ghost use Rattle.wf_layers.specs.Address.{Address, is_own};
-ghost use Rattle.wf_layers.specs.Machine.{has_ended};
+ghost use Rattle.wf_plan.specs.Address.{Address, is_own};
+ghost use Rattle.wf_plan.specs.Machine.{has_ended};
 ghost use Rattle.wf_kept.specs.Counted.{less, nonzero};
-ghost use Rattle.wf_asks.specs.Instances.{address_of};
-ghost use Rattle.wf_asks.specs.Known.{opens_in};
+ghost use Rattle.wf_plan.specs.Instances.{address_of};
+ghost use Rattle.wf_plan.specs.Known.{opens_in};
 ghost use Rattle.wf_plan.specs.PlanSeen.{plan_tree};
 ghost use Rattle.wf_tables.specs.Counts.{entered_counts, needs_at, set_all};
 ghost use Rattle.wf_tables.specs.Tables.{count_in, left_in};
@@ -12,9 +12,8 @@ ghost use Rattle.wf_tables.specs.Tables.{count_in, left_in};
 use crate::counts::{lower_one, set_count, set_counts};
 use crate::entries::CountAt;
 use std::alloc::{AllocError, Global};
-use wf_asks::{Instance, OpenAt, Opens};
 use wf_lists::TryCopy;
-use wf_plan::Plan;
+use wf_plan::{Instance, OpenAt, Opens, Plan};
 use wf_room::Roomy;
 use wf_val::Indexes;
 

@@ -8,12 +8,12 @@ use Rattle.wf_def.specs.ActionTree.{ActionTree, action_kind, action_name}
 use Rattle.wf_def.specs.AllActions.{numbered}
 use Rattle.wf_def.specs.DefTree.{DefTree}
 use Rattle.wf_record.specs.Record.{Row, status_name}
-use Rattle.wf_done.specs.Leaf.{BegunTree, tries_in}
-use Rattle.wf_trigger.specs.Starts.{StartTree}
-use Rattle.wf_environment.specs.Environment.{fresh}
-use Rattle.wf_meant.specs.Answering.{AnswersAs, RowSource}
-use Rattle.wf_meant.specs.Look.{name_in}
-use Rattle.wf_meant.specs.Source.{finished}
+use Rattle.wf_trace.specs.Leaf.{BegunTree, tries_in}
+use Rattle.wf_doing.specs.Starts.{StartTree}
+use Rattle.wf_doing.specs.Environment.{fresh}
+use Rattle.wf_doing.specs.Answering.{AnswersAs, RowSource}
+use Rattle.wf_doing.specs.Look.{name_in}
+use Rattle.wf_doing.specs.Source.{finished}
 use Rattle.wf_tables.specs.Tables.{event_at}
 use Rattle.wf_tables.specs.declared.entries.EventKind.{EventKind}
 use Rattle.wf_making.specs.Standing.{standing}

@@ -4,9 +4,9 @@ use Rattle.wf_layers.specs.Machine.{Event, Start, Try, End, Skip, Open, Begin, T
 use Rattle.wf_answers.specs.AnswerTree.{AnswerTree}
 use Rattle.wf_def.specs.ActionTree.{ActionTree, KindTree, action_kind, action_name}
 use Rattle.wf_record.specs.Record.{Row, status_name}
-use Rattle.wf_done.specs.Leaf.{BegunTree, tries_in}
-use Rattle.wf_opening.specs.Decisions.{DecisionTree}
-use Rattle.wf_opening.specs.Verdicts.{VerdictTree}
+use Rattle.wf_trace.specs.Leaf.{BegunTree, tries_in}
+use Rattle.wf_trace.specs.Decisions.{DecisionTree}
+use Rattle.wf_trace.specs.Verdicts.{VerdictTree}
 use Rattle.wf_doing.specs.Places.{named}
 use Rattle.wf_trace.specs.Texts.{end_text, open_text, start_text}
 use Rattle.wf_trace.specs.Told.{line_at, of_attempt, test_text}

@@ -5,8 +5,8 @@ use Rattle.wf_layers.specs.Machine.{Event}
 use Rattle.wf_scheduled.specs.Happened.{HasHappened}
 use Rattle.wf_def.specs.DefTree.{DefTree}
 use Rattle.wf_record.specs.Record.{Row}
-use Rattle.wf_environment.specs.Environment.{Environment}
-use Rattle.wf_meant.specs.Answering.{AnswersAs, RowSource, table_by}
+use Rattle.wf_doing.specs.Environment.{Environment}
+use Rattle.wf_doing.specs.Answering.{AnswersAs, RowSource, table_by}
 use Rattle.wf_making.specs.Standing.{standing}
 use Rattle.wf_trace.specs.Told.{told}
 use Rattle.wf_telling.specs.Lines.{Container, Leaf}

@@ -2,16 +2,15 @@
 ghost use Rattle.std.specs.Prelude.{◌≡◌, IfOk, option_map};
 ghost use Rattle.wf_asks.specs.Known.{open_tree};
 ghost use Rattle.wf_def.specs.ActionSeen.{kind_tree};
-ghost use Rattle.wf_opening.specs.DecisionSeen.{decision_tree, verdict_tree};
-ghost use Rattle.wf_views.specs.Seen.{row_content};
+ghost use Rattle.wf_trace.specs.DecisionSeen.{decision_tree, verdict_tree};
+ghost use Rattle.wf_doing.specs.ViewsSeen.{row_content};
 ghost use Rattle.wf_telling.specs.Lines.{begin_by, close_by, open_by, test_by, verdict_by};
 
 use std::alloc::{AllocError, Global};
 use wf_asks::OpenAt;
 use wf_def::Kind;
-use wf_opening::{Decision, Verdict};
 use wf_record::Row;
-use wf_trace::{begin_line, close_line, open_line, test_line};
+use wf_trace::{Decision, Verdict, begin_line, close_line, open_line, test_line};
 use wf_val::{Indexes, Name};
 
 /// A container of this kind has opened.

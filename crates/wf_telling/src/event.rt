@@ -3,11 +3,11 @@ ghost use Rattle.std.specs.Prelude.{◌≡◌, IfOk, option_map};
 ghost use Rattle.wf_answers.specs.InputsSeen.{inputs_tree};
 ghost use Rattle.wf_def.specs.ActionSeen.{action_tree};
 ghost use Rattle.wf_def.specs.AllActions.{numbered};
-ghost use Rattle.wf_done.specs.DoneSeen.{begun_tree};
-ghost use Rattle.wf_opening.specs.DecisionSeen.{decision_tree, verdict_tree};
+ghost use Rattle.wf_trace.specs.DoneSeen.{begun_tree};
+ghost use Rattle.wf_trace.specs.DecisionSeen.{decision_tree, verdict_tree};
 ghost use Rattle.wf_asks.specs.Known.{open_tree};
 ghost use Rattle.wf_tables.specs.Tables.{event_tree, leaf_tree};
-ghost use Rattle.wf_views.specs.Seen.{row_content};
+ghost use Rattle.wf_doing.specs.ViewsSeen.{row_content};
 ghost use Rattle.wf_doing.specs.Seen.{definition_of, environment_of};
 ghost use Rattle.wf_telling.specs.Lines.{action_line, line_by};
 ghost use Rattle.wf_telling.specs.Telling.{IsTold};
@@ -16,14 +16,11 @@ use crate::containers::{begin, close, open, test};
 use crate::leaves::{attempt, end, start};
 use std::alloc::{AllocError, Global};
 use wf_asks::OpenAt;
-use wf_catalog::{kind_of, name_of};
 use wf_def::Action;
-use wf_doing::Setting;
-use wf_done::Begun;
-use wf_opening::{Decision, Verdict};
+use wf_doing::{Setting, kind_of, name_of};
 use wf_record::Row;
 use wf_tables::{EventAt, EventKind, LeafAt};
-use wf_trace::skip_line;
+use wf_trace::{Begun, Decision, Verdict, skip_line};
 
 // Of an event of this action.
 fn action_line(

@@ -1,9 +1,9 @@
 //! Lines of events of leaves.
 ghost use Rattle.std.specs.Prelude.{◌≡◌, ◌-◌, IfOk, Some, map, option_map, slice_get};
 ghost use Rattle.wf_answers.specs.AnswerSeen.{answer_tree};
-ghost use Rattle.wf_done.specs.DoneSeen.{begun_tree};
-ghost use Rattle.wf_done.specs.Leaf.{tries_in};
-ghost use Rattle.wf_views.specs.Seen.{row_content};
+ghost use Rattle.wf_trace.specs.DoneSeen.{begun_tree};
+ghost use Rattle.wf_trace.specs.Leaf.{tries_in};
+ghost use Rattle.wf_doing.specs.ViewsSeen.{row_content};
 ghost use Rattle.wf_tables.specs.Tables.{leaf_tree};
 ghost use Rattle.wf_doing.specs.Places.{named};
 ghost use Rattle.wf_telling.specs.Lines.{attempt_by, end_by, start_by};
@@ -11,10 +11,9 @@ ghost use Rattle.wf_telling.specs.Lines.{attempt_by, end_by, start_by};
 use std::alloc::{AllocError, Global};
 use wf_answers::Answers;
 use wf_doing::tries;
-use wf_done::Begun;
 use wf_record::{Row, Try};
 use wf_tables::LeafAt;
-use wf_trace::{end_line, start_line, try_line};
+use wf_trace::{Begun, end_line, start_line, try_line};
 use wf_val::{Indexes, Name};
 
 /// A leaf has started.

@@ -8,7 +8,7 @@ use Rattle.wf_val.specs.ValueTree.{ValueTree, null, boolean, number, text, list,
 use Rattle.wf_expr.specs.Kinds.{kind}
 use Rattle.wf_expr.specs.Text.{template_in}
 use Rattle.wf_expr.specs.WordTests.{word_of, word_front}
-use Rattle.wf_json.specs.Pointer.{least}
+use Rattle.wf_kinds.specs.Pointer.{least}
 use Rattle.wf_kinds.specs.ActionType.{type_of}
 use Rattle.wf_texts.specs.Members.{bad_texts_of_action, bad_texts_of_trigger, bad_texts_of_output}
 use Rattle.wf_texts.specs.Sound.{is_bad}

@@ -6,8 +6,8 @@ use Rattle.std.specs.List.{Contains}
 use Rattle.std.proofs.lemmas.List.Elements.{Contains-append_left, Contains-append_right, Contains-append_cases, Contains-push_cases}
 use Rattle.wf_val.specs.ValueTree.{ValueTree, null, boolean, number, text, list, object, ValueTrees, no_values, value_then, items, MemberTrees, no_members, member_then}
 use Rattle.wf_val.specs.Get.{get}
-use Rattle.wf_json.specs.Follow.{Step, to_item, to_member, step_text}
-use Rattle.wf_json.specs.Pointer.{here, item_step, member_step}
+use Rattle.wf_kinds.specs.Follow.{Step, to_item, to_member, step_text}
+use Rattle.wf_kinds.specs.Pointer.{here, item_step, member_step}
 use Rattle.wf_texts.specs.Bad.{bad_texts, bad_items, bad_members}
 use Rattle.wf_texts.specs.Members.{Way, to, to_all_but, to_each, along, along_all, in_member, in_items, in_other, in_members_but}
 use Rattle.wf_texts.specs.Reached.{IsMember, Goes, GoesBy, GoAlong, LeadsToBadText}

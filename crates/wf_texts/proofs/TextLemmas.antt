@@ -1,7 +1,7 @@
 -- The least of pointers from parts: one part more.
 use Rattle.std.proofs.Common.{◌≡◌, ◌+◌, ◌<◌, ℕ, suc, List, [], ◌∷◌, ◌++◌, map, length, drop, get_or, drop-cons, Option, None, option_map, add-one, sym, ap, ◌∙◌}
-use Rattle.wf_json.specs.Pointer.{item_step, lesser, least}
-use Rattle.wf_json.proofs.PointerLemmas.{lesser-assoc, lesser-none, least-append, least-front}
+use Rattle.wf_kinds.specs.Pointer.{item_step, lesser, least}
+use Rattle.wf_kinds.proofs.PointerLemmas.{lesser-assoc, lesser-none, least-append, least-front}
 
 -- names that an attribute can write
 pub least_append : (ps qs : List (List ℕ)) → least (ps ++ qs) ≡ lesser (least ps) (least qs)

@@ -1,7 +1,7 @@
 -- Where a value has bad texts: pointers (RFC 6901) from the value on.
 use Rattle.std.specs.Prelude.{ℕ, suc, List, [], ◌++◌, map}
 use Rattle.wf_val.specs.ValueTree.{ValueTree, null, boolean, number, text, list, object, ValueTrees, no_values, value_then, MemberTrees, no_members, member_then}
-use Rattle.wf_json.specs.Pointer.{here, item_step, member_step}
+use Rattle.wf_kinds.specs.Pointer.{here, item_step, member_step}
 use Rattle.wf_texts.specs.Sound.{is_bad}
 
 -- names of members are no templates

@@ -2,7 +2,7 @@
 use Rattle.std.specs.Prelude.{ℕ, suc, List, [], ◌∷◌, ◌++◌, map, Option, Some, None, if◌then◌else◌, bytes_eq, codes}
 use Rattle.wf_val.specs.ValueTree.{ValueTree, list, object, ValueTrees, no_values, value_then, MemberTrees, no_members, member_then}
 use Rattle.wf_val.specs.Get.{get}
-use Rattle.wf_json.specs.Pointer.{item_step, member_step}
+use Rattle.wf_kinds.specs.Pointer.{item_step, member_step}
 use Rattle.wf_kinds.specs.ActionType.{type_of}
 use Rattle.wf_kinds.specs.declared.action_type.ActionType.{ActionType}
 use Rattle.wf_texts.specs.Bad.{bad_texts}

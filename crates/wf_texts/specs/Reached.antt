@@ -2,7 +2,7 @@
 use Rattle.std.specs.Prelude.{◌≡◌, ◌⊎◌, ℕ, List, [], ◌∷◌, flat_map, Some, true, false, bytes_eq, Contains}
 use Rattle.wf_val.specs.ValueTree.{ValueTree, text, object, MemberTrees, no_members, member_then}
 use Rattle.wf_val.specs.Get.{get, item}
-use Rattle.wf_json.specs.Follow.{Step, to_item, to_member, step_text}
+use Rattle.wf_kinds.specs.Follow.{Step, to_item, to_member, step_text}
 use Rattle.wf_texts.specs.Members.{Way, to, to_all_but, to_each}
 use Rattle.wf_texts.specs.Sound.{is_bad}
 

@@ -2,13 +2,13 @@
 ghost use Rattle.std.specs.Prelude.{◌≡◌, IfOk, option_map, string_bytes};
 ghost use Rattle.wf_val.specs.Seen.{tree};
 ghost use Rattle.wf_val.specs.ValueTree.{members, trees};
-ghost use Rattle.wf_json.specs.Pointer.{here, least};
+ghost use Rattle.wf_kinds.specs.Pointer.{here, least};
 ghost use Rattle.wf_texts.specs.Bad.{bad_items, bad_members, bad_texts};
 ghost use Rattle.wf_texts.specs.Sound.{is_bad as is_bad_text};
 
 use crate::sound::is_bad;
 use std::alloc::{AllocError, Global};
-use wf_json::pointer::{here, with_item, with_member};
+use wf_kinds::pointer::{here, with_item, with_member};
 use wf_val::{Fields, Text, Val, Vals};
 
 fn bad_text(alloc: Global, text: &Text) -> Result<Option<String>, AllocError>

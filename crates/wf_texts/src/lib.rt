@@ -19,3 +19,6 @@ mod sound;
 pub use laws::pointers_lead_to_bad_texts;
 pub use members::{bad_texts_of_action, bad_texts_of_output, bad_texts_of_trigger};
 pub use sound::is_bad;
+pub use wf_kinds::{
+    ActionType, action_has_members, input, output_has_members, trigger_has_members,
+};

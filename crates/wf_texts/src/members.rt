@@ -2,14 +2,14 @@
 ghost use Rattle.std.specs.Prelude.{◌≡◌, [], ◌∷◌, IfOk, option_map, string_bytes, codes};
 ghost use Rattle.wf_val.specs.Seen.{tree};
 ghost use Rattle.wf_val.specs.ValueTree.{members, trees};
-ghost use Rattle.wf_json.specs.Pointer.{least, lesser};
+ghost use Rattle.wf_kinds.specs.Pointer.{least, lesser};
 ghost use Rattle.wf_texts.specs.Bad.{bad_texts as bad_texts_of};
 ghost use Rattle.wf_texts.specs.Members.{along, along_all, bad_texts_of_action, bad_texts_of_output, bad_texts_of_trigger, in_items, in_member, in_members_but, in_other, to, to_all_but, to_each, to_input, type_ways};
 
 use crate::bad::bad_texts;
 use std::alloc::{AllocError, Global};
-use wf_json::pointer::{lesser, with_item, with_member};
 use wf_kinds::ActionType;
+use wf_kinds::pointer::{lesser, with_item, with_member};
 use wf_val::{Fields, Val, Vals};
 
 // ---- along the ways to them

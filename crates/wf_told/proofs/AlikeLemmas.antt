@@ -6,11 +6,11 @@ use Rattle.wf_kept.specs.Reached.{begun, IsReached}
 use Rattle.wf_scheduled.specs.Counts.{peak}
 use Rattle.wf_scheduled.proofs.TurnLemmas.{one_run}
 use Rattle.wf_def.specs.DefTree.{DefTree}
-use Rattle.wf_environment.specs.Environment.{Environment}
+use Rattle.wf_prepare.specs.Environment.{Environment}
 use Rattle.wf_record.specs.Record.{RecordTree}
-use Rattle.wf_meant.specs.Points.{graph_of}
-use Rattle.wf_meant.specs.Record.{depth_of, meaning}
-use Rattle.wf_meant.specs.Source.{source}
+use Rattle.wf_prepare.specs.Points.{graph_of}
+use Rattle.wf_prepare.specs.Record.{depth_of, meaning}
+use Rattle.wf_prepare.specs.Source.{source}
 use Rattle.wf_told.specs.Under.{IsRunUnder, lines_of, Told}
 
 -- what is told has four parts

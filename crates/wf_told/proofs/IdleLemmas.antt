@@ -4,20 +4,20 @@ use Rattle.std.proofs.Common.{refl, sym, ap, ◌∙◌, subst}
 use Rattle.std.proofs.lemmas.Option.{none-some}
 use Rattle.wf_answers.specs.Inputs.{InputsTree}
 use Rattle.wf_def.specs.DefTree.{DefTree}
-use Rattle.wf_environment.specs.Environment.{Environment, fresh}
+use Rattle.wf_prepare.specs.Environment.{Environment, fresh}
 use Rattle.wf_layers.specs.Definition.{Graph, Kind, Need, done}
 use Rattle.wf_layers.specs.Address.{Table}
 use Rattle.wf_layers.specs.Machine as machine
 use Rattle.wf_layers.specs.Machine.{Event, Start, Try, End, Skip, Open, Begin, Test, Close, In, IsOpen, IsOver, IsThere, State, Step}
 use Rattle.wf_layers.specs.Source.{Source}
-use Rattle.wf_meant.specs.Points.{graph_of}
-use Rattle.wf_meant.specs.Record.{meaning}
-use Rattle.wf_meant.specs.Source.{source}
+use Rattle.wf_prepare.specs.Points.{graph_of}
+use Rattle.wf_prepare.specs.Record.{meaning}
+use Rattle.wf_prepare.specs.Source.{source}
 use Rattle.wf_record.specs.Record.{RecordTree}
 use Rattle.wf_told.specs.Under.{IsRunUnder, Told, lines_of}
 use Rattle.wf_scheduled.specs.Counts.{peak}
 use Rattle.wf_scheduled.specs.Turns.{IsRun, Turns}
-use Rattle.wf_trigger.specs.Starts.{StartTree}
+use Rattle.wf_prepare.specs.Starts.{StartTree}
 use Rattle.wf_told.specs.Records.{records_of, runs_records, starts_of}
 use Rattle.wf_told.specs.Runs.{AreTold, TellsRuns}
 use Rattle.wf_told.specs.Text.{text_of}

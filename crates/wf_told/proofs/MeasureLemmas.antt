@@ -3,20 +3,20 @@ use Rattle.std.proofs.Common.{◌≡◌, ℕ, ◌+◌, ◌<◌, ◌≤◌, Bool,
 use Rattle.std.proofs.Common.{refl, sym, ap, ◌∙◌, subst, arith}
 use Rattle.wf_answers.specs.Inputs.{InputsTree}
 use Rattle.wf_def.specs.DefTree.{DefTree}
-use Rattle.wf_environment.specs.Environment.{Environment, fresh}
+use Rattle.wf_prepare.specs.Environment.{Environment, fresh}
 use Rattle.wf_layers.specs.Laws.{IsInstance}
 use Rattle.wf_layers.specs.Machine as machine
 use Rattle.wf_layers.specs.Meaning as layers
 use Rattle.wf_layers.specs.Bound.{total}
 use Rattle.wf_layers.proofs.Bounded.{events_at_the_end}
-use Rattle.wf_meant.specs.Points.{graph_of}
-use Rattle.wf_meant.specs.Record.{depth_of, meaning}
-use Rattle.wf_meant.specs.Source.{source}
+use Rattle.wf_prepare.specs.Points.{graph_of}
+use Rattle.wf_prepare.specs.Record.{depth_of, meaning}
+use Rattle.wf_prepare.specs.Source.{source}
 use Rattle.wf_record.specs.Cost.{cost}
 use Rattle.wf_record.specs.declared.status.RunStatus.{RunStatus}
 use Rattle.wf_scheduled.specs.Turns.{IsRun}
 use Rattle.wf_scheduled.proofs.TurnLemmas.{steps_of}
-use Rattle.wf_trigger.specs.Starts.{StartTree}
+use Rattle.wf_prepare.specs.Starts.{StartTree}
 use Rattle.wf_told.specs.Measured.{IsMeasured, Measures, StartsAlone}
 use Rattle.wf_told.specs.Records.{records_of, runs_records, started_records, starts_of}
 use Rattle.wf_told.specs.Text.{total_cost}

@@ -12,12 +12,12 @@ use Rattle.wf_def.specs.DefTree.{DefTree}
 use Rattle.wf_answers.specs.Inputs.{InputsTree}
 use Rattle.wf_record.specs.Cost.{cost}
 use Rattle.wf_record.specs.Record.{RecordTree}
-use Rattle.wf_meant.specs.Points.{graph_of}
-use Rattle.wf_meant.specs.Record.{depth_of}
-use Rattle.wf_meant.specs.Resubmitted.{is_chosen, pinned, pinned_source, recalled, resubmitted, rows_by}
-use Rattle.wf_meant.specs.Source.{source}
-use Rattle.wf_resubmit.specs.Refused.{numbers_of}
-use Rattle.wf_resubmit.specs.declared.fault.ResubmitFault.{ResubmitFault}
+use Rattle.wf_prepare.specs.Points.{graph_of}
+use Rattle.wf_prepare.specs.Record.{depth_of}
+use Rattle.wf_prepare.specs.Resubmitted.{is_chosen, pinned, pinned_source, recalled, resubmitted, rows_by}
+use Rattle.wf_prepare.specs.Source.{source}
+use Rattle.wf_prepare.specs.Refused.{numbers_of}
+use Rattle.wf_prepare.specs.ResubmitFault.{ResubmitFault}
 use Rattle.wf_prepare.specs.Prepared.{IsRefused, MayBeResubmitted, misshapen, named, names_refused}
 use Rattle.wf_told.specs.Resubmissions.{IsNotResubmitted, IsResubmittedUnder, TellsResubmission, refused, resumed_state, too_large}
 use Rattle.wf_told.specs.Text.{run_text}

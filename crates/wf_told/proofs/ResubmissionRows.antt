@@ -8,13 +8,13 @@ use Rattle.wf_def.specs.ActionTree.{ActionTrees, action, action_then, compose, n
 use Rattle.wf_def.specs.DefTree.{DefTree}
 use Rattle.wf_layers.specs.Machine as machine
 use Rattle.wf_scheduled.specs.Counts.{peak}
-use Rattle.wf_meant.specs.Resubmitted.{pinned, pinned_source}
+use Rattle.wf_prepare.specs.Resubmitted.{pinned, pinned_source}
 use Rattle.wf_prepare.specs.Prepared.{MayBeResubmitted, named}
 use Rattle.wf_record.specs.Cost.{cost}
 use Rattle.wf_record.specs.Record.{Row, RecordTree, RowTree, record_line}
 use Rattle.wf_record.specs.declared.status.RunStatus.{RunStatus}
 use Rattle.wf_record.specs.declared.status.Status.{Status}
-use Rattle.wf_resubmit.specs.declared.fault.ResubmitFault.{ResubmitFault}
+use Rattle.wf_prepare.specs.ResubmitFault.{ResubmitFault}
 use Rattle.wf_template.specs.DataTree as data_
 use Rattle.wf_val.specs.ValueTree.{ValueTree, members, null, object, text}
 use Rattle.wf_told.specs.Resubmissions.{IsNotResubmitted, IsResubmittedUnder, TellsResubmission, refused, resumed_state}

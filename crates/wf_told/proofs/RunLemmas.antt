@@ -3,10 +3,10 @@ use Rattle.std.proofs.Common.{◌≡◌, ◌↔◌, ℕ, ◌<◌, Bool, List, []
 use Rattle.std.proofs.Common.{refl, sym, ap, ◌∙◌, subst}
 use Rattle.wf_answers.specs.Inputs.{InputsTree}
 use Rattle.wf_def.specs.DefTree.{DefTree}
-use Rattle.wf_environment.specs.Environment.{Environment, fresh}
+use Rattle.wf_prepare.specs.Environment.{Environment, fresh}
 use Rattle.wf_told.specs.Under.{IsRunUnder, Told}
-use Rattle.wf_trigger.specs.Starts.{StartTree}
-use Rattle.wf_trigger.specs.declared.fault.TriggerFault.{TriggerFault}
+use Rattle.wf_prepare.specs.Starts.{StartTree}
+use Rattle.wf_prepare.specs.TriggerFault.{TriggerFault}
 use Rattle.wf_told.specs.Records.{records_of, runs_records, started_records, starts_of}
 use Rattle.wf_told.specs.Runs.{AreTold, TellsRuns}
 use Rattle.wf_told.specs.Text.{text_of, total_cost}

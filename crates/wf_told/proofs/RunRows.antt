@@ -9,13 +9,13 @@ use Rattle.wf_scheduled.specs.Turns.{IsRun}
 use Rattle.wf_def.specs.ActionTree.{no_actions}
 use Rattle.wf_def.specs.DefTree.{DefTree}
 use Rattle.wf_answers.specs.Inputs.{InputsTree}
-use Rattle.wf_environment.specs.Environment as begun_by
-use Rattle.wf_environment.specs.Environment.{Environment}
+use Rattle.wf_prepare.specs.Environment as begun_by
+use Rattle.wf_prepare.specs.Environment.{Environment}
 use Rattle.wf_record.specs.declared.status.RunStatus.{RunStatus}
-use Rattle.wf_trigger.specs.Starts.{StartTree}
+use Rattle.wf_prepare.specs.Starts.{StartTree}
 use Rattle.wf_val.specs.ValueTree.{members, null, object}
-use Rattle.wf_meant.specs.Record.{meaning}
-use Rattle.wf_meant.specs.Source.{source}
+use Rattle.wf_prepare.specs.Record.{meaning}
+use Rattle.wf_prepare.specs.Source.{source}
 use Rattle.wf_told.specs.Measured.{IsMeasured, StartsAlone}
 use Rattle.wf_told.specs.Under.{IsRunUnder, lines_of, Told}
 

@@ -7,8 +7,8 @@ use Rattle.std.specs.Prelude.{codes}
 use Rattle.wf_answers.specs.Inputs.{InputsTree}
 use Rattle.wf_def.specs.ActionTree.{ActionTree, action_trees, compose}
 use Rattle.wf_def.specs.DefTree.{DefTree, OutputTree, TriggerTree}
-use Rattle.wf_meant.proofs.Terms.{act, nat, ran, success_of, value}
-use Rattle.wf_meant.specs.Record.{meaning}
+use Rattle.wf_prepare.proofs.Terms.{act, nat, ran, success_of, value}
+use Rattle.wf_prepare.specs.Record.{meaning}
 use Rattle.wf_record.specs.Cost.{cost}
 use Rattle.wf_record.specs.Record.{RecordTree, RowTree, record_line}
 use Rattle.wf_record.specs.Worked.{at_rounds, empty, finished, object_of, number_of, list_of}
@@ -19,8 +19,8 @@ use Rattle.wf_told.specs.Under.{Told}
 use Rattle.wf_template.specs.DataTree as inputs
 use Rattle.wf_template.specs.ExprTree.{ExprTree, literal, call, expr_trees}
 use Rattle.wf_template.specs.TemplateTree.{TemplateTree, whole}
-use Rattle.wf_trigger.specs.Starts.{StartTree}
-use Rattle.wf_trigger.specs.declared.fault.TriggerFault.{TriggerFault}
+use Rattle.wf_prepare.specs.Starts.{StartTree}
+use Rattle.wf_prepare.specs.TriggerFault.{TriggerFault}
 use Rattle.wf_val.specs.ValueTree.{ValueTree, null, text}
 use Rattle.wf_val.specs.declared.fault.EvalFault.{EvalFault}
 use Rattle.wf_val.specs.declared.function.Fun.{Fun}

@@ -5,11 +5,11 @@ use Rattle.std.proofs.lemmas.List.{map-append, nil_from_length, take-map, take_a
 use Rattle.std.proofs.lemmas.List.Sums.{sum_by-take-le, sum_by_push}
 use Rattle.wf_answers.specs.Inputs.{InputsTree}
 use Rattle.wf_def.specs.DefTree.{DefTree}
-use Rattle.wf_environment.specs.Environment.{fresh}
-use Rattle.wf_meant.specs.Record.{meaning}
+use Rattle.wf_prepare.specs.Environment.{fresh}
+use Rattle.wf_prepare.specs.Record.{meaning}
 use Rattle.wf_record.specs.Cost.{cost}
 use Rattle.wf_told.specs.Under.{IsRunUnder, Told}
-use Rattle.wf_trigger.specs.Starts.{StartTree}
+use Rattle.wf_prepare.specs.Starts.{StartTree}
 use Rattle.wf_told.specs.Records.{records_of}
 use Rattle.wf_told.specs.Runs.{AreTold}
 use Rattle.wf_told.specs.Text.{records_left, run_text, runs_in_a_row, text_of, total_cost}

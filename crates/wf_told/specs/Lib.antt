@@ -1,3 +1,7 @@
+pub use Rattle.wf_trace.specs.Begun
+pub use Rattle.wf_trace.specs.DoneSeen
+pub use Rattle.wf_trace.specs.Leaf
+pub use Rattle.wf_trace.specs.Told
 pub use Rattle.wf_prepare.specs.Prepared
 pub mod Under
 pub mod Summary

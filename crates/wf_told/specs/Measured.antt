@@ -3,9 +3,9 @@
 use Rattle.std.specs.Prelude.{◌≡◌, ℕ, ◌≤◌, false, List, [], ◌∷◌, length, Ok}
 use Rattle.wf_answers.specs.Inputs.{InputsTree}
 use Rattle.wf_def.specs.DefTree.{DefTree}
-use Rattle.wf_environment.specs.Environment.{fresh}
+use Rattle.wf_prepare.specs.Environment.{fresh}
 use Rattle.wf_record.specs.Cost.{cost}
-use Rattle.wf_trigger.specs.Starts.{StartTree}
+use Rattle.wf_prepare.specs.Starts.{StartTree}
 use Rattle.wf_told.specs.Records.{starts_of}
 use Rattle.wf_told.specs.Under.{IsRunUnder, Told}
 use Rattle.wf_told.specs.declared.measure.Measure.{Measure}

@@ -2,12 +2,12 @@
 use Rattle.std.specs.Prelude.{List, Result, Ok, Err, if◌then◌else◌, map, nat_le}
 use Rattle.wf_answers.specs.Inputs.{InputsTree}
 use Rattle.wf_def.specs.DefTree.{DefTree}
-use Rattle.wf_environment.specs.Environment.{fresh}
-use Rattle.wf_meant.specs.Record.{meaning}
+use Rattle.wf_prepare.specs.Environment.{fresh}
+use Rattle.wf_prepare.specs.Record.{meaning}
 use Rattle.wf_record.specs.Record.{RecordTree}
-use Rattle.wf_trigger.specs.Runs.{runs_of}
-use Rattle.wf_trigger.specs.Starts.{StartTree}
-use Rattle.wf_trigger.specs.declared.fault.TriggerFault.{TriggerFault}
+use Rattle.wf_prepare.specs.Runs.{runs_of}
+use Rattle.wf_prepare.specs.Starts.{StartTree}
+use Rattle.wf_prepare.specs.TriggerFault.{TriggerFault}
 use Rattle.wf_told.specs.Text.{total_cost}
 use Rattle.wf_told.specs.declared.fault.RunsFault.{RunsFault}
 

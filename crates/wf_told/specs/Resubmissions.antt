@@ -9,14 +9,14 @@ use Rattle.wf_def.specs.DefTree.{DefTree}
 use Rattle.wf_answers.specs.Inputs.{InputsTree}
 use Rattle.wf_record.specs.Cost.{cost}
 use Rattle.wf_record.specs.Record.{RecordTree, Row}
-use Rattle.wf_opening.specs.Decisions.{DecisionTree}
-use Rattle.wf_opening.specs.Verdicts.{VerdictTree}
-use Rattle.wf_done.specs.Leaf.{BegunTree}
-use Rattle.wf_meant.specs.Points.{graph_of}
-use Rattle.wf_meant.specs.Record.{depth_of}
-use Rattle.wf_meant.specs.Resubmitted.{is_chosen, pinned, pinned_source, recalled, rows_by}
-use Rattle.wf_resubmit.specs.Refused.{numbers_of}
-use Rattle.wf_resubmit.specs.declared.fault.ResubmitFault.{ResubmitFault}
+use Rattle.wf_trace.specs.Decisions.{DecisionTree}
+use Rattle.wf_trace.specs.Verdicts.{VerdictTree}
+use Rattle.wf_trace.specs.Leaf.{BegunTree}
+use Rattle.wf_prepare.specs.Points.{graph_of}
+use Rattle.wf_prepare.specs.Record.{depth_of}
+use Rattle.wf_prepare.specs.Resubmitted.{is_chosen, pinned, pinned_source, recalled, rows_by}
+use Rattle.wf_prepare.specs.Refused.{numbers_of}
+use Rattle.wf_prepare.specs.ResubmitFault.{ResubmitFault}
 use Rattle.wf_prepare.specs.Prepared.{IsRefused, MayBeResubmitted}
 use Rattle.wf_told.specs.Text.{run_text}
 use Rattle.wf_told.specs.Under.{Told}

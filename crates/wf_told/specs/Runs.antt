@@ -2,9 +2,9 @@
 use Rattle.std.specs.Prelude.{◌≡◌, ℕ, Bool, List, [], ◌∷◌, Ok}
 use Rattle.wf_answers.specs.Inputs.{InputsTree}
 use Rattle.wf_def.specs.DefTree.{DefTree}
-use Rattle.wf_environment.specs.Environment.{fresh}
+use Rattle.wf_prepare.specs.Environment.{fresh}
 use Rattle.wf_told.specs.Under.{IsRunUnder, Told}
-use Rattle.wf_trigger.specs.Starts.{StartTree}
+use Rattle.wf_prepare.specs.Starts.{StartTree}
 use Rattle.wf_told.specs.Records.{runs_records, starts_of}
 use Rattle.wf_told.specs.Text.{records_left, text_of}
 

@@ -1,8 +1,8 @@
 -- A fault of the trigger or of a run as a fault of runs, or of a resubmission.
 use Rattle.wf_drive.specs.declared.fault.DriveFault.{DriveFault}
-use Rattle.wf_trigger.specs.declared.fault.TriggerFault.{TriggerFault}
-use Rattle.wf_trigger.specs.declared.fault.TriggerFault.TheVariants.{Memory}
-use Rattle.wf_resubmit.specs.declared.fault.ResubmitFault.{ResubmitFault}
+use Rattle.wf_prepare.specs.TriggerFault.{TriggerFault}
+use Rattle.wf_prepare.specs.TriggerFault.TheVariants.{Memory}
+use Rattle.wf_prepare.specs.ResubmitFault.{ResubmitFault}
 use Rattle.wf_told.specs.declared.fault.ResubmissionFault.{ResubmissionFault}
 use Rattle.wf_told.specs.declared.fault.RunsFault.{RunsFault}
 

@@ -5,11 +5,11 @@ use Rattle.wf_scheduled.specs.Counts.{peak}
 use Rattle.wf_scheduled.specs.Turns.{IsRun}
 use Rattle.wf_drive.specs.Lines.{trace_of}
 use Rattle.wf_def.specs.DefTree.{DefTree}
-use Rattle.wf_environment.specs.Environment.{Environment}
+use Rattle.wf_prepare.specs.Environment.{Environment}
 use Rattle.wf_record.specs.Record.{RecordTree}
-use Rattle.wf_meant.specs.Points.{graph_of}
-use Rattle.wf_meant.specs.Record.{depth_of, meaning}
-use Rattle.wf_meant.specs.Source.{source, table_of}
+use Rattle.wf_prepare.specs.Points.{graph_of}
+use Rattle.wf_prepare.specs.Record.{depth_of, meaning}
+use Rattle.wf_prepare.specs.Source.{source, table_of}
 use Rattle.wf_trace.specs.Told as trace
 
 -- What is told of a run: the lines of its events where they are asked for, the record that it left, how many steps it took, and how many

@@ -3,7 +3,7 @@ use Rattle.std.specs.Prelude.{◌≡◌, ℕ, Bool, List, Ok}
 use Rattle.wf_answers.specs.Inputs.{InputsTree}
 use Rattle.wf_def.specs.DefTree.{DefTree}
 use Rattle.wf_told.specs.Under.{Told}
-use Rattle.wf_trigger.specs.Starts.{StartTree}
+use Rattle.wf_prepare.specs.Starts.{StartTree}
 use Rattle.wf_told.specs.Records.{records_of, records_within}
 use Rattle.wf_told.specs.Runs.{AreTold}
 use Rattle.wf_told.specs.Text.{records_left, runs_in_a_row, text_of, total_cost}

@@ -1,7 +1,7 @@
 //! What makes runs and resubmissions, as what prints their text or says why there is none.
 ghost use Rattle.std.specs.Prelude.{◌≡◌, ◌≢◌, Err, IfErr, IfOk};
 ghost use Rattle.wf_answers.specs.InputsSeen.{inputs_tree};
-ghost use Rattle.wf_reading.specs.ReadSeen.{def_tree};
+ghost use Rattle.wf_prepare.specs.ReadSeen.{def_tree};
 ghost use Rattle.wf_record.specs.Seen.{record_tree};
 ghost use Rattle.wf_told.specs.Measured.{IsMeasured, StartsAlone};
 ghost use Rattle.wf_told.specs.Records.{runs_records};
@@ -14,8 +14,8 @@ use crate::fault::{ResubmissionFault, RunsFault};
 use crate::measure::Measure;
 use std::alloc::Global;
 use wf_answers::Inputs;
+use wf_prepare::Checked;
 use wf_record::Record;
-use wf_rules::Checked;
 use wf_val::{Name, Schedule};
 
 /// What makes the runs of accepted definitions.

@@ -1,7 +1,6 @@
 use std::alloc::AllocError;
 use wf_drive::DriveFault;
-use wf_resubmit::ResubmitFault;
-use wf_trigger::TriggerFault;
+use wf_prepare::{ResubmitFault, TriggerFault};
 
 /// Why nothing is written of runs.
 #[derive(Drop)]

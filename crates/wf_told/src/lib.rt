@@ -25,3 +25,8 @@ pub use laws::{
     texts_stand_in_a_row,
 };
 pub use measure::Measure;
+pub use wf_prepare::{
+    kept_rows_are_whole, kept_rows_give_what_they_write, prepare, record_has_the_right_shape,
+    record_is_an_old_table, what_is_chosen_stands_in_no_loop,
+};
+pub use wf_trace::Begun;

@@ -6,7 +6,7 @@ use Rattle.wf_answers.specs.Inputs.{InputsTree}
 use Rattle.wf_def.specs.DefTree.{DefTree}
 use Rattle.wf_files.specs.Form.{history_form, inputs_form, schedule_form}
 use Rattle.wf_files.specs.declared.fault.FindFault.{FindFault}
-use Rattle.wf_meant.specs.Resubmitted.{pinned}
+use Rattle.wf_stands.specs.Resubmitted.{pinned}
 use Rattle.wf_outside.specs.Outside.{Held, IsCalm}
 use Rattle.wf_told.specs.Prepared.{MayBeResubmitted}
 use Rattle.wf_record.specs.Cost.{cost}

@@ -18,7 +18,7 @@ use Rattle.wf_reading.specs.declared.definition.RuleFault.{RuleFault}
 use Rattle.wf_recur.specs.Reading.{recurrence_of}
 use Rattle.wf_recur.specs.declared.fault.RecurrenceFault.{RecurrenceFault}
 use Rattle.wf_recur.specs.declared.recurrence.Recurrence.{Recurrence}
-use Rattle.wf_rules.specs.Broken.{broken_of}
+use Rattle.wf_files.specs.Broken.{broken_of}
 use Rattle.wf_val.specs.ValueTree.{ValueTree}
 use Rattle.wf_top.specs.Commands.{accepted, defined, judged_definition, judged_history, judged_inputs, judged_schedule, judged_value, plan}
 use Rattle.wf_top.specs.Commands.{recurs, scheduled, triggered}

@@ -13,7 +13,7 @@ use Rattle.wf_reading.specs.Meant as read
 use Rattle.wf_reading.specs.Read.{IsRead}
 use Rattle.wf_reading.specs.ReadSeen.{fault_in, rule_fault}
 use Rattle.wf_reading.specs.declared.definition.RuleFault.{RuleFault}
-use Rattle.wf_rules.specs.Broken.{broken_of}
+use Rattle.wf_files.specs.Broken.{broken_of}
 use Rattle.wf_told.specs.Measured.{StartsAlone}
 use Rattle.wf_trigger.specs.Choosing.{chosen}
 use Rattle.wf_trigger.specs.Parameters.{parameters_of}

@@ -5,7 +5,7 @@ use Rattle.wf_answers.specs.InputsSeen.{inputs_tree}
 use Rattle.wf_answers.specs.declared.inputs.Inputs.{Inputs}
 use Rattle.wf_outside.specs.Outside.{Held, Rose}
 use Rattle.wf_reading.specs.ReadSeen.{def_tree}
-use Rattle.wf_rules.specs.declared.checked.Checked.{Checked}
+use Rattle.wf_files.specs.Checked.{Checked}
 use Rattle.wf_stands.specs.Stands.{Stands}
 use Rattle.wf_talk.specs.Talks.{Talks}
 use Rattle.wf_top.proofs.Opening.{led_by_session}

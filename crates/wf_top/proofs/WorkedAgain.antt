@@ -10,7 +10,7 @@ use Rattle.wf_files.specs.Fault.{fault_line}
 use Rattle.wf_files.specs.Form.{history_form, schedule_form}
 use Rattle.wf_files.specs.declared.fault.FindFault.{FindFault}
 use Rattle.wf_files.specs.declared.fault.FormFault.{FormFault}
-use Rattle.wf_meant.specs.Resubmitted.{pinned}
+use Rattle.wf_stands.specs.Resubmitted.{pinned}
 use Rattle.wf_outside.specs.Outside.{Held}
 use Rattle.wf_told.specs.Prepared.{MayBeResubmitted, named}
 use Rattle.wf_record.specs.Cost.{cost}

@@ -17,9 +17,8 @@ use crate::runs::run;
 use crate::said::{Said, Verdict, say_fault};
 use crate::words::{Command, one_asked, schedule_word, set_asked};
 use std::alloc::Global;
-use wf_files::definition_form;
+use wf_files::{Checked, definition_form};
 use wf_outside::Files;
-use wf_rules::Checked;
 use wf_told::Engine;
 use wf_val::Text;
 

@@ -19,8 +19,7 @@ use crate::said::{Said, Verdict, say_fault};
 use std::alloc::{AllocError, Global};
 use wf_answers::Inputs;
 use wf_drill::{Drill, make};
-use wf_files::{definition_in, inputs_in};
-use wf_rules::Checked;
+use wf_files::{Checked, definition_in, inputs_in};
 use wf_told::{Engine, Measure, RunsFault};
 
 /// How the run of a drill went under each of its schedules.

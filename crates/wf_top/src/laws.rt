@@ -4,7 +4,7 @@ ghost use Rattle.wf_answers.specs.Inputs.{InputsTree};
 ghost use Rattle.wf_def.specs.DefTree.{DefTree};
 ghost use Rattle.wf_reading.specs.Read.{IsRead};
 ghost use Rattle.wf_record.specs.Record.{RecordTree};
-ghost use Rattle.wf_rules.specs.Broken.{broken_of};
+ghost use Rattle.wf_files.specs.Broken.{broken_of};
 ghost use Rattle.wf_outside.specs.Outside.{Held};
 ghost use Rattle.wf_top.specs.Commands.{plan};
 ghost use Rattle.wf_top.specs.Drilling.{MayTellDrill};

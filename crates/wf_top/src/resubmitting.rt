@@ -18,10 +18,9 @@ use crate::words::Asked;
 use crate::{HISTORY_LIMIT, INPUTS_LIMIT, SCHEDULE_LIMIT};
 use std::alloc::Global;
 use wf_answers::Inputs;
-use wf_files::{FindFault, history_form, inputs_form, schedule_form};
+use wf_files::{Checked, FindFault, history_form, inputs_form, schedule_form};
 use wf_outside::Files;
 use wf_record::Record;
-use wf_rules::Checked;
 use wf_told::{Engine, ResubmissionFault};
 use wf_val::{Schedule, Text};
 

@@ -12,9 +12,8 @@ use crate::trigger::trigger_line;
 use crate::{INPUTS_LIMIT, SCHEDULE_LIMIT};
 use std::alloc::Global;
 use wf_answers::Inputs;
-use wf_files::{inputs_form, schedule_form};
+use wf_files::{Checked, inputs_form, schedule_form};
 use wf_outside::Files;
-use wf_rules::Checked;
 use wf_told::{Engine, RunsFault};
 use wf_val::{Schedule, Text};
 

@@ -17,9 +17,8 @@ use crate::trigger::trigger_line;
 use crate::{DEFINITION_LIMIT, INPUTS_LIMIT};
 use std::alloc::{AllocError, Global};
 use wf_answers::Inputs;
-use wf_files::{FormFault, definition_form, inputs_form, with_number};
+use wf_files::{Checked, FormFault, definition_form, inputs_form, with_number};
 use wf_outside::Files;
-use wf_rules::Checked;
 use wf_trigger::{Start, Starts, TriggerFault, runs};
 use wf_val::Text;
 

@@ -5,7 +5,7 @@ ghost use Rattle.wf_val.specs.declared.fault.EvalFault.{EvalFault};
 ghost use Rattle.wf_json.specs.FaultText.{fault_text};
 ghost use Rattle.wf_json.specs.Json.{json};
 ghost use Rattle.wf_retry.specs.declared.policy.Policy.{Policy};
-ghost use Rattle.wf_data.specs.Made.{MadeTree};
+ghost use Rattle.wf_done.specs.Made.{MadeTree};
 ghost use Rattle.wf_done.specs.Done.{faulted, mismatched, succeeded};
 ghost use Rattle.wf_done.specs.Leaf.{acted, calling};
 ghost use Rattle.wf_trace.specs.Texts.{start_text};

@@ -25,3 +25,5 @@ pub use line::skip_line;
 pub use number::{begin_line, test_line, try_line};
 pub use open::open_line;
 pub use start::start_line;
+pub use wf_done::Begun;
+pub use wf_opening::{Decision, Verdict};

@@ -1,3 +1,9 @@
+pub use Rattle.wf_answers.specs.AnswerTree
+pub use Rattle.wf_answers.specs.Inputs
+pub use Rattle.wf_def.specs.DefTree
+pub use Rattle.wf_def.specs.Definition
+pub use Rattle.wf_eval.specs.Outcomes
+pub use Rattle.wf_eval.specs.Told
 pub use Rattle.wf_eval.specs.TreeValue
 pub mod Choosing
 pub mod LookSeen

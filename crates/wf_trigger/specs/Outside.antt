@@ -1,6 +1,6 @@
 -- What an expression sees that stands in no loop, where there are no variables.
 use Rattle.std.specs.Prelude.{ℕ, pos, List, [], Option, None}
-use Rattle.wf_look.specs.Told.{Told}
+use Rattle.wf_eval.specs.Told.{Told}
 use Rattle.wf_val.specs.Get.{value_of}
 use Rattle.wf_val.specs.ValueTree.{ValueTree, Member}
 

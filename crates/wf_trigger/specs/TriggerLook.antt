@@ -1,7 +1,7 @@
 -- What the expressions of a trigger see (Workflow Definition Language, "Trigger conditions" and "Split on").
 use Rattle.std.specs.Prelude.{ℕ, List, None}
 use Rattle.wf_eval.specs.TemplateValue.{template_value}
-use Rattle.wf_look.specs.Told.{Told}
+use Rattle.wf_eval.specs.Told.{Told}
 use Rattle.wf_template.specs.TemplateTree.{TemplateTree}
 use Rattle.wf_trigger.specs.Outside.{told_outside}
 use Rattle.wf_val.specs.Arguments.{Answer}

@@ -7,8 +7,8 @@ ghost use Rattle.wf_val.specs.Seen.{tree};
 
 use crate::outside::{NoViews, Outside};
 use std::alloc::Global;
+use wf_answers::Ticks;
 use wf_eval::eval;
-use wf_fn_time::Ticks;
 use wf_template::Template;
 use wf_val::{EvalFault, Fields, Text, Val};
 

@@ -4,8 +4,8 @@ ghost use Rattle.wf_trigger.specs.Outside.{told_outside};
 ghost use Rattle.wf_val.specs.Seen.{tree};
 
 use std::alloc::{AllocError, Global};
-use wf_fn_time::Ticks;
-use wf_look::{Look, word_of};
+use wf_answers::Ticks;
+use wf_eval::{Look, word_of};
 use wf_val::{Fields, Name, Text, Val};
 
 /// What `actions` gives of the actions that have ended.

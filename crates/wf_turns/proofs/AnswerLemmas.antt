@@ -12,12 +12,12 @@ use Rattle.wf_layers.specs.Address.{Address}
 use Rattle.wf_layers.proofs.Basics.{two, or_first, or_second}
 use Rattle.wf_retry.specs.declared.policy.Policy.{Policy}
 use Rattle.wf_answers.specs.AnswerTree.{AnswerTree, find_answer, key_cmp, key_of}
-use Rattle.wf_connect.specs.Last.{Answered, IsLast, answered_at, is_final, last_attempt}
-use Rattle.wf_connect.specs.Last as calls
-use Rattle.wf_def.specs.ActionTree.{ActionTree, action_name}
-use Rattle.wf_def.specs.DefTree.{DefTree}
-use Rattle.wf_done.specs.Leaf.{BegunTree, acted, calling, tries_in}
-use Rattle.wf_environment.specs.Environment.{Environment, facts_of}
+use Rattle.wf_meant.specs.Last.{Answered, IsLast, answered_at, is_final, last_attempt}
+use Rattle.wf_meant.specs.Last as calls
+use Rattle.wf_known_laws.specs.ActionTree.{ActionTree, action_name}
+use Rattle.wf_known_laws.specs.DefTree.{DefTree}
+use Rattle.wf_meant.specs.Leaf.{BegunTree, acted, calling, tries_in}
+use Rattle.wf_meant.specs.Environment.{Environment, facts_of}
 use Rattle.wf_meant.specs.Look.{instance, name_in}
 use Rattle.wf_meant.specs.Source.{tries_of}
 

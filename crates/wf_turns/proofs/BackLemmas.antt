@@ -10,29 +10,31 @@ use Rattle.wf_layers.specs.Called.{iterations}
 use Rattle.wf_layers.specs.Meaning.{last}
 use Rattle.wf_layers.specs.Shape.{ReadsBack}
 use Rattle.wf_answers.specs.AnswerTree.{AnswerTree}
-use Rattle.wf_def.specs.ActionTree.{ActionTree, action_kind, action_name, KindTree, compose, connector, wait, response, terminate, select}
-use Rattle.wf_def.specs.ActionTree.{query, join, parse_json, initialize, set_to, increment, decrement, append_array, append_string, scope}
-use Rattle.wf_def.specs.ActionTree.{branch, switch, switch_else, foreach, until}
-use Rattle.wf_def.specs.AllActions.{numbered}
-use Rattle.wf_def.specs.DefTree.{DefTree}
-use Rattle.wf_def.specs.Layered.{layered_kind}
+use Rattle.wf_known_laws.specs.ActionTree.{ActionTree, action_kind, action_name, KindTree, compose, connector}
+use Rattle.wf_known_laws.specs.ActionTree.{wait, response, terminate, select}
+use Rattle.wf_known_laws.specs.ActionTree.{query, join, parse_json, initialize, set_to, increment}
+use Rattle.wf_known_laws.specs.ActionTree.{decrement, append_array, append_string, scope}
+use Rattle.wf_known_laws.specs.ActionTree.{branch, switch, switch_else, foreach, until}
+use Rattle.wf_known_laws.specs.AllActions.{numbered}
+use Rattle.wf_known_laws.specs.DefTree.{DefTree}
+use Rattle.wf_known_laws.specs.Layered.{layered_kind}
 use Rattle.wf_record.specs.Record.{Row}
 use Rattle.wf_record.specs.declared.status.Status.{Status}
-use Rattle.wf_look.specs.Told.{Told}
-use Rattle.wf_eval.specs.TemplateValue.{template_value}
-use Rattle.wf_eval.specs.Truth.{truth_of}
-use Rattle.wf_opening.specs.Decisions.{DecisionTree, decided, items_of, taken}
-use Rattle.wf_opening.specs.Verdicts.{VerdictTree}
-use Rattle.wf_done.specs.Leaf.{begun_from, ended}
-use Rattle.wf_environment.specs.Environment.{Environment, facts_of}
-use Rattle.wf_environment.specs.Statuses.{status_tree}
+use Rattle.wf_meant.specs.Told.{Told}
+use Rattle.wf_meant.specs.TemplateValue.{template_value}
+use Rattle.wf_meant.specs.Truth.{truth_of}
+use Rattle.wf_meant.specs.Decisions.{DecisionTree, decided, items_of, taken}
+use Rattle.wf_meant.specs.Verdicts.{VerdictTree}
+use Rattle.wf_meant.specs.Leaf.{begun_from, ended}
+use Rattle.wf_meant.specs.Environment.{Environment, facts_of}
+use Rattle.wf_meant.specs.Statuses.{status_tree}
 use Rattle.wf_meant.specs.Containers.{case_status, closed, last_status, status_of}
 use Rattle.wf_meant.specs.Look.{decided_by, instance, told_at}
 use Rattle.wf_meant.specs.Points.{graph_of}
 use Rattle.wf_meant.specs.Resubmitted.{said, said_by}
 use Rattle.wf_meant.specs.Rows.{row_of}
 use Rattle.wf_meant.specs.Source.{begun, close_of, finished, source}
-use Rattle.wf_says.specs.Told.{count_items, count_told, items_said, rounds_said, taken_by, told_rounds}
+use Rattle.wf_meant.specs.SaysTold.{count_items, count_told, items_said, rounds_said, taken_by, told_rounds}
 use Rattle.wf_turns.specs.Reading.{RecallsWithin, reading, taken_in}
 use Rattle.wf_turns.proofs.FoundLemmas.{of_kind}
 use Rattle.wf_meant.proofs.TellLemmas.{items_back, rounds_back}

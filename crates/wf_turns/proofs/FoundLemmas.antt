@@ -8,12 +8,14 @@ use Rattle.std.proofs.lemmas.Bool.{eq-eqb, eqb-true}
 use Rattle.wf_layers.specs.Definition as layers
 use Rattle.wf_layers.specs.Definition.{Kind}
 use Rattle.wf_layers.proofs.Basics.{or_first, two, unless, when}
-use Rattle.wf_def.specs.ActionTree.{ActionTree, action, action_kind, KindTree, compose, connector, wait, response, terminate, select, query}
-use Rattle.wf_def.specs.ActionTree.{join, parse_json, initialize, set_to, increment, decrement, append_array, append_string, scope, branch}
-use Rattle.wf_def.specs.ActionTree.{switch, switch_else, foreach, until, ActionTrees, no_actions, action_then, CaseTrees}
-use Rattle.wf_def.specs.ActionTree.{no_cases, case_then}
-use Rattle.wf_def.specs.AllActions.{all_actions, cases_actions, has_number, kind_actions}
-use Rattle.wf_def.specs.Layered.{layered, layered_cases, layered_kind}
+use Rattle.wf_known_laws.specs.ActionTree.{ActionTree, action, action_kind, KindTree, compose, connector}
+use Rattle.wf_known_laws.specs.ActionTree.{wait, response, terminate, select, query}
+use Rattle.wf_known_laws.specs.ActionTree.{join, parse_json, initialize, set_to, increment, decrement}
+use Rattle.wf_known_laws.specs.ActionTree.{append_array, append_string, scope, branch}
+use Rattle.wf_known_laws.specs.ActionTree.{switch, switch_else, foreach, until, ActionTrees, no_actions, action_then, CaseTrees}
+use Rattle.wf_known_laws.specs.ActionTree.{no_cases, case_then}
+use Rattle.wf_known_laws.specs.AllActions.{all_actions, cases_actions, has_number, kind_actions}
+use Rattle.wf_known_laws.specs.Layered.{layered, layered_cases, layered_kind}
 
 -- ---- of lists
 

@@ -1,3 +1,5 @@
+pub use Rattle.wf_meant.proofs.NumberLemmas
+pub use Rattle.wf_meant.proofs.Terms
 pub mod SourceLemmas
 mod FoundLemmas
 mod RangeLemmas

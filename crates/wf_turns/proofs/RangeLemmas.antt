@@ -1,11 +1,13 @@
 -- The numbers of each action of a definition have their ranges.
 use Rattle.std.proofs.Common.{List, [], ◌∷◌, ◌++◌}
 use Rattle.std.specs.List.{AllByRecursion}
-use Rattle.wf_def.specs.ActionTree.{ActionTree, action, action_kind, KindTree, compose, connector, wait, response, terminate, select}
-use Rattle.wf_def.specs.ActionTree.{query, join, parse_json, initialize, set_to, increment, decrement, append_array, append_string, scope}
-use Rattle.wf_def.specs.ActionTree.{branch, switch, switch_else, foreach, until, ActionTrees, no_actions, action_then, CaseTrees, no_cases}
-use Rattle.wf_def.specs.ActionTree.{case_then}
-use Rattle.wf_def.specs.AllActions.{all_actions, cases_actions, kind_actions}
+use Rattle.wf_known_laws.specs.ActionTree.{ActionTree, action, action_kind, KindTree, compose, connector, wait, response, terminate, select}
+use Rattle.wf_known_laws.specs.ActionTree.{query, join, parse_json, initialize, set_to, increment}
+use Rattle.wf_known_laws.specs.ActionTree.{decrement, append_array, append_string, scope}
+use Rattle.wf_known_laws.specs.ActionTree.{branch, switch, switch_else, foreach, until, ActionTrees}
+use Rattle.wf_known_laws.specs.ActionTree.{no_actions, action_then, CaseTrees, no_cases}
+use Rattle.wf_known_laws.specs.ActionTree.{case_then}
+use Rattle.wf_known_laws.specs.AllActions.{all_actions, cases_actions, kind_actions}
 use Rattle.wf_known_laws.specs.Each.{EachCase, EachGraph, EachIn, EachInside}
 use Rattle.wf_known_laws.specs.Held.{AreInRange, IsInRange}
 

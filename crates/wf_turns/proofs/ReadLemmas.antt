@@ -7,16 +7,18 @@ use Rattle.wf_val.specs.Arguments.{Answer}
 use Rattle.wf_val.specs.ValueTree.{ValueTree, null, boolean, number, text, list, object}
 use Rattle.wf_layers.specs.Definition as layers
 use Rattle.wf_layers.specs.Address.{Table}
-use Rattle.wf_def.specs.ActionTree.{KindTree, compose, connector, wait, response, terminate, select, query, join, parse_json, initialize}
-use Rattle.wf_def.specs.ActionTree.{set_to, increment, decrement, append_array, append_string, scope, branch, switch, switch_else, foreach}
-use Rattle.wf_def.specs.ActionTree.{action_number, until, ActionTrees, CaseTrees, no_cases, case_then, actions_in}
-use Rattle.wf_def.specs.AllActions.{kind_actions}
+use Rattle.wf_known_laws.specs.ActionTree.{KindTree, compose, connector, wait, response, terminate}
+use Rattle.wf_known_laws.specs.ActionTree.{select, query, join, parse_json, initialize}
+use Rattle.wf_known_laws.specs.ActionTree.{set_to, increment, decrement, append_array, append_string, scope}
+use Rattle.wf_known_laws.specs.ActionTree.{branch, switch, switch_else, foreach}
+use Rattle.wf_known_laws.specs.ActionTree.{action_number, until, ActionTrees, CaseTrees, no_cases, case_then, actions_in}
+use Rattle.wf_known_laws.specs.AllActions.{kind_actions}
 use Rattle.wf_record.specs.Record.{Row}
 use Rattle.wf_record.specs.declared.status.Status.{Status}
-use Rattle.wf_opening.specs.Decisions.{DecisionTree, nothing, held, chosen, each, too_many, faulty, chosen_as, held_as, taken}
-use Rattle.wf_opening.specs.Decisions.{branch_from}
-use Rattle.wf_opening.specs.Verdicts.{VerdictTree, met, astray}
-use Rattle.wf_environment.specs.Statuses.{status_tree}
+use Rattle.wf_meant.specs.Decisions.{DecisionTree, nothing, held, chosen, each, too_many, faulty, chosen_as, held_as, taken}
+use Rattle.wf_meant.specs.Decisions.{branch_from}
+use Rattle.wf_meant.specs.Verdicts.{VerdictTree, met, astray}
+use Rattle.wf_meant.specs.Statuses.{status_tree}
 use Rattle.wf_meant.specs.Containers.{any_iteration_failed, any_terminated, case_status, close_branch, close_foreach, close_until, closed}
 use Rattle.wf_meant.specs.Containers.{closed_as, cut_short, iterations_value, last_status, status_of, unless_cut}
 use Rattle.wf_meant.specs.Status as judging

@@ -5,11 +5,11 @@ use Rattle.wf_val.specs.Arguments.{wrong_type}
 use Rattle.wf_val.specs.declared.function.Fun.{Fun}
 use Rattle.wf_template.specs.TemplateTree.{TemplateTree, plain, whole}
 use Rattle.wf_template.specs.CondTree.{CondTree, holds}
-use Rattle.wf_def.specs.ActionTree.{CaseTrees, KindTree, no_actions, branch, scope, switch, switch_else, foreach, until, case_trees}
-use Rattle.wf_opening.specs.Decisions.{DecisionTree, nothing, held, chosen, faulty}
+use Rattle.wf_known_laws.specs.ActionTree.{CaseTrees, KindTree, no_actions, branch, scope, switch, switch_else, foreach, until, case_trees}
+use Rattle.wf_meant.specs.Decisions.{DecisionTree, nothing, held, chosen, faulty}
 use Rattle.wf_meant.specs.Resubmitted.{said}
 use Rattle.wf_meant.proofs.Terms.{act, apply, many, nat, num, of, of_actions, rows_in, say, value, words}
-use Rattle.wf_says.specs.Told.{items_said, rounds_said, taken_by}
+use Rattle.wf_meant.specs.SaysTold.{items_said, rounds_said, taken_by}
 
 -- the branch, the items and the rounds that the row of an action of this kind tells
 abbrev told : KindTree → List (List ℕ)

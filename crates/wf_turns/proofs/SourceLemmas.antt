@@ -1,7 +1,7 @@
 -- A source by which the actions of a definition answer is that of the definition, but for what it keeps, and for what it closes again.
 use Rattle.std.proofs.Common.{◌≡◌}
-use Rattle.wf_def.specs.DefTree.{DefTree}
-use Rattle.wf_environment.specs.Environment.{Environment}
+use Rattle.wf_known_laws.specs.DefTree.{DefTree}
+use Rattle.wf_meant.specs.Environment.{Environment}
 use Rattle.wf_meant.specs.Answering.{AnswersAs, RowSource}
 use Rattle.wf_meant.specs.Source.{source}
 

@@ -16,24 +16,26 @@ use Rattle.wf_layers.specs.Meaning as layered_meaning
 use Rattle.wf_layers.specs.Meaning.{last}
 use Rattle.wf_layers.specs.Resubmission.{pin}
 use Rattle.wf_layers.proofs.Basics.{two, rounds_more, unless, when}
-use Rattle.wf_def.specs.ActionTree.{ActionTree, action_kind, action_name, KindTree, compose, connector, wait, response, terminate, select}
-use Rattle.wf_def.specs.ActionTree.{query, join, parse_json, initialize, set_to, increment, decrement, append_array, append_string, scope}
-use Rattle.wf_def.specs.ActionTree.{branch, switch, switch_else, foreach, until}
-use Rattle.wf_def.specs.AllActions.{all_actions, has_number, numbered}
-use Rattle.wf_def.specs.DefTree.{DefTree}
-use Rattle.wf_def.specs.Layered.{layered_kind}
+use Rattle.wf_known_laws.specs.ActionTree.{ActionTree, action_kind, action_name, KindTree, compose, connector}
+use Rattle.wf_known_laws.specs.ActionTree.{wait, response, terminate, select}
+use Rattle.wf_known_laws.specs.ActionTree.{query, join, parse_json, initialize, set_to, increment}
+use Rattle.wf_known_laws.specs.ActionTree.{decrement, append_array, append_string, scope}
+use Rattle.wf_known_laws.specs.ActionTree.{branch, switch, switch_else, foreach, until}
+use Rattle.wf_known_laws.specs.AllActions.{all_actions, has_number, numbered}
+use Rattle.wf_known_laws.specs.DefTree.{DefTree}
+use Rattle.wf_known_laws.specs.Layered.{layered_kind}
 use Rattle.wf_known_laws.specs.Held.{IsInRange, IsPolicyInRange}
-use Rattle.wf_look.specs.Told.{Told}
-use Rattle.wf_eval.specs.TreeValue.{tree_value}
+use Rattle.wf_meant.specs.Told.{Told}
+use Rattle.wf_meant.specs.TreeValue.{tree_value}
 use Rattle.wf_record.specs.Cost as cost
 use Rattle.wf_record.specs.Record.{Row}
 use Rattle.wf_record.specs.declared.status.Status.{Status}
-use Rattle.wf_connect.specs.Last.{Answered, last_attempt}
-use Rattle.wf_connect.specs.Last as calls
-use Rattle.wf_opening.specs.Decisions.{DecisionTree, nothing, held, chosen, each, too_many, faulty, items_of}
-use Rattle.wf_opening.specs.Verdicts.{VerdictTree, met, astray, ends}
-use Rattle.wf_done.specs.Leaf.{BegunTree, begun_from, called_with, tries_in}
-use Rattle.wf_environment.specs.Environment.{Environment, facts_of}
+use Rattle.wf_meant.specs.Last.{Answered, last_attempt}
+use Rattle.wf_meant.specs.Last as calls
+use Rattle.wf_meant.specs.Decisions.{DecisionTree, nothing, held, chosen, each, too_many, faulty, items_of}
+use Rattle.wf_meant.specs.Verdicts.{VerdictTree, met, astray, ends}
+use Rattle.wf_meant.specs.Leaf.{BegunTree, begun_from, called_with, tries_in}
+use Rattle.wf_meant.specs.Environment.{Environment, facts_of}
 use Rattle.wf_meant.specs.Answering.{AnswersAs, RowSource}
 use Rattle.wf_meant.specs.Containers.{close_until, closed, iterations_value, last_status}
 use Rattle.wf_meant.specs.Look.{instance, told_at}

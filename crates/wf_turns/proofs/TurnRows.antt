@@ -7,7 +7,7 @@ use Rattle.wf_retry.specs.declared.policy.Outcome.{Outcome}
 use Rattle.wf_template.specs.TemplateTree.{whole}
 use Rattle.wf_template.specs.CondTree.{holds}
 use Rattle.wf_answers.specs.AnswerTree.{AnswerTree}
-use Rattle.wf_def.specs.ActionTree.{ActionTree, KindTree, compose, connector, foreach, until, action_trees}
+use Rattle.wf_known_laws.specs.ActionTree.{ActionTree, KindTree, compose, connector, foreach, until, action_trees}
 use Rattle.wf_record.specs.Cost.{row_cost}
 use Rattle.wf_record.specs.Record.{RowTree}
 use Rattle.wf_meant.proofs.Terms.{act, apply, ask, failure_of, fields, many, nat, num, obj, of, of_actions, replied, rows_in, say}

@@ -3,16 +3,16 @@ use Rattle.std.specs.Prelude.{◌≡◌, ℕ, Option, Some, None}
 use Rattle.wf_layers.specs.Address.{Address, Table}
 use Rattle.wf_layers.specs.Definition.{Scope, Choice, Branches, Graph, kind_of}
 use Rattle.wf_layers.specs.Shape.{Reading}
-use Rattle.wf_def.specs.ActionTree.{ActionTree, action_kind}
-use Rattle.wf_def.specs.AllActions.{numbered}
-use Rattle.wf_def.specs.DefTree.{DefTree}
+use Rattle.wf_known_laws.specs.ActionTree.{ActionTree, action_kind}
+use Rattle.wf_known_laws.specs.AllActions.{numbered}
+use Rattle.wf_known_laws.specs.DefTree.{DefTree}
 use Rattle.wf_record.specs.Record.{Row}
-use Rattle.wf_opening.specs.Decisions.{taken}
-use Rattle.wf_environment.specs.Environment.{Environment}
+use Rattle.wf_meant.specs.Decisions.{taken}
+use Rattle.wf_meant.specs.Environment.{Environment}
 use Rattle.wf_meant.specs.Points.{graph_of}
 use Rattle.wf_meant.specs.Resubmitted.{said_by}
 use Rattle.wf_meant.specs.Source.{source}
-use Rattle.wf_says.specs.Told.{items_said, rounds_said, taken_by}
+use Rattle.wf_meant.specs.SaysTold.{items_said, rounds_said, taken_by}
 
 -- by the kind of the action; a number that no action has takes no branch
 abbrev pub taken_in : Option ActionTree → Row → ℕ

@@ -12,27 +12,33 @@
 #![tactic(auto)]
 
 ghost use Rattle.std.specs.Prelude.{◌*◌, ◌+◌, ◌≤◌, ◌≡◌, suc, ℕ, Bool, length, option_map};
-ghost use Rattle.wf_def.specs.ActionTree.{ActionTrees, action_kind};
-ghost use Rattle.wf_def.specs.AllActions.{numbered};
-ghost use Rattle.wf_def.specs.DefTree.{DefTree};
-ghost use Rattle.wf_def.specs.Layered.{layered, layered_kind};
-ghost use Rattle.wf_done.specs.Leaf.{BegunTree};
+ghost use Rattle.wf_known_laws.specs.ActionTree.{ActionTrees, action_kind};
+ghost use Rattle.wf_known_laws.specs.AllActions.{numbered};
+ghost use Rattle.wf_known_laws.specs.DefTree.{DefTree};
+ghost use Rattle.wf_known_laws.specs.Layered.{layered, layered_kind};
+ghost use Rattle.wf_meant.specs.Leaf.{BegunTree};
 ghost use Rattle.wf_layers.specs.Address.{Address, Table};
 ghost use Rattle.wf_layers.specs.Bound.{TellsTurns};
 ghost use Rattle.wf_layers.specs.Definition.{kind_of};
 ghost use Rattle.wf_layers.specs.Resubmission.{pin};
 ghost use Rattle.wf_layers.specs.Shape.{ReadsBack};
-ghost use Rattle.wf_environment.specs.Environment.{Environment, facts_of};
+ghost use Rattle.wf_meant.specs.Environment.{Environment, facts_of};
 ghost use Rattle.wf_meant.specs.Answering.{AnswersAs, RowSource};
 ghost use Rattle.wf_meant.specs.Look.{name_of};
 ghost use Rattle.wf_meant.specs.Points.{graph_of};
 ghost use Rattle.wf_meant.specs.Source.{source};
-ghost use Rattle.wf_opening.specs.Decisions.{DecisionTree};
-ghost use Rattle.wf_reading.specs.Read.{IsRead};
+ghost use Rattle.wf_meant.specs.Decisions.{DecisionTree};
+ghost use Rattle.wf_known_laws.specs.Read.{IsRead};
 ghost use Rattle.wf_record.specs.Cost.{row_cost};
 ghost use Rattle.wf_record.specs.Record.{Row, RowTree};
 ghost use Rattle.wf_turns.specs.Reading.{RecallsWithin, reading};
 ghost use Rattle.wf_turns.specs.Turns.{turns};
+
+pub use wf_known_laws::{
+    Def, entries_stay_in_their_graph, names_stand_once, numbers_are_below, numbers_are_had,
+    numbers_stand_once,
+};
+pub use wf_meant::{branch_said, read_actions_have_their_numbers};
 
 /// Which kind a number has in the graph of a definition is told by the first action of all that has it; a number that no action has is of
 /// none.
@@ -64,7 +70,7 @@ pub fn resubmitted_rows_tell_their_turns()
 pub fn rows_tell_what_was_decided()
     ensures { (d : DefTree) → (e : Environment) → (f : Table Row) → ReadsBack (graph_of d) (source d e) f (reading d) }
 {
-    wf_done::what_ran_is_not_skipped();
+    wf_meant::what_ran_is_not_skipped();
 }
 
 /// What the row of a Scope says, or that of an If or a Switch that took a branch, is all that it decided: opened again with it, it takes
@@ -84,7 +90,7 @@ pub fn attempts_are_few()
         → (source d e).tries x ((source d e).start x known) ≤ 91 }
 {
     wf_known_laws::numbers_have_their_ranges();
-    wf_connect::the_last_attempt_is_the_least();
+    wf_meant::the_last_attempt_is_the_least();
 }
 
 /// Whatever it has begun with, an action is tried at most once more than it has answers.
@@ -92,5 +98,5 @@ pub fn attempts_are_answered()
     ensures { (d : DefTree) → (e : Environment) → (x : Address) → (b : BegunTree)
         → (source d e).tries x b ≤ 1 + length (facts_of e (name_of d x.name)).answers }
 {
-    wf_connect::the_last_attempt_is_the_least();
+    wf_meant::the_last_attempt_is_the_least();
 }

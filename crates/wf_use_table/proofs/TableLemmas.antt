@@ -13,11 +13,11 @@ use Rattle.wf_def.specs.declared.graph.Action.{Action, out-Action}
 use Rattle.wf_def.specs.declared.graph.Kind.TheFolds.{fold_out-Action}
 use Rattle.wf_def.proofs.SizeLemmas.{drop_at_place}
 use Rattle.wf_def.specs.AllActions.{has_number, numbered}
-use Rattle.wf_uses.specs.Seen.{uses_seen}
+use Rattle.wf_refs.specs.UsesSeen.{uses_seen}
 use Rattle.wf_use_table.specs.Seen.{action_at, is_free, kept_at, uses_at}
 use Rattle.wf_refs.specs.Sites.{action_uses, uses_at_inputs, uses_at_items, uses_at_output, uses_at_test, uses_at_tracked, uses_at_trigger}
 use Rattle.wf_refs.specs.Sites.{uses_of}
-use Rattle.wf_uses.specs.UsesTree.{UsesTree}
+use Rattle.wf_refs.specs.UsesTree.{UsesTree}
 use Rattle.wf_refs.specs.Sites.{ActionUsesTree}
 use Rattle.wf_refs.specs.declared.site.Site.{Site}
 use Rattle.wf_use_table.specs.declared.table.UseTable.{UseTable}

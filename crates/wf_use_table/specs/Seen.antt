@@ -1,8 +1,8 @@
 -- What a table of uses has, as contracts see it.
 use Rattle.std.specs.Prelude.{ℕ, Bool, true, false, List, Option, Some, None, option_map, slice_get}
 use Rattle.std.specs.Option.{option_and_then}
-use Rattle.wf_uses.specs.Seen.{uses_seen}
-use Rattle.wf_uses.specs.UsesTree.{UsesTree}
+use Rattle.wf_refs.specs.UsesSeen.{uses_seen}
+use Rattle.wf_refs.specs.UsesTree.{UsesTree}
 use Rattle.wf_refs.specs.Sites.{ActionUsesTree}
 use Rattle.wf_refs.specs.declared.site.Site.{Site}
 use Rattle.wf_use_table.specs.declared.table.ActionUses.{ActionUses}

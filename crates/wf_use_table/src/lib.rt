@@ -7,4 +7,4 @@
 mod table;
 
 pub use table::{UseTable, refs};
-pub use wf_refs::{Def, Site};
+pub use wf_refs::{Def, Names, RuleFault, Site, Uses};

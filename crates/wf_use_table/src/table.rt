@@ -6,15 +6,14 @@ ghost use Rattle.wf_def.specs.ActionSeen.{action_tree};
 ghost use Rattle.wf_def.specs.DefSeen.{output_tree, trigger_tree};
 ghost use Rattle.wf_refs.specs.ReadSeen.{def_tree};
 ghost use Rattle.wf_def.specs.AllActions.{has_number};
-ghost use Rattle.wf_uses.specs.Seen.{uses_seen};
+ghost use Rattle.wf_refs.specs.UsesSeen.{uses_seen};
 ghost use Rattle.wf_use_table.specs.Seen.{action_at, action_uses_seen, is_free, kept_at, uses_at};
 ghost use Rattle.wf_refs.specs.Sites.{action_uses, uses_at_output, uses_at_trigger, uses_of};
 ghost use Rattle.wf_refs.specs.declared.site.Site.{Site};
 
 use std::alloc::{AllocError, Global};
 use wf_def::{Action, Output, Trigger, all_actions};
-use wf_refs::{Def, Site, at_inputs, at_items, at_output, at_test, at_tracked, at_trigger};
-use wf_uses::Uses;
+use wf_refs::{Def, Site, Uses, at_inputs, at_items, at_output, at_test, at_tracked, at_trigger};
 
 /// The uses of an action's sites.
 #[derive(Drop)]

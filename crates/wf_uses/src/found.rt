@@ -10,7 +10,7 @@ ghost use Rattle.wf_val.specs.Function.{function_of};
 
 use crate::named::{Asked, Named};
 use std::alloc::{AllocError, Global};
-use wf_calls::function_named;
+use wf_eval_expr::function_named;
 use wf_template::Expr;
 use wf_val::{Fun, Text, Val};
 

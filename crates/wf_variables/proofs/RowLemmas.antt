@@ -8,13 +8,13 @@ use Rattle.wf_val.specs.Cut.{cut_u32, cut_u64}
 use Rattle.wf_val.specs.ValueTree.{ValueTree, boolean, number, text, list, object, trees, items, depth, weight, fits}
 use Rattle.wf_val.specs.declared.fault.EvalFault.{EvalFault}
 use Rattle.wf_val.specs.declared.function.Fun.{Fun}
-use Rattle.wf_json.specs.Json as json_text
+use Rattle.wf_data.specs.Json as json_text
 use Rattle.wf_template.specs.DataTree.{DataTree}
 use Rattle.wf_def.specs.ActionTree.{InitialTree}
 use Rattle.wf_def.specs.declared.sort.Sort.{Sort}
-use Rattle.wf_look.specs.Looked.{or_no_value}
-use Rattle.wf_look.specs.Outcomes.{Outcome, turned}
-use Rattle.wf_look.specs.Told.{Told}
+use Rattle.wf_data.specs.Looked.{or_no_value}
+use Rattle.wf_data.specs.Outcomes.{Outcome, turned}
+use Rattle.wf_data.specs.Told.{Told}
 use Rattle.wf_data.specs.TreeValue.{tree_value}
 use Rattle.wf_data.specs.Made.{MadeTree, fitting, goes_on, one_member}
 use Rattle.wf_variables.specs.Initials.{ItemsTree, body_of, given_item, initial_by, initial_value, initials_after, made_initialize}

@@ -7,9 +7,9 @@ use Rattle.wf_val.specs.declared.fault.EvalFault.{EvalFault}
 use Rattle.wf_val.specs.declared.function.Fun.{Fun}
 use Rattle.wf_template.specs.DataTree as inputs
 use Rattle.wf_template.specs.ExprTree.{literal}
-use Rattle.wf_look.proofs.WorkedLook.{nested, nowhere, only}
-use Rattle.wf_look.specs.Told.{Told}
-use Rattle.wf_eval_expr.proofs.WorkedExpressions.{int, word, by_zero, of}
+use Rattle.wf_data.proofs.WorkedLook.{nested, nowhere, only}
+use Rattle.wf_data.specs.Told.{Told}
+use Rattle.wf_data.proofs.WorkedExpressions.{int, word, by_zero, of}
 use Rattle.wf_data.specs.Made.{one_member}
 use Rattle.wf_data.proofs.RowParts.{plus, greatest, least, items, fields, that, listed, random, Outcome, makes, faults}
 use Rattle.wf_variables.specs.Initials.{given_item}

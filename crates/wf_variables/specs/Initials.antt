@@ -5,8 +5,8 @@ use Rattle.wf_val.specs.declared.fault.EvalFault.{EvalFault}
 use Rattle.wf_template.specs.DataTree.{DataTree}
 use Rattle.wf_def.specs.ActionTree.{InitialTree}
 use Rattle.wf_def.specs.declared.sort.Sort.{Sort}
-use Rattle.wf_look.specs.Outcomes.{Outcome, turned}
-use Rattle.wf_look.specs.Told.{Told}
+use Rattle.wf_data.specs.Outcomes.{Outcome, turned}
+use Rattle.wf_data.specs.Told.{Told}
 use Rattle.wf_data.specs.TreeValue.{tree_value}
 use Rattle.wf_data.specs.Made.{MadeTree, Making, fitting, followed, goes_on, one_member}
 use Rattle.wf_variables.specs.Sorts.{empty_of, of_sort, sort_name}

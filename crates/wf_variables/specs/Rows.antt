@@ -3,8 +3,8 @@ use Rattle.std.specs.Prelude.{◌≡◌, ℕ, true, List, [], ◌∷◌, Some, O
 use Rattle.wf_val.specs.ValueTree.{ValueTree}
 use Rattle.wf_def.specs.ActionTree.{InitialTree}
 use Rattle.wf_def.specs.declared.sort.Sort.{Sort}
-use Rattle.wf_look.specs.Outcomes.{Outcome}
-use Rattle.wf_look.specs.Told.{Told}
+use Rattle.wf_data.specs.Outcomes.{Outcome}
+use Rattle.wf_data.specs.Told.{Told}
 use Rattle.wf_data.specs.Made.{MadeTree, one_member}
 use Rattle.wf_variables.specs.Initials.{body_of, given_item}
 use Rattle.wf_def.specs.Sorts.{has_sort}

@@ -5,11 +5,11 @@ use Rattle.wf_val.specs.Arguments.{fits_i64, given, wrong_type}
 use Rattle.wf_val.specs.ValueTree.{ValueTree, number, text, list, trees, items}
 use Rattle.wf_val.specs.declared.fault.EvalFault.{EvalFault}
 use Rattle.wf_val.specs.declared.function.Fun.{Fun}
-use Rattle.wf_json.specs.Json as json_text
+use Rattle.wf_data.specs.Json as json_text
 use Rattle.wf_template.specs.DataTree.{DataTree}
-use Rattle.wf_look.specs.Looked.{or_no_value}
-use Rattle.wf_look.specs.Outcomes.{Outcome}
-use Rattle.wf_look.specs.Told.{Told}
+use Rattle.wf_data.specs.Looked.{or_no_value}
+use Rattle.wf_data.specs.Outcomes.{Outcome}
+use Rattle.wf_data.specs.Told.{Told}
 use Rattle.wf_data.specs.TreeValue.{tree_value}
 use Rattle.wf_data.specs.Made.{MadeTree, Making, fitting, followed, one_member}
 use Rattle.wf_variables.specs.Initials.{given_item}

@@ -11,9 +11,8 @@ ghost use Rattle.wf_variables.specs.ItemsSeen.{items_tree, items_seen};
 
 use crate::sorts::{empty_of, of_sort, sort_name};
 use std::alloc::{AllocError, Global};
-use wf_data::{Made, eval_tree, fitting, one_member};
+use wf_data::{Look, Made, eval_tree, fitting, one_member};
 use wf_def::Initial;
-use wf_look::Look;
 use wf_val::{EvalFault, Fields, Text, Val, Vals};
 
 // The items that are kept of the variables so far, and those that are given out.

@@ -2,7 +2,7 @@
 ghost use Rattle.std.specs.Prelude.{◌≡◌, ℕ, List, Ok, Some, codes};
 ghost use Rattle.wf_val.specs.ValueTree.{ValueTree};
 ghost use Rattle.wf_def.specs.ActionTree.{InitialTree};
-ghost use Rattle.wf_look.specs.Told.{Told};
+ghost use Rattle.wf_data.specs.Told.{Told};
 ghost use Rattle.wf_data.specs.Made.{MadeTree, one_member};
 ghost use Rattle.wf_variables.specs.Given.{gives};
 ghost use Rattle.wf_variables.specs.Initials.{given_item, made_initialize};

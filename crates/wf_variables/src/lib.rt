@@ -28,4 +28,8 @@ pub use initials::initialize;
 pub use laws::{
     what_is_given_is_found, what_is_initialized_is_given, what_is_written_keeps_its_type,
 };
+pub use wf_data::{
+    Look, Made, compose, eval_tree, join, parse_json, query, response, select, terminate,
+    values_are_local, wait, what_is_given_fits,
+};
 pub use writing::{append_array, append_string, decrement, increment, set};

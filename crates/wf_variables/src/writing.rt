@@ -4,7 +4,7 @@ ghost use Rattle.wf_val.specs.Arguments.{Gives, seen};
 ghost use Rattle.wf_val.specs.Seen.{tree};
 ghost use Rattle.wf_val.specs.declared.fault.EvalFault.{EvalFault};
 ghost use Rattle.wf_template.specs.DataSeen.{data_tree};
-ghost use Rattle.wf_look.specs.Looked.{or_no_value};
+ghost use Rattle.wf_data.specs.Looked.{or_no_value};
 ghost use Rattle.wf_data.specs.Made.{Comes};
 ghost use Rattle.wf_data.specs.MadeSeen.{made_seen};
 ghost use Rattle.wf_variables.specs.Writing.{amount, decremented, incremented, made_append_array, made_append_string};
@@ -14,8 +14,7 @@ ghost use Rattle.wf_variables.specs.Writing.{with_text, written};
 use crate::initials::given_item;
 use crate::sorts::are_alike;
 use std::alloc::{AllocError, Global};
-use wf_data::{Made, eval_tree, fitting, one_member};
-use wf_look::Look;
+use wf_data::{Look, Made, eval_tree, fitting, one_member};
 use wf_template::Tree;
 use wf_val::{EvalFault, Fun, Text, Val, wrong_type};
 
@@ -125,7 +124,7 @@ fn with_text(alloc: Global, name: &Text, now: &Val, value: Val) -> Result<Made, 
 {
     match now {
         Val::Text(text) => {
-            let more = wf_json::text(alloc, &value)?;
+            let more = wf_data::text(alloc, &value)?;
             let new = joined(alloc, text.as_str(), more.as_str())?;
             written(alloc, name, value, Val::Text(Text::from_string(new)))
         }

@@ -10,8 +10,8 @@ use Rattle.wf_layers.specs.Seen.{Once}
 use Rattle.wf_def.specs.ActionTree.{action_kind}
 use Rattle.wf_def.specs.DefTree.{DefTree}
 use Rattle.wf_def.specs.Layered.{layered}
-use Rattle.wf_order.specs.Order.{Before, Contains, Exclusive}
-use Rattle.wf_order.specs.Turns.{AreSettled, GoesInTurn, IsInTurn, IsReadWith}
+use Rattle.wf_standing.specs.Order.{Before, Contains, Exclusive}
+use Rattle.wf_standing.specs.Turns.{AreSettled, GoesInTurn, IsInTurn, IsReadWith}
 use Rattle.wf_paths.proofs.PathLemmas.{or_left, or_right}
 use Rattle.wf_standing.specs.Kinds.{is_concurrent, is_response, is_terminate}
 use Rattle.wf_standing.specs.Standing.{StandingTree, kind_at, number_at, standings_of}

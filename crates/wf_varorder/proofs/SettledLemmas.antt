@@ -9,17 +9,17 @@ use Rattle.wf_layers.specs.Seen.{Once}
 use Rattle.wf_def.specs.ActionTree.{action_kind}
 use Rattle.wf_def.specs.DefTree.{DefTree}
 use Rattle.wf_def.specs.Layered.{layered}
-use Rattle.wf_order.specs.Order.{Before, Contains, Exclusive}
+use Rattle.wf_standing.specs.Order.{Before, Contains, Exclusive}
 use Rattle.wf_paths.proofs.PathLemmas.{or_left, or_right}
-use Rattle.wf_reading.proofs.PartLemmas.{equal_keys}
-use Rattle.wf_reading.proofs.RunAfterLemmas.{append-first, append-second}
+use Rattle.wf_standing.proofs.PartLemmas.{equal_keys}
+use Rattle.wf_standing.proofs.RunAfterLemmas.{append-first, append-second}
 use Rattle.wf_standing.specs.Kinds.{is_concurrent, is_response, is_terminate}
 use Rattle.wf_standing.specs.Standing.{StandingTree, kind_at, number_at, standings_of}
 use Rattle.wf_standing.specs.Whole.{Whole, whole_of}
 use Rattle.wf_varorder.specs.Pairs.{Claim, Pair, answers_it, are_settled, clashes, concerns, ends_it, holds, is_any, is_beside_itself}
 use Rattle.wf_varorder.specs.Pairs.{pair_if, pair_of, pairs_among, pairs_by, pairs_of, pairs_over, pairs_with, reads, tracks, writes}
 use Rattle.wf_varorder.specs.Pairs.{written_by, writes_it}
-use Rattle.wf_order.specs.Turns.{AreSettled, GoesInTurn, IsInTurn, IsReadWith}
+use Rattle.wf_standing.specs.Turns.{AreSettled, GoesInTurn, IsInTurn, IsReadWith}
 use Rattle.wf_varorder.specs.Settled.{IsAccessedWith, IsWrittenInOrder, ResponsesAreInOrder, TerminatesAreInOrder}
 use Rattle.wf_varorder.specs.Settled.{VariablesAreInOrder}
 use Rattle.wf_varorder.specs.declared.rule.PairRule.{PairRule}

@@ -15,7 +15,7 @@ use Rattle.wf_def.specs.Layered.{layered, layered_cases, layered_kind, need_of, 
 use Rattle.wf_paths.proofs.PathLemmas.{or_left, or_right}
 use Rattle.wf_standing.specs.Kinds.{is_concurrent, is_loop}
 use Rattle.wf_standing.specs.Standing.{StandingTree, case_standings, graph_standings, kind_standings, number_at, standings_of}
-use Rattle.wf_order.specs.Turns.{EachLoop, EachLoopAny, EachLoopIn, GoesInTurn, IsInNoLoop, IsInTurn, Never}
+use Rattle.wf_standing.specs.Turns.{EachLoop, EachLoopAny, EachLoopIn, GoesInTurn, IsInNoLoop, IsInTurn, Never}
 
 two : (b : Bool) → (b ≡ true) ⊎ (b ≡ false)
 two true = inl refl

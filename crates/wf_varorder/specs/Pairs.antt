@@ -7,7 +7,7 @@ use Rattle.wf_val.specs.NameOrder.{bytes_cmp}
 use Rattle.wf_def.specs.ActionTree.{action_kind}
 use Rattle.wf_def.specs.DefTree.{DefTree}
 use Rattle.wf_standing.specs.Site.{Site}
-use Rattle.wf_uses.specs.UsesTree.{UsesTree}
+use Rattle.wf_standing.specs.UsesTree.{UsesTree}
 use Rattle.wf_standing.specs.Kinds.{is_concurrent, is_response, is_terminate}
 use Rattle.wf_standing.specs.Standing.{StandingTree, kind_at, number_at, pointer_at, standings_of}
 use Rattle.wf_standing.specs.Whole.{Whole, whole_of}

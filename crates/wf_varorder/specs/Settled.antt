@@ -6,7 +6,7 @@ use Rattle.wf_def.specs.Layered.{layered}
 use Rattle.wf_standing.specs.Kinds.{is_response, is_terminate}
 use Rattle.wf_standing.specs.Standing.{StandingTree, kind_at, number_at, standings_of}
 use Rattle.wf_standing.specs.Whole.{whole_of}
-use Rattle.wf_order.specs.Turns.{AreSettled, IsInTurn, IsReadWith}
+use Rattle.wf_standing.specs.Turns.{AreSettled, IsInTurn, IsReadWith}
 use Rattle.wf_varorder.specs.Pairs.{reads, tracks, writes}
 
 -- Of a variable that y writes: another action a writes it, or tracks it, in one order with y or in another branch; and what reads it as it

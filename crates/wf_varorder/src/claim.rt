@@ -1,13 +1,12 @@
 //! What an action claims of the others.
 ghost use Rattle.std.specs.Prelude.{◌≡◌, option_map};
-ghost use Rattle.wf_uses.specs.Seen.{uses_seen};
+ghost use Rattle.wf_standing.specs.UsesSeen.{uses_seen};
 ghost use Rattle.wf_standing.specs.KnownSeen.{whole_seen};
 ghost use Rattle.wf_standing.specs.Seen.{standing_tree};
 ghost use Rattle.wf_varorder.specs.Pairs.{are_settled, clashes, concerns, reads, reads_if, tracks, writes};
 ghost use Rattle.wf_varorder.specs.Seen.{claim_tree};
 
-use wf_standing::{Known, Site, Standing, is_response};
-use wf_uses::Uses;
+use wf_standing::{Known, Site, Standing, Uses, is_response};
 use wf_val::Text;
 
 /// What an action claims of the others, which they offend unless they are ordered with it or exclude it.

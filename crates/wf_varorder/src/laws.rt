@@ -6,7 +6,7 @@ ghost use Rattle.wf_def.specs.Layered.{layered};
 ghost use Rattle.wf_def.specs.Names.{graph_names};
 ghost use Rattle.wf_layers.specs.Definition.{Closed, has};
 ghost use Rattle.wf_layers.specs.Seen.{Once};
-ghost use Rattle.wf_order.specs.Order.{IsBelow};
+ghost use Rattle.wf_standing.specs.Order.{IsBelow};
 ghost use Rattle.wf_standing.specs.Standing.{number_at, standings_of};
 ghost use Rattle.wf_varorder.specs.Least.{IsLeastPair, least_from};
 ghost use Rattle.wf_varorder.specs.Pairs.{Pair, pairs_of};
@@ -26,7 +26,7 @@ pub fn no_pair_is_in_order()
         → AllByRecursion (λ s. has (layered d.top) (number_at s) ≡ true) (standings_of d.top)
         → (pairs_of d RuleOf.Responses ≡ []) ↔ ResponsesAreInOrder d }
 {
-    wf_order::order_is_exact();
+    wf_standing::order_is_exact();
 }
 
 /// The least pair is one that breaks the rule, and none is below it; there is none exactly where no pair breaks the rule.

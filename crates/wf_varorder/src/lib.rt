@@ -22,3 +22,5 @@ pub use laws::{no_pair_is_in_order, the_least_pair};
 pub use least::least_pair;
 pub use pair::Pair;
 pub use rule::PairRule;
+pub use wf_def::{Output, Param, Trigger};
+pub use wf_standing::{Def, Known, Order, RuleFault, Standing, refs, standings_of};

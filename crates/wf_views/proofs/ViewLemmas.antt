@@ -6,14 +6,14 @@ use Rattle.std.proofs.lemmas.Grind.{flat_map-append}
 use Rattle.std.specs.List.{flat_map}
 use Rattle.std.specs.Ordering.{match_ordering}
 use Rattle.wf_lists.specs.KeyOrder.{put_key}
-use Rattle.wf_look.specs.Looked.{or_null}
+use Rattle.wf_catalog.specs.Looked.{or_null}
 use Rattle.wf_val.specs.NameOrder.{bytes_cmp}
 use Rattle.wf_layers.specs.Address.{Table}
 use Rattle.wf_def.specs.ActionTree.{ActionTree, action_kind, action_name, action_number}
 use Rattle.wf_def.specs.DefTree.{DefTree}
 use Rattle.wf_def.specs.declared.graph.Action.{out-Action}
 use Rattle.wf_record.specs.Record.{Row}
-use Rattle.wf_loops.specs.Loops.{loops_of}
+use Rattle.wf_catalog.specs.Loops.{loops_of}
 use Rattle.wf_catalog.specs.Points.{graph_of}
 use Rattle.wf_catalog.specs.References.{by_name, first_level, last_of, own_loop, result_in, spots_by, upto, view_there}
 use Rattle.std.specs.Option.{option_and_then}

@@ -1,13 +1,13 @@
 -- What `actions` and `result` give, and the views that are listed for several instances and for several actions.
 use Rattle.std.specs.Prelude.{ℕ, List, [], ◌∷◌, ◌++◌, flat_map, map, take, Option, Some, None, option_map}
 use Rattle.std.specs.Option.{option_and_then}
-use Rattle.wf_look.specs.Looked.{or_null}
+use Rattle.wf_catalog.specs.Looked.{or_null}
 use Rattle.wf_val.specs.ValueTree.{ValueTree, list, trees}
 use Rattle.wf_layers.specs.Address.{Table}
 use Rattle.wf_def.specs.ActionTree.{ActionTree, action_kind, action_number}
 use Rattle.wf_def.specs.DefTree.{DefTree}
 use Rattle.wf_record.specs.Record.{Row}
-use Rattle.wf_loops.specs.Loops.{loops_of}
+use Rattle.wf_catalog.specs.Loops.{loops_of}
 use Rattle.wf_catalog.specs.Points.{action_named, graph_of}
 use Rattle.wf_catalog.specs.References.{Spots, first_level, own_loop, places_in, result_in, spots_by, upto, view_in, view_there}
 use Rattle.wf_views.specs.Loops.{beyond, common}

@@ -15,4 +15,8 @@ mod views;
 
 pub use rows::{indexes, indexes_then, row_of};
 pub use views::{result_from, view_from};
-pub use wf_catalog::{Places, kind_of, name_of};
+pub use wf_asks::{Instance, Known, Opens, Rows, Store};
+pub use wf_catalog::{
+    Decision, Look, Places, Start, Verdict, actions_have_depths, entries_stay_in_their_graph,
+    kind_of, name_of, number_of, numbers_stand_once, value_given, word_of,
+};

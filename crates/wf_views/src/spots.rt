@@ -2,7 +2,7 @@
 ghost use Rattle.std.specs.Prelude.{◌≡◌, ◌++◌, ◌≤◌, ℕ, List, IfOk, length, option_map, take};
 ghost use Rattle.wf_def.specs.ActionSeen.{action_tree, kind_tree};
 ghost use Rattle.wf_catalog.specs.References.{last_of, own_loop, spots_by, spots_in, spots_of};
-ghost use Rattle.wf_reading.specs.ReadSeen.{def_tree};
+ghost use Rattle.wf_catalog.specs.ReadSeen.{def_tree};
 ghost use Rattle.wf_views.specs.Loops.{beyond, common};
 ghost use Rattle.wf_views.specs.Seen.{rows_seen, spots_seen};
 

@@ -1,10 +1,10 @@
 //! What `actions` and `result` give.
 ghost use Rattle.std.specs.Prelude.{◌≡◌, ◌++◌, IfOk, Some, map, option_map};
 ghost use Rattle.wf_def.specs.ActionSeen.{action_tree};
-ghost use Rattle.wf_look.specs.Looked.{or_null};
+ghost use Rattle.wf_catalog.specs.Looked.{or_null};
 ghost use Rattle.wf_catalog.specs.References.{latest, view_in, view_there};
 ghost use Rattle.wf_val.specs.Seen.{tree};
-ghost use Rattle.wf_reading.specs.ReadSeen.{def_tree};
+ghost use Rattle.wf_catalog.specs.ReadSeen.{def_tree};
 ghost use Rattle.wf_catalog.specs.PlacesSeen.{named_tree};
 ghost use Rattle.wf_views.specs.Seen.{rows_seen, spots_seen};
 ghost use Rattle.wf_views.specs.Views.{result_by_loops, result_from, result_of, result_views, results_in, view_by_loops, view_from, views_at, views_in};

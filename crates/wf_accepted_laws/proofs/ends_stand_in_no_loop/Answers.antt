@@ -1,11 +1,11 @@
 use Rattle.std.proofs.Common.{◌≡◌, []}
-use Rattle.wf_def.specs.ActionTree.{action_kind}
-use Rattle.wf_def.specs.Layered.{layered}
-use Rattle.wf_order.specs.Turns.{Never}
+use Rattle.wf_known_laws.specs.ActionTree.{action_kind}
+use Rattle.wf_known_laws.specs.Layered.{layered}
+use Rattle.wf_known_laws.specs.Turns.{Never}
 use Rattle.wf_rules.specs.Broken.{offences}
 use Rattle.wf_rules.specs.Rule.{Rule}
-use Rattle.wf_standing.specs.Kinds.{is_loop}
-use Rattle.wf_varorder.proofs.TurnLemmas.{all-told, tells-loop}
+use Rattle.wf_rules.specs.Kinds.{is_loop}
+use Rattle.wf_rules.proofs.TurnLemmas.{all-told, tells-loop}
 use Rattle.wf_accepted_laws.proofs.EndLemmas.{ends-in-no-loop, stand-in-no-loop}
 use Rattle.wf_accepted_laws.proofs.SeenLemmas.{none-first_broken}
 use Rattle.wf_accepted_laws.proofs.ends_stand_in_no_loop.Goals as goal

@@ -1,7 +1,7 @@
 use Rattle.std.proofs.Common.{ℕ, length, nat_eq, sym, ap, ◌∙◌}
 use Rattle.std.specs.List.{list_any}
-use Rattle.wf_def.specs.Layered.{layered}
-use Rattle.wf_def.specs.Names.{graph_names}
+use Rattle.wf_known_laws.specs.Layered.{layered}
+use Rattle.wf_known_laws.specs.Names.{graph_names}
 use Rattle.wf_accepted_laws.proofs.ActionLemmas.{all-numbers}
 use Rattle.wf_accepted_laws.proofs.SeenLemmas.{all-seen, none-first_broken}
 use Rattle.wf_accepted_laws.proofs.references_are_seen.Goals as goal

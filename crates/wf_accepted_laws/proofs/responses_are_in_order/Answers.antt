@@ -1,14 +1,14 @@
 use Rattle.std.proofs.Common.{◌≡◌, ℕ, [], nat_eq, sym, ap, ◌∙◌, map}
 use Rattle.std.specs.List.{list_any}
 use Rattle.wf_layers.specs.Definition.{has}
-use Rattle.wf_def.specs.ActionTree.{action_kind}
-use Rattle.wf_def.specs.Layered.{layered}
-use Rattle.wf_order.specs.Turns.{Never}
+use Rattle.wf_known_laws.specs.ActionTree.{action_kind}
+use Rattle.wf_known_laws.specs.Layered.{layered}
+use Rattle.wf_known_laws.specs.Turns.{Never}
 use Rattle.wf_rules.specs.Broken.{offences}
 use Rattle.wf_rules.specs.Rule.{Rule}
-use Rattle.wf_standing.specs.Kinds.{is_loop}
-use Rattle.wf_standing.specs.Standing.{number_at, standings_of}
-use Rattle.wf_varorder.proofs.TurnLemmas.{all-told, tells-loop}
+use Rattle.wf_rules.specs.Kinds.{is_loop}
+use Rattle.wf_rules.specs.Standing.{number_at, standings_of}
+use Rattle.wf_rules.proofs.TurnLemmas.{all-told, tells-loop}
 use Rattle.wf_accepted_laws.proofs.ActionLemmas.{all-numbers}
 use Rattle.wf_accepted_laws.proofs.EndLemmas.{answers-in-order, ends-in-no-loop}
 use Rattle.wf_accepted_laws.proofs.PairLemmas.{all-numbered, no-answer-pairs}

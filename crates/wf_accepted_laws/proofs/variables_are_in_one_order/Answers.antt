@@ -1,10 +1,10 @@
 use Rattle.std.proofs.Common.{◌≡◌, ℕ, [], nat_eq, sym, ap, ◌∙◌, map}
 use Rattle.std.specs.List.{list_any}
 use Rattle.wf_layers.specs.Definition.{has}
-use Rattle.wf_def.specs.Layered.{layered}
+use Rattle.wf_known_laws.specs.Layered.{layered}
 use Rattle.wf_rules.specs.Broken.{offences}
 use Rattle.wf_rules.specs.Rule.{Rule}
-use Rattle.wf_standing.specs.Standing.{number_at, standings_of}
+use Rattle.wf_rules.specs.Standing.{number_at, standings_of}
 use Rattle.wf_accepted_laws.proofs.ActionLemmas.{all-numbers}
 use Rattle.wf_accepted_laws.proofs.PairLemmas.{all-numbered, no-variable-pairs}
 use Rattle.wf_accepted_laws.proofs.SeenLemmas.{none-first_broken}

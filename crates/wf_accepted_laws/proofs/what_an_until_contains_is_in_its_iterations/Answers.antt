@@ -1,4 +1,4 @@
-use Rattle.wf_order.proofs.HeldLemmas.{graph-holds, in-iterations}
+use Rattle.wf_known_laws.proofs.HeldLemmas.{graph-holds, in-iterations}
 use Rattle.wf_accepted_laws.proofs.what_an_until_contains_is_in_its_iterations.Goals as goal
 
 pub returns-clause-held : goal.returns-clause-held

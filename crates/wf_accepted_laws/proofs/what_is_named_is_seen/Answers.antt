@@ -1,4 +1,4 @@
-use Rattle.wf_def.specs.Layered.{layered}
+use Rattle.wf_known_laws.specs.Layered.{layered}
 use Rattle.wf_accepted_laws.proofs.InstanceLemmas.{all-at-addresses}
 use Rattle.wf_accepted_laws.proofs.what_is_named_is_seen.Goals as goal
 

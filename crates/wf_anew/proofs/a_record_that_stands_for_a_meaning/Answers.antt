@@ -1,8 +1,8 @@
 use Rattle.std.proofs.Common.{ap, refl, ◌∙◌, List, ℕ}
 use Rattle.wf_record.specs.Record.{RecordTree}
 use Rattle.wf_resubmit.specs.Refused.{numbers_of}
-use Rattle.wf_meant.specs.Record.{meaning}
-use Rattle.wf_meant.specs.Resubmitted.{pinned}
+use Rattle.wf_turns.specs.Record.{meaning}
+use Rattle.wf_turns.specs.Resubmitted.{pinned}
 use Rattle.wf_anew.proofs.StandLemmas.{asked_too, stands}
 use Rattle.wf_anew.proofs.a_record_that_stands_for_a_meaning.Goals as goal
 

@@ -1,7 +1,7 @@
 use Rattle.std.proofs.Common.{refl}
 use Rattle.wf_resubmit.specs.Refused.{numbers_of}
-use Rattle.wf_meant.specs.Record.{meaning}
-use Rattle.wf_meant.specs.Resubmitted.{pinned}
+use Rattle.wf_turns.specs.Record.{meaning}
+use Rattle.wf_turns.specs.Resubmitted.{pinned}
 use Rattle.wf_anew.proofs.FreshLemmas.{is_fresh}
 use Rattle.wf_anew.proofs.a_resubmission_is_a_fresh_run.Goals as goal
 

@@ -1,7 +1,7 @@
 use Rattle.std.proofs.Common.{refl, subst, sym, List, ℕ}
 use Rattle.wf_record.specs.Record.{RecordTree}
 use Rattle.wf_resubmit.specs.Refused.{numbers_of}
-use Rattle.wf_meant.specs.Record.{meaning}
+use Rattle.wf_turns.specs.Record.{meaning}
 use Rattle.wf_anew.specs.Layer.{layer_of, with_layer}
 use Rattle.wf_anew.specs.Standing.{StandsFor}
 use Rattle.wf_anew.proofs.StandLemmas.{asked_too, stands_again}

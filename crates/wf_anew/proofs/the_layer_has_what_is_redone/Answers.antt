@@ -1,5 +1,5 @@
 use Rattle.wf_resubmit.specs.Refused.{numbers_of}
-use Rattle.wf_meant.specs.Points.{graph_of}
+use Rattle.wf_turns.specs.Points.{graph_of}
 use Rattle.wf_anew.proofs.RedoneLemmas.{names_what_is_redone}
 use Rattle.wf_anew.proofs.the_layer_has_what_is_redone.Goals as goal
 

@@ -1,4 +1,4 @@
-use Rattle.wf_meant.specs.Record.{meaning}
+use Rattle.wf_pinned.specs.Record.{meaning}
 use Rattle.wf_formed.proofs.a_meaning_is_of_the_form.Goals as goal
 
 pub returns : goal.returns

@@ -1,6 +1,6 @@
 use Rattle.wf_pinned.specs.Old.{MayGoOn}
 use Rattle.wf_resubmit.specs.Refused.{numbers_of}
-use Rattle.wf_meant.specs.Resubmitted.{resubmitted}
+use Rattle.wf_pinned.specs.Resubmitted.{resubmitted}
 use Rattle.wf_formed.proofs.LawLemmas.{pinned_fits}
 use Rattle.wf_formed.proofs.a_resubmission_fits.Goals as goal
 

@@ -1,5 +1,5 @@
 use Rattle.wf_resubmit.specs.Refused.{numbers_of}
-use Rattle.wf_meant.specs.Resubmitted.{pinned}
+use Rattle.wf_pinned.specs.Resubmitted.{pinned}
 use Rattle.wf_formed.proofs.a_resubmission_is_of_the_form.Goals as goal
 
 pub returns : goal.returns

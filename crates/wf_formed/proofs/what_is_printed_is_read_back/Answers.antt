@@ -1,6 +1,6 @@
 use Rattle.wf_resubmit.specs.Refused.{numbers_of}
-use Rattle.wf_meant.specs.Record.{meaning}
-use Rattle.wf_meant.specs.Resubmitted.{pinned}
+use Rattle.wf_pinned.specs.Record.{meaning}
+use Rattle.wf_pinned.specs.Resubmitted.{pinned}
 use Rattle.wf_formed.proofs.LawLemmas.{fitting_in_range}
 use Rattle.wf_formed.proofs.what_is_printed_is_read_back.Goals as goal
 

@@ -1,6 +1,6 @@
 use Rattle.std.specs.Prelude.{length}
-use Rattle.wf_def.specs.Layered.{layered}
-use Rattle.wf_def.specs.Names.{graph_names}
+use Rattle.wf_meant.specs.Layered.{layered}
+use Rattle.wf_meant.specs.Names.{graph_names}
 use Rattle.wf_instance.proofs.EndLemmas.{ends_alone}
 use Rattle.wf_instance.proofs.RuleLemmas.{is_instance}
 use Rattle.wf_instance.proofs.a_definition_is_an_instance.Goals as goal

@@ -1,6 +1,6 @@
 use Rattle.std.specs.Prelude.{length}
-use Rattle.wf_def.specs.Layered.{layered}
-use Rattle.wf_def.specs.Names.{graph_names}
+use Rattle.wf_meant.specs.Layered.{layered}
+use Rattle.wf_meant.specs.Names.{graph_names}
 use Rattle.wf_instance.proofs.DepthLemmas.{depths_fall}
 use Rattle.wf_instance.proofs.depths_are_how_many_are_before.Goals as goal
 

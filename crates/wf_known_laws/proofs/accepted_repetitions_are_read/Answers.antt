@@ -1,6 +1,6 @@
 use Rattle.std.proofs.Common.{ap, ◌∙◌, Bool, cond, pos, Option}
 use Rattle.wf_val.specs.ValueTree.{ValueTree, number}
-use Rattle.wf_kinds.specs.Containers.{repetitions}
+use Rattle.wf_reading.specs.Containers.{repetitions}
 use Rattle.wf_reading.specs.Graphs.{number_in}
 use Rattle.wf_known_laws.proofs.AcceptedLemmas.{read_as_accepted}
 use Rattle.wf_known_laws.proofs.accepted_repetitions_are_read.Goals as goal

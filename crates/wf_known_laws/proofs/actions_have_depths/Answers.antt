@@ -1,5 +1,5 @@
-use Rattle.wf_form.specs.Fault.{inner_of}
-use Rattle.wf_def.specs.Layered.{layered}
+use Rattle.wf_reading.specs.Fault.{inner_of}
+use Rattle.wf_reading.specs.Layered.{layered}
 use Rattle.wf_reading.proofs.ReadLemmas.{inner-fine}
 use Rattle.wf_known_laws.proofs.DefinitionLemmas.{number_of, read-sound}
 use Rattle.wf_known_laws.proofs.ReadGraphLemmas.{graph_owns}

@@ -1,4 +1,4 @@
-use Rattle.wf_form.specs.Fault.{inner_of}
+use Rattle.wf_reading.specs.Fault.{inner_of}
 use Rattle.wf_reading.proofs.ReadLemmas.{inner-fine}
 use Rattle.wf_known_laws.proofs.DefinitionLemmas.{read-depths}
 use Rattle.wf_known_laws.proofs.each_graph_has_depths.Goals as goal

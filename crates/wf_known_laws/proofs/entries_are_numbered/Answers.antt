@@ -1,4 +1,4 @@
-use Rattle.wf_form.specs.Fault.{inner_of}
+use Rattle.wf_reading.specs.Fault.{inner_of}
 use Rattle.wf_reading.proofs.ReadLemmas.{inner-fine}
 use Rattle.wf_known_laws.proofs.DefinitionLemmas.{read-entries}
 use Rattle.wf_known_laws.proofs.entries_are_numbered.Goals as goal

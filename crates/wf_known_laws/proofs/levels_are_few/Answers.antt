@@ -1,8 +1,8 @@
 use Rattle.std.proofs.Common.{◌≡◌, ◌+◌, ◌≤◌, [], subst, arith}
-use Rattle.wf_form.specs.Fault.{inner_of, offences}
-use Rattle.wf_form.specs.Whole.{whole_of}
-use Rattle.wf_form.specs.declared.rule.Rule.{Rule}
-use Rattle.wf_def.specs.DefTree.{DefTree}
+use Rattle.wf_reading.specs.Fault.{inner_of, offences}
+use Rattle.wf_reading.specs.Whole.{whole_of}
+use Rattle.wf_reading.specs.Rule.{Rule}
+use Rattle.wf_reading.specs.DefTree.{DefTree}
 use Rattle.wf_reading.specs.Meant.{names_of}
 use Rattle.wf_reading.specs.Numbers.{number_among}
 use Rattle.wf_reading.proofs.ReadLemmas.{inner-fine, inner-well_formed}

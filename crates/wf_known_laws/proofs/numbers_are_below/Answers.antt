@@ -1,6 +1,6 @@
 use Rattle.std.proofs.Common.{◌≡◌, ℕ, true, List, length, nat_eq, sym, subst, ◌∙◌}
 use Rattle.std.specs.List.{count_by, list_any}
-use Rattle.wf_def.specs.Names.{graph_names}
+use Rattle.wf_reading.specs.Names.{graph_names}
 use Rattle.wf_reading.specs.Numbers.{is_below}
 use Rattle.wf_known_laws.proofs.LayeredLemmas.{graph-had}
 use Rattle.wf_known_laws.proofs.NumberLemmas.{below-map, place_below}

@@ -1,6 +1,6 @@
 use Rattle.std.proofs.Common.{ℕ, List, sym, subst}
 use Rattle.std.specs.List.{count_by}
-use Rattle.wf_def.specs.Names.{graph_names}
+use Rattle.wf_reading.specs.Names.{graph_names}
 use Rattle.wf_reading.specs.Numbers.{is_below}
 use Rattle.wf_known_laws.proofs.LayeredLemmas.{graph-once}
 use Rattle.wf_known_laws.proofs.NumberLemmas.{apart-map, AreApart, same_place}

@@ -4,10 +4,10 @@ use Rattle.wf_layers.proofs.Waiting.{own_has}
 use Rattle.wf_def.specs.Names.{graph_names}
 use Rattle.wf_record.specs.Cost.{row_cost}
 use Rattle.wf_record.specs.Record.{RowTree}
-use Rattle.wf_meant.specs.Points.{graph_of}
-use Rattle.wf_meant.specs.Record.{depth_of, meaning}
-use Rattle.wf_meant.specs.References.{upto}
-use Rattle.wf_meant.specs.Source.{table_of}
+use Rattle.wf_meant_laws.specs.Points.{graph_of}
+use Rattle.wf_meant_laws.specs.Record.{depth_of, meaning}
+use Rattle.wf_meant_laws.specs.References.{upto}
+use Rattle.wf_meant_laws.specs.Source.{table_of}
 use Rattle.wf_least.proofs.CountLemmas.{as_many, at_least}
 use Rattle.wf_least.proofs.RowLemmas.{one_each, rows_cost, size_is, listed}
 use Rattle.wf_least.proofs.a_run_costs_at_least_so_much.Goals as goal

@@ -5,9 +5,9 @@ use Rattle.wf_layers.specs.Machine.{has_ended, top}
 use Rattle.wf_layers.proofs.Basics.{and_of}
 use Rattle.wf_layers.proofs.Laws.{rows_where_called_for}
 use Rattle.wf_layers.proofs.Waiting.{own_has}
-use Rattle.wf_meant.specs.Points.{graph_of}
-use Rattle.wf_meant.specs.Record.{depth_of}
-use Rattle.wf_meant.specs.Source.{source, table_of}
+use Rattle.wf_meant_laws.specs.Points.{graph_of}
+use Rattle.wf_meant_laws.specs.Record.{depth_of}
+use Rattle.wf_meant_laws.specs.Source.{source, table_of}
 use Rattle.wf_record.specs.Record.{Row}
 use Rattle.wf_least.proofs.RowLemmas.{own_in}
 use Rattle.wf_least.proofs.a_run_leaves_a_row_of_each_action.Goals as goal

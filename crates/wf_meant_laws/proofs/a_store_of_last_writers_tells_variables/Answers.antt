@@ -6,9 +6,9 @@ use Rattle.wf_layers.proofs.Facts.{facts_of_states}
 use Rattle.wf_layers.proofs.Store.{store_holds, stores_run}
 use Rattle.wf_layers.proofs.Tests.{tests_in_order}
 use Rattle.wf_layers.proofs.Variables.{variables_in_order}
-use Rattle.wf_meant.specs.Points.{graph_of}
-use Rattle.wf_meant.specs.Record.{depth_of}
-use Rattle.wf_meant.specs.Source.{source, table_of}
+use Rattle.wf_instance.specs.Points.{graph_of}
+use Rattle.wf_instance.specs.Record.{depth_of}
+use Rattle.wf_instance.specs.Source.{source, table_of}
 use Rattle.wf_meant_laws.specs.Writers.{writes_to}
 use Rattle.wf_meant_laws.proofs.AnswerLemmas.{answers_itself}
 use Rattle.wf_meant_laws.proofs.a_store_of_last_writers_tells_variables.Goals as goal

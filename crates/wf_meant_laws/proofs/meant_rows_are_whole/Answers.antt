@@ -1,13 +1,13 @@
 use Rattle.std.proofs.Common.{ap, sym, ◌∙◌}
 use Rattle.std.specs.Prelude.{nat_eq}
 use Rattle.std.specs.List.{list_any}
-use Rattle.wf_def.specs.AllActions.{all_actions}
+use Rattle.wf_seen_laws.specs.AllActions.{all_actions}
 use Rattle.wf_layers.proofs.Instances.{rows_at_instances}
 use Rattle.wf_layers.proofs.Meaning.{meaning_solves}
-use Rattle.wf_refs.proofs.NumberLemmas.{numbers_are}
-use Rattle.wf_meant.specs.Points.{graph_of}
-use Rattle.wf_meant.specs.Record.{depth_of}
-use Rattle.wf_meant.specs.Source.{source, table_of}
+use Rattle.wf_instance.proofs.NumberLemmas.{numbers_are}
+use Rattle.wf_instance.specs.Points.{graph_of}
+use Rattle.wf_instance.specs.Record.{depth_of}
+use Rattle.wf_instance.specs.Source.{source, table_of}
 use Rattle.wf_seen_laws.proofs.RowLemmas.{had_turn}
 use Rattle.wf_meant_laws.proofs.AnswerLemmas.{answers_itself}
 use Rattle.wf_meant_laws.proofs.RangeLemmas.{some_found}

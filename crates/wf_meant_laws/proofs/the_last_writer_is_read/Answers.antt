@@ -4,13 +4,13 @@ use Rattle.wf_layers.specs.Address.{SeenIn, address}
 use Rattle.wf_layers.specs.Definition.{has}
 use Rattle.wf_layers.proofs.Basics.{and_in}
 use Rattle.wf_layers.specs.Variables.{SeenByTest}
-use Rattle.wf_def.specs.DefTree.{DefTree}
-use Rattle.wf_reading.specs.Read.{IsRead}
-use Rattle.wf_def.specs.Names.{graph_names}
+use Rattle.wf_seen_laws.specs.DefTree.{DefTree}
+use Rattle.wf_instance.specs.Read.{IsRead}
+use Rattle.wf_seen_laws.specs.Names.{graph_names}
 use Rattle.wf_instance.proofs.ExactLemmas.{before_has}
 use Rattle.wf_seen_laws.proofs.InnerLemmas.{seer_has}
-use Rattle.wf_meant.specs.Points.{graph_of, is_before, point_of, point_of_test}
-use Rattle.wf_meant.specs.Record.{depth_of}
+use Rattle.wf_instance.specs.Points.{graph_of, is_before, point_of, point_of_test}
+use Rattle.wf_instance.specs.Record.{depth_of}
 use Rattle.wf_meant_laws.proofs.SeeingLemmas.{Known, at_instance, at_test}
 use Rattle.wf_meant_laws.proofs.WholeLemmas.{full_of, round_of}
 use Rattle.wf_meant_laws.proofs.WriterLemmas.{last_is_read}

@@ -1,9 +1,9 @@
 use Rattle.std.proofs.Common.{ap, ◌+◌, ◌∙◌}
 use Rattle.wf_val.specs.ValueTree.{weight}
 use Rattle.wf_environment.specs.Environment as environment
-use Rattle.wf_meant.specs.Record.{depth_of, meaning}
-use Rattle.wf_meant.specs.Source.{source, table_of}
-use Rattle.wf_meant_laws.proofs.AnswerLemmas.{answers_itself}
+use Rattle.wf_paying.specs.Record.{depth_of, meaning}
+use Rattle.wf_paying.specs.Source.{source, table_of}
+use Rattle.wf_paying.proofs.AnswerLemmas.{answers_itself}
 use Rattle.wf_paying.specs.Paying.{first_cost}
 use Rattle.wf_one_stand.proofs.OneStand.{one_stand}
 use Rattle.wf_one_stand.proofs.where_a_run_stands_is_one.Goals as goal

@@ -1,4 +1,4 @@
-use Rattle.wf_meant.specs.Answering.{table_by}
+use Rattle.wf_turns.specs.Answering.{table_by}
 use Rattle.wf_paying.proofs.RowLemmas.{priced}
 use Rattle.wf_paying.proofs.runs_cost_what_rows_are_meant.Goals as goal
 

@@ -2,8 +2,8 @@ use Rattle.std.proofs.Common.{ap, sym, ◌∙◌}
 use Rattle.std.specs.Prelude.{nat_eq}
 use Rattle.std.specs.List.{list_any}
 use Rattle.wf_def.specs.AllActions.{all_actions}
-use Rattle.wf_refs.proofs.NumberLemmas.{numbers_are}
-use Rattle.wf_meant.specs.Resubmitted.{pinned_source, pinned_table, resubmitted}
+use Rattle.wf_meant_laws.proofs.NumberLemmas.{numbers_are}
+use Rattle.wf_meant_laws.specs.Resubmitted.{pinned_source, pinned_table, resubmitted}
 use Rattle.wf_meant_laws.proofs.RangeLemmas.{some_found}
 use Rattle.wf_pinned.specs.Old.{recloses, redoes}
 use Rattle.wf_pinned.proofs.PinnedLemmas.{is_answered}

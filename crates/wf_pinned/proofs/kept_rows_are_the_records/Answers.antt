@@ -1,4 +1,4 @@
-use Rattle.wf_meant.specs.Resubmitted.{resubmitted}
+use Rattle.wf_meant_laws.specs.Resubmitted.{resubmitted}
 use Rattle.wf_pinned.proofs.PinnedLemmas.{kept_is}
 use Rattle.wf_pinned.proofs.kept_rows_are_the_records.Goals as goal
 

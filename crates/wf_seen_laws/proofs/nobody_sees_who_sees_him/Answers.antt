@@ -2,7 +2,7 @@ use Rattle.std.proofs.Common.{◌≡◌, ℕ, true, List, subst}
 use Rattle.wf_layers.specs.Address.{Address, SeenIn}
 use Rattle.wf_layers.specs.Definition.{Pace, has}
 use Rattle.wf_layers.proofs.Basics.{and_in}
-use Rattle.wf_order.specs.Table.{before, order_of}
+use Rattle.wf_loops.specs.Table.{before, order_of}
 use Rattle.wf_loops.specs.Loops.{is_earlier, paces_round}
 use Rattle.wf_seen_laws.proofs.BothLemmas.{both_round, none_differs}
 use Rattle.wf_seen_laws.proofs.nobody_sees_who_sees_him.Goals as goal

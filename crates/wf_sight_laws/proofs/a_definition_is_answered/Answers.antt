@@ -1,10 +1,10 @@
 use Rattle.std.proofs.Common.{true, false, refl}
 use Rattle.wf_layers.proofs.Meaning.{meaning_solves}
 use Rattle.wf_seen_laws.proofs.RowLemmas.{all_redone}
-use Rattle.wf_meant.specs.Answering.{table_by}
-use Rattle.wf_meant.specs.Points.{graph_of}
-use Rattle.wf_meant.specs.Record.{depth_of}
-use Rattle.wf_meant.specs.Source.{source}
+use Rattle.wf_meant_laws.specs.Answering.{table_by}
+use Rattle.wf_meant_laws.specs.Points.{graph_of}
+use Rattle.wf_meant_laws.specs.Record.{depth_of}
+use Rattle.wf_meant_laws.specs.Source.{source}
 use Rattle.wf_meant_laws.proofs.AnswerLemmas.{answers_itself}
 use Rattle.wf_sight_laws.proofs.a_definition_is_answered.Goals as goal
 

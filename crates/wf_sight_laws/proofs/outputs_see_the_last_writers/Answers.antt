@@ -3,13 +3,13 @@ use Rattle.std.specs.Prelude.{length}
 use Rattle.wf_layers.specs.Definition.{has}
 use Rattle.wf_layers.proofs.Basics.{and_in}
 use Rattle.wf_def.specs.DefTree.{DefTree}
-use Rattle.wf_reading.specs.Read.{IsRead}
+use Rattle.wf_meant_laws.specs.Read.{IsRead}
 use Rattle.wf_def.specs.Names.{graph_names}
-use Rattle.wf_instance.proofs.ExactLemmas.{before_has}
+use Rattle.wf_meant_laws.proofs.ExactLemmas.{before_has}
 use Rattle.wf_seen_laws.proofs.InnerLemmas.{seer_has}
-use Rattle.wf_meant.specs.Answering.{table_by}
-use Rattle.wf_meant.specs.Points.{graph_of, is_before}
-use Rattle.wf_meant.specs.Record.{depth_of}
+use Rattle.wf_meant_laws.specs.Answering.{table_by}
+use Rattle.wf_meant_laws.specs.Points.{graph_of, is_before}
+use Rattle.wf_meant_laws.specs.Record.{depth_of}
 use Rattle.wf_meant_laws.proofs.SeeingLemmas.{Known}
 use Rattle.wf_meant_laws.proofs.WholeLemmas.{full_of}
 use Rattle.wf_sight_laws.proofs.OutputLemmas.{outputs_told, read_by_outputs}

@@ -1,8 +1,8 @@
 use Rattle.wf_layers.specs.Address.{SeenIn}
 use Rattle.wf_layers.specs.Definition.{Until}
 use Rattle.wf_layers.specs.Variables.{SeenByTest}
-use Rattle.wf_meant.specs.Answering.{table_by}
-use Rattle.wf_meant.specs.Points.{graph_of, point_of, point_of_test}
+use Rattle.wf_meant_laws.specs.Answering.{table_by}
+use Rattle.wf_meant_laws.specs.Points.{graph_of, point_of, point_of_test}
 use Rattle.wf_sight_laws.proofs.LastLemmas.{told_by_number}
 use Rattle.wf_sight_laws.proofs.OpenLemmas.{accesses_there}
 use Rattle.wf_sight_laws.proofs.sights_tell_variables.Goals as goal

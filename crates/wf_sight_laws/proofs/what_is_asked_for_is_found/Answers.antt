@@ -1,6 +1,6 @@
 use Rattle.std.proofs.Common.{◌≡◌, ℕ, List}
 use Rattle.wf_layers.specs.Definition.{Leaf}
-use Rattle.wf_meant.specs.Look.{told_at, told_in_test}
+use Rattle.wf_meant_laws.specs.Look.{told_at, told_in_test}
 use Rattle.wf_sight.specs.Variables.{variable_in}
 use Rattle.wf_sight_laws.proofs.LookLemmas.{at_opening, at_start, at_test}
 use Rattle.wf_sight_laws.proofs.TrackedLemmas.{none_broken, tracked_hold}

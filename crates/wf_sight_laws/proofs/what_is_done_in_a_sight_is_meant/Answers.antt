@@ -2,13 +2,13 @@ use Rattle.std.proofs.Common.{ap, ◌∙◌}
 use Rattle.wf_layers.specs.Definition.{Leaf}
 use Rattle.wf_look.specs.Told.{Told}
 use Rattle.wf_def.specs.ActionTree.{action_kind}
-use Rattle.wf_opening.specs.Decisions.{decided}
-use Rattle.wf_done.specs.Leaf.{begun}
-use Rattle.wf_done.specs.Tracked.{tracked_value, with_own}
-use Rattle.wf_meant.specs.Containers.{tested}
-use Rattle.wf_meant.specs.Look.{told_ending}
-use Rattle.wf_meant.specs.Record.{depth_of}
-use Rattle.wf_meant.specs.Source.{tracked_of}
+use Rattle.wf_meant_laws.specs.Decisions.{decided}
+use Rattle.wf_meant_laws.specs.Leaf.{begun}
+use Rattle.wf_meant_laws.specs.Tracked.{tracked_value, with_own}
+use Rattle.wf_meant_laws.specs.Containers.{tested}
+use Rattle.wf_meant_laws.specs.Look.{told_ending}
+use Rattle.wf_meant_laws.specs.Record.{depth_of}
+use Rattle.wf_meant_laws.specs.Source.{tracked_of}
 use Rattle.wf_sight.specs.Variables.{variable_in}
 use Rattle.wf_sight_laws.proofs.DoneLemmas.{decides_same, starts_same, tests_same}
 use Rattle.wf_sight_laws.proofs.TrackedLemmas.{none_broken, tracks_same}

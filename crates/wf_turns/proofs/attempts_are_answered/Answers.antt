@@ -1,4 +1,4 @@
-use Rattle.wf_def.specs.AllActions.{numbered}
+use Rattle.wf_known_laws.specs.AllActions.{numbered}
 use Rattle.wf_turns.proofs.AnswerLemmas.{tries_answered}
 use Rattle.wf_turns.proofs.attempts_are_answered.Goals as goal
 

@@ -4,15 +4,15 @@ use Rattle.wf_def.specs.AllActions.{numbered}
 use Rattle.wf_def.specs.DefTree.{DefTree}
 use Rattle.wf_opening.specs.DecisionSeen.{decision_tree}
 use Rattle.wf_opening.specs.Decisions.{DecisionTree}
-use Rattle.wf_environment.specs.Environment.{Environment, first_facts}
-use Rattle.wf_sight.specs.Laws.{run_of}
-use Rattle.wf_sight.specs.Seen.{known_tree}
-use Rattle.wf_sight.specs.Sight.{KnownTree, seen_at}
+use Rattle.wf_catalog.specs.Environment.{Environment, first_facts}
+use Rattle.wf_sight_laws.specs.Laws.{run_of}
+use Rattle.wf_sight_laws.specs.SightSeen.{known_tree}
+use Rattle.wf_sight_laws.specs.Sight.{KnownTree, seen_at}
 use Rattle.wf_def.specs.ActionTree.{action_kind}
 use Rattle.wf_def.specs.Layered.{layered_kind}
-use Rattle.wf_meant.specs.Look.{decided_by, told_at}
-use Rattle.wf_instance.proofs.KindLemmas.{kinds}
-use Rattle.wf_doing.specs.Seen as setting
+use Rattle.wf_catalog.specs.Look.{decided_by, told_at}
+use Rattle.wf_sight_laws.proofs.KindLemmas.{kinds}
+use Rattle.wf_paying.specs.Seen as setting
 use Rattle.wf_sight_laws.specs.Done as laws
 use Rattle.wf_actions.specs.Meant.{definition_of, environment_of, source}
 use Rattle.wf_actions.proofs.DoneLemmas.{decides_by}

@@ -3,18 +3,18 @@ use Rattle.wf_answers.specs.InputsSeen.{inputs_tree}
 use Rattle.wf_asks.specs.Instances.{address_of}
 use Rattle.wf_def.specs.AllActions.{numbered}
 use Rattle.wf_def.specs.DefTree.{DefTree}
-use Rattle.wf_done.specs.DoneSeen.{begun_tree}
+use Rattle.wf_catalog.specs.DoneSeen.{begun_tree}
 use Rattle.wf_layers.specs.Definition.{Leaf}
-use Rattle.wf_environment.specs.Environment.{Environment, first_facts}
-use Rattle.wf_meant.specs.Look.{told_at}
+use Rattle.wf_catalog.specs.Environment.{Environment, first_facts}
+use Rattle.wf_catalog.specs.Look.{told_at}
 use Rattle.wf_record.specs.Record.{Row}
-use Rattle.wf_sight.specs.Laws.{run_of}
-use Rattle.wf_views.specs.Seen.{row_content}
-use Rattle.wf_sight.specs.Seen.{known_tree}
-use Rattle.wf_sight.specs.Sight.{KnownTree, seen_at}
-use Rattle.wf_trigger.specs.StartsSeen.{start_tree}
-use Rattle.wf_doing.specs.Acting.{finished_by}
-use Rattle.wf_doing.specs.Seen as setting
+use Rattle.wf_sight_laws.specs.Laws.{run_of}
+use Rattle.wf_sight_laws.specs.Seen.{row_content}
+use Rattle.wf_sight_laws.specs.SightSeen.{known_tree}
+use Rattle.wf_sight_laws.specs.Sight.{KnownTree, seen_at}
+use Rattle.wf_catalog.specs.StartsSeen.{start_tree}
+use Rattle.wf_paying.specs.Acting.{finished_by}
+use Rattle.wf_paying.specs.Seen as setting
 use Rattle.wf_sight_laws.specs.Done as laws
 use Rattle.wf_actions.specs.Meant.{definition_of, environment_of, source}
 use Rattle.wf_actions.proofs.DoneLemmas.{finishes_as}

@@ -5,8 +5,8 @@ use Rattle.wf_layers.specs.Address.{Address, Table}
 use Rattle.wf_order.specs.OrderSeen.{order_tree}
 use Rattle.wf_order.specs.Table.{OrderTree}
 use Rattle.wf_record.specs.Record.{Row}
-use Rattle.wf_views.specs.Seen.{row_content}
-use Rattle.wf_doing.specs.Halting.{any_halts, terminates_in}
+use Rattle.wf_sight_laws.specs.Seen.{row_content}
+use Rattle.wf_paying.specs.Halting.{any_halts, terminates_in}
 use Rattle.wf_actions.specs.Meant.{definition_of, environment_of}
 use Rattle.wf_actions.proofs.acting.halts.Goals as goal
 

@@ -3,11 +3,11 @@ use Rattle.wf_answers.specs.InputsSeen.{inputs_tree}
 use Rattle.wf_asks.specs.Instances.{address_of}
 use Rattle.wf_def.specs.AllActions.{numbered}
 use Rattle.wf_def.specs.DefTree.{DefTree}
-use Rattle.wf_done.specs.DoneSeen.{begun_tree}
-use Rattle.wf_environment.specs.Environment.{Environment}
-use Rattle.wf_trigger.specs.StartsSeen.{start_tree}
-use Rattle.wf_doing.specs.Acting.{attempts_by}
-use Rattle.wf_doing.specs.Seen as setting
+use Rattle.wf_catalog.specs.DoneSeen.{begun_tree}
+use Rattle.wf_catalog.specs.Environment.{Environment}
+use Rattle.wf_catalog.specs.StartsSeen.{start_tree}
+use Rattle.wf_paying.specs.Acting.{attempts_by}
+use Rattle.wf_paying.specs.Seen as setting
 use Rattle.wf_actions.specs.Meant.{definition_of}
 use Rattle.wf_actions.proofs.acting.has_try.Goals as goal
 

@@ -1,6 +1,6 @@
 use Rattle.std.proofs.Common.{IfOk, ◌≡◌, subst, sym}
 use Rattle.wf_record.specs.Record.{Row}
-use Rattle.wf_views.specs.Seen.{row_content}
+use Rattle.wf_sight_laws.specs.Seen.{row_content}
 use Rattle.wf_actions.proofs.acting.skipped.Goals as goal
 
 pub returns : goal.returns

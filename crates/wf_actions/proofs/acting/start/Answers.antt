@@ -2,14 +2,14 @@ use Rattle.std.proofs.Common.{◌≡◌, IfOk, ap, subst, sym, ◌∙◌}
 use Rattle.wf_asks.specs.Instances.{address_of}
 use Rattle.wf_def.specs.AllActions.{numbered}
 use Rattle.wf_def.specs.DefTree.{DefTree}
-use Rattle.wf_done.specs.DoneSeen.{begun_tree}
-use Rattle.wf_done.specs.Leaf.{BegunTree}
-use Rattle.wf_environment.specs.Environment.{Environment, first_facts}
-use Rattle.wf_sight.specs.Laws.{run_of}
-use Rattle.wf_sight.specs.Seen.{known_tree}
-use Rattle.wf_sight.specs.Sight.{KnownTree, seen_at}
-use Rattle.wf_doing.specs.Acting.{begun_by}
-use Rattle.wf_doing.specs.Seen as setting
+use Rattle.wf_catalog.specs.DoneSeen.{begun_tree}
+use Rattle.wf_catalog.specs.Leaf.{BegunTree}
+use Rattle.wf_catalog.specs.Environment.{Environment, first_facts}
+use Rattle.wf_sight_laws.specs.Laws.{run_of}
+use Rattle.wf_sight_laws.specs.SightSeen.{known_tree}
+use Rattle.wf_sight_laws.specs.Sight.{KnownTree, seen_at}
+use Rattle.wf_paying.specs.Acting.{begun_by}
+use Rattle.wf_paying.specs.Seen as setting
 use Rattle.wf_sight_laws.specs.Done as laws
 use Rattle.wf_actions.specs.Meant.{definition_of, environment_of, source}
 use Rattle.wf_actions.proofs.DoneLemmas.{starts_by}

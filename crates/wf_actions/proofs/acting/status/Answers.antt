@@ -1,5 +1,5 @@
 use Rattle.std.proofs.Common.{ap, sym}
-use Rattle.wf_views.specs.Seen.{row_content}
+use Rattle.wf_sight_laws.specs.Seen.{row_content}
 use Rattle.wf_actions.proofs.acting.status.Goals as goal
 
 pub returns : goal.returns

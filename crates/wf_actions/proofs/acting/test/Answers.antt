@@ -4,17 +4,17 @@ use Rattle.wf_def.specs.AllActions.{numbered}
 use Rattle.wf_def.specs.DefTree.{DefTree}
 use Rattle.wf_opening.specs.DecisionSeen.{verdict_tree}
 use Rattle.wf_opening.specs.Verdicts.{VerdictTree}
-use Rattle.wf_environment.specs.Environment.{Environment, first_facts}
-use Rattle.wf_sight.specs.Laws.{run_of}
-use Rattle.wf_sight.specs.Seen.{known_tree}
-use Rattle.wf_sight.specs.Sight.{KnownTree, seen_in_test}
+use Rattle.wf_catalog.specs.Environment.{Environment, first_facts}
+use Rattle.wf_sight_laws.specs.Laws.{run_of}
+use Rattle.wf_sight_laws.specs.SightSeen.{known_tree}
+use Rattle.wf_sight_laws.specs.Sight.{KnownTree, seen_in_test}
 use Rattle.wf_def.specs.Layered.{layered_kind}
-use Rattle.wf_meant.specs.Look.{told_in_test}
-use Rattle.wf_doing.specs.Acting.{tested_by}
+use Rattle.wf_catalog.specs.Look.{told_in_test}
+use Rattle.wf_paying.specs.Acting.{tested_by}
 use Rattle.wf_def.specs.Layered.{layered}
-use Rattle.wf_instance.proofs.KindLemmas.{kinds}
-use Rattle.wf_meant.specs.Source.{test_of}
-use Rattle.wf_doing.specs.Seen as setting
+use Rattle.wf_sight_laws.proofs.KindLemmas.{kinds}
+use Rattle.wf_catalog.specs.Source.{test_of}
+use Rattle.wf_paying.specs.Seen as setting
 use Rattle.wf_sight_laws.specs.Done as laws
 use Rattle.wf_actions.specs.Meant.{definition_of, environment_of, source}
 use Rattle.wf_actions.proofs.DoneLemmas.{tests_as}

@@ -1,7 +1,7 @@
 use Rattle.std.proofs.Common.{[], subst, sym, ◌<◌, ◌^◌}
 use Rattle.wf_layers.specs.Meaning.{meaning}
 use Rattle.wf_actions.specs.Meant.{definition_of, depth, environment_of, graph, source}
-use Rattle.wf_doing.specs.Places.{named}
+use Rattle.wf_paying.specs.Places.{named}
 use Rattle.wf_actions.proofs.CountLemmas.{few}
 use Rattle.wf_actions.proofs.laws.keep_order.Goals as goal
 

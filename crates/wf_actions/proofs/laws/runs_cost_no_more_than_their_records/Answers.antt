@@ -1,5 +1,5 @@
 use Rattle.std.proofs.Common.{arith}
-use Rattle.wf_meant.specs.Answering.{table_by}
+use Rattle.wf_catalog.specs.Answering.{table_by}
 use Rattle.wf_actions.specs.Meant.{definition_of, environment_of, source}
 use Rattle.wf_actions.proofs.laws.runs_cost_no_more_than_their_records.Goals as goal
 

@@ -1,7 +1,7 @@
 use Rattle.std.proofs.Common.{refl, ap, ◌∙◌}
 use Rattle.wf_def.specs.AllActions.{numbered}
-use Rattle.wf_environment.specs.Environment.{fresh}
-use Rattle.wf_meant.specs.Look.{decided_by, told_at, told_in_test}
+use Rattle.wf_closing.specs.Environment.{fresh}
+use Rattle.wf_closing.specs.Look.{decided_by, told_at, told_in_test}
 use Rattle.wf_sight.specs.Variables.{variable_in}
 use Rattle.wf_doing.specs.Acting.{begun_by, closed_by, finished_by, tested_by}
 use Rattle.wf_doing.proofs.SourceLemmas.{close_is, finish_is, start_is, test_is}

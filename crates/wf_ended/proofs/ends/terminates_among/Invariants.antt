@@ -1,7 +1,7 @@
 use Rattle.std.proofs.Common.{◌≡◌, ◌++◌, drop, filter, map}
 use Rattle.wf_def.specs.ActionSeen.{action_tree}
 use Rattle.wf_def.specs.ActionTree.{action_kind, action_number}
-use Rattle.wf_meant.specs.Containers.{is_terminate}
+use Rattle.wf_catalog.specs.Containers.{is_terminate}
 use Rattle.wf_ended.proofs.ends.terminates_among.Given as goal
 
 abbrev pub invariant-loop-action : goal.invariant-loop-action

@@ -11,8 +11,8 @@ use borrow.Fn.Function.{fn_of, plain_of}
 use borrow.Fn.Kinds.{sig_of}
 use contract.Fact.{fact}
 use contract.Monad.{fact_mono}
-use Rattle.wf_reading.specs.Read.{IsRead}
-use Rattle.wf_reading.specs.ReadSeen.{def_tree}
+use Rattle.wf_catalog.specs.Read.{IsRead}
+use Rattle.wf_catalog.specs.ReadSeen.{def_tree}
 use Rattle.wf_ended.proofs.opened.was_read.Statement.{statement}
 use Rattle.wf_ended.proofs.opened.was_read.Lts as lts
 use Rattle.wf_ended.proofs.opened.was_read.Reads as reads

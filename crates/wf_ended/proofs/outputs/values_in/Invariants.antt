@@ -1,7 +1,7 @@
 use Rattle.std.proofs.Common.{◌≡◌, [], drop, map}
 use Rattle.wf_def.specs.DefSeen.{output_tree}
 use Rattle.wf_eval.specs.TreeValue.{members_after}
-use Rattle.wf_environment.specs.Ending.{output_runs}
+use Rattle.wf_catalog.specs.Ending.{output_runs}
 use Rattle.wf_ended.proofs.outputs.values_in.Given as goal
 
 -- what the outputs that are left come to, beside the values so far, is the whole

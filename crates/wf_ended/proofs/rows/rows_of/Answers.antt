@@ -3,7 +3,7 @@ use Rattle.std.proofs.lemmas.List.{map-append}
 use Rattle.std.specs.Vec.Iter.{into_iter_items}
 use Rattle.wf_lists.specs.KeyOrder.{IsInKeyOrder}
 use Rattle.wf_val.specs.Address.{address_cmp}
-use Rattle.wf_reading.specs.ReadSeen.{def_tree}
+use Rattle.wf_catalog.specs.ReadSeen.{def_tree}
 use Rattle.wf_record.specs.Record.{RowTree, address_of}
 use Rattle.wf_record.specs.Seen.{row_tree}
 use Rattle.wf_ended.specs.Found.{as_row}

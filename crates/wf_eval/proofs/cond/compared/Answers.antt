@@ -1,8 +1,8 @@
 use Rattle.std.proofs.Common.{[], ◌∷◌, ◌++◌, ap, ◌∙◌, subst}
 use Rattle.wf_val.specs.Arguments.{Gives, given}
 use Rattle.wf_val.specs.Seen.{tree}
-use Rattle.wf_look.specs.Meets.{truth_seen}
-use Rattle.wf_look.specs.Rows.{strict_row}
+use Rattle.wf_eval_expr.specs.Meets.{truth_seen}
+use Rattle.wf_eval_expr.specs.Rows.{strict_row}
 use Rattle.wf_eval.specs.Truth.{truth}
 use Rattle.wf_eval.proofs.cond.compared.Goals as goal
 

@@ -2,9 +2,9 @@ use Rattle.std.proofs.Common.{List, map}
 use Rattle.std.proofs.lemmas.Result.{err_from_is_err_and}
 use Rattle.wf_template.specs.TemplateSeen.{piece_tree}
 use Rattle.wf_template.specs.declared.template.Piece.{Piece}
-use Rattle.wf_look.specs.Outcomes.{Run}
+use Rattle.wf_eval_expr.specs.Outcomes.{Run}
 use Rattle.wf_eval.specs.TemplateValue.{piece_runs}
-use Rattle.wf_look.specs.Told.{Told}
+use Rattle.wf_eval_expr.specs.Told.{Told}
 use Rattle.wf_eval.proofs.PieceLoops.{fault_pieces, memory_pieces, measured_ends, parts_fault, parts_answer}
 use Rattle.wf_eval.proofs.template.eval_parts.Goals as goal
 

@@ -1,7 +1,7 @@
 use Rattle.std.proofs.Common.{◌≡◌, ◌+◌, ◌*◌, map, drop, []}
 use Rattle.wf_template.specs.DataTree.{data_trees, data_members, node_count, trees_count, members_count}
 use Rattle.wf_template.specs.DataSeen.{data_tree, data_member}
-use Rattle.wf_look.specs.Outcomes.{all_after}
+use Rattle.wf_eval_expr.specs.Outcomes.{all_after}
 use Rattle.wf_eval.specs.TreeValue.{tree_runs, member_runs, members_after}
 use Rattle.wf_eval.proofs.tree.+eval_tree.Given as goal
 

@@ -8,8 +8,8 @@ use Rattle.wf_template.proofs.ChainLemmas.{key_count, base_le_built}
 use Rattle.wf_folds.specs.Pairing.{is_pairing}
 use Rattle.wf_folds.specs.Paired.{nothing_paired, with_value, paired_answer}
 use Rattle.wf_folds.specs.United.{nothing_united, with_argument, united_answer}
-use Rattle.wf_functions.specs.Collected.{nothing, with_item, collected_answer}
-use Rattle.wf_functions.specs.Rows.{fitted}
+use Rattle.wf_look.specs.Collected.{nothing, with_item, collected_answer}
+use Rattle.wf_look.specs.Rows.{fitted}
 use Rattle.wf_look.specs.Args.{args_tree}
 use Rattle.wf_eval_expr.specs.Value.{runs}
 use Rattle.wf_eval_expr.proofs.Grow.{value-grows, handed_draw}

@@ -6,7 +6,7 @@ use Rattle.wf_template.specs.ChainSeen.{start_tree}
 use Rattle.wf_template.proofs.ChainLemmas.{key_count}
 use Rattle.wf_look.specs.Args.{args_tree}
 use Rattle.wf_eval_expr.specs.Seen.{chained}
-use Rattle.wf_functions.specs.Collected.{nothing, with_item}
+use Rattle.wf_look.specs.Collected.{nothing, with_item}
 use Rattle.wf_folds.specs.Paired.{nothing_paired, with_value}
 use Rattle.wf_folds.specs.PairedSeen.{paired_seen}
 use Rattle.wf_folds.specs.United.{nothing_united, with_argument}

@@ -1,5 +1,5 @@
-use Rattle.wf_asks.specs.Instances.{address_of}
-use Rattle.wf_plan.specs.PlanSeen.{entry_tree, plan_tree}
+use Rattle.wf_tables.specs.Instances.{address_of}
+use Rattle.wf_tables.specs.PlanSeen.{entry_tree, plan_tree}
 use Rattle.wf_tables.specs.Tables.{count_in}
 use Rattle.wf_events.proofs.ContainerLemmas.{container_looked, last_key}
 use Rattle.wf_events.proofs.container.kind_at.Goals as goal

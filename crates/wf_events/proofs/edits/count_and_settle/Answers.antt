@@ -1,6 +1,6 @@
 use Rattle.std.proofs.Common.{subst, sym}
 use Rattle.wf_layers.specs.Changes.{next_of}
-use Rattle.wf_asks.specs.Known.{opens_in}
+use Rattle.wf_tables.specs.Known.{opens_in}
 use Rattle.wf_events.specs.Round.{IsLast}
 use Rattle.wf_events.proofs.edits.count_and_settle.Goals as goal
 

@@ -1,7 +1,7 @@
 use Rattle.std.proofs.Common.{◌≡◌, drop, map}
 use Rattle.wf_layers.specs.Source.{all_met}
-use Rattle.wf_asks.specs.Instances.{rows_in}
-use Rattle.wf_plan.specs.PlanSeen.{wait_need}
+use Rattle.wf_tables.specs.Instances.{rows_in}
+use Rattle.wf_tables.specs.PlanSeen.{wait_need}
 use Rattle.wf_events.proofs.event.all_met.Given as goal
 
 -- those that are left are met exactly where all are

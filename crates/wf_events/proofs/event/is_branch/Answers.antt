@@ -1,6 +1,6 @@
 use Rattle.std.proofs.Common.{arith, nat_le, sym, ap, ◌∙◌}
 use Rattle.std.proofs.lemmas.List.{length-map}
-use Rattle.wf_plan.specs.PlanSeen.{branch_tree, branches_seen}
+use Rattle.wf_tables.specs.PlanSeen.{branch_tree, branches_seen}
 use Rattle.wf_events.proofs.EventLemmas.{branch_not, branch_up_to}
 use Rattle.wf_events.proofs.event.is_branch.Goals as goal
 

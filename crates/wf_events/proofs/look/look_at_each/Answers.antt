@@ -1,7 +1,7 @@
 use Rattle.std.proofs.Common.{sym, ◌∙◌}
 use Rattle.std.specs.Vec.Iter.{into_iter_items}
-use Rattle.wf_asks.specs.Instances.{rows_in}
-use Rattle.wf_plan.specs.PlanSeen.{plan_tree}
+use Rattle.wf_tables.specs.Instances.{rows_in}
+use Rattle.wf_tables.specs.PlanSeen.{plan_tree}
 use Rattle.wf_tables.specs.Tables.{count_in, events_in}
 use Rattle.wf_events.specs.Looked.{idle_at}
 use Rattle.wf_events.proofs.LookLemmas.{none_looked}

@@ -1,8 +1,8 @@
 use Rattle.std.proofs.Common.{◌≡◌, ◌≤◌, length}
 use Rattle.std.specs.Vec.Iter.{into_iter_items, into_iter_len}
 use Rattle.wf_layers.specs.Address.{Address}
-use Rattle.wf_asks.specs.Instances.{rows_in}
-use Rattle.wf_plan.specs.PlanSeen.{plan_tree}
+use Rattle.wf_tables.specs.Instances.{rows_in}
+use Rattle.wf_tables.specs.PlanSeen.{plan_tree}
 use Rattle.wf_tables.specs.Tables.{count_in, events_in}
 use Rattle.wf_events.specs.Looked.{idle_at, look_each}
 use Rattle.wf_events.proofs.look.look_at_each.Given as goal

@@ -1,8 +1,8 @@
 use Rattle.std.specs.Prelude.{None, cond}
 use Rattle.wf_layers.specs.Address.{is_own}
-use Rattle.wf_asks.specs.Instances.{rows_in}
-use Rattle.wf_asks.specs.Known.{opens_in}
-use Rattle.wf_plan.specs.PlanSeen.{list_at, plan_tree}
+use Rattle.wf_tables.specs.Instances.{rows_in}
+use Rattle.wf_tables.specs.Known.{opens_in}
+use Rattle.wf_tables.specs.PlanSeen.{list_at, plan_tree}
 use Rattle.wf_events.specs.Looked.{idle_at, open_at}
 use Rattle.wf_tables.specs.Tables.{count_in, events_in, left_in}
 use Rattle.wf_events.proofs.SettledLemmas.{settled}

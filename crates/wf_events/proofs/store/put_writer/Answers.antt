@@ -1,5 +1,5 @@
 use Rattle.std.proofs.Common.{ap, ◌∙◌}
-use Rattle.wf_asks.specs.Known.{store_in}
+use Rattle.wf_tables.specs.Known.{store_in}
 use Rattle.wf_events.proofs.WrittenLemmas.{writer_put}
 use Rattle.wf_events.proofs.store.put_writer.Goals as goal
 

@@ -1,6 +1,6 @@
 use Rattle.std.proofs.Common.{◌≡◌, ◌≤◌, ℕ, length}
 use Rattle.std.specs.Vec.Iter.{into_iter_items}
-use Rattle.wf_asks.specs.Known.{store_in}
+use Rattle.wf_tables.specs.Known.{store_in}
 use Rattle.wf_events.specs.Written.{put_each}
 use Rattle.wf_events.proofs.store.put_writers.Given as goal
 

@@ -2,7 +2,7 @@ use Rattle.std.proofs.Common.{◌≡◌, ◌++◌, ◌∷◌, [], false, IfOk, m
 use Rattle.wf_fits.specs.Fits.{along_in}
 use Rattle.wf_fits.specs.FitsSeen.{entry_tree, standing_tree}
 use Rattle.wf_fits.specs.WalkSeen.{step_tree}
-use Rattle.wf_reading.specs.ReadSeen.{def_tree}
+use Rattle.wf_catalog.specs.ReadSeen.{def_tree}
 use Rattle.wf_record.specs.Seen.{row_tree}
 use Rattle.wf_shape.specs.Standing.{Standing}
 use Rattle.wf_fits.proofs.FitLemmas.{go_on, on_turn, one_step, turn_is}

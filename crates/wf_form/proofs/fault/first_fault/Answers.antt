@@ -1,7 +1,7 @@
 use Rattle.std.proofs.Common.{◌≡◌, ◌+◌, ℕ, List, Option, Some, None, drop, get_or, option_map, string_bytes, ap, sym, ◌∙◌, arith}
 use Rattle.wf_val.specs.ValueTree.{ValueTree}
 use Rattle.wf_val.specs.Seen.{tree}
-use Rattle.wf_json.specs.Pointer.{least}
+use Rattle.wf_after.specs.Pointer.{least}
 use Rattle.wf_first.specs.First.{or_later, first_broken}
 use Rattle.wf_first.proofs.FirstLemmas.{first_step}
 use Rattle.wf_form.specs.Fault.{offences, rules_in_order}

@@ -1,7 +1,7 @@
 use Rattle.std.proofs.Common.{[], ap, ◌∙◌}
 use Rattle.std.proofs.lemmas.Result.{IfOk-weaker}
 use Rattle.wf_val.specs.Seen.{tree}
-use Rattle.wf_json.specs.Pointer.{least}
+use Rattle.wf_after.specs.Pointer.{least}
 use Rattle.wf_form.specs.Places.{places}
 use Rattle.wf_form.specs.Whole.{Whole}
 use Rattle.wf_form.specs.declared.role.Role.{Role}

@@ -1,6 +1,6 @@
 use Rattle.std.proofs.Common.{◌≡◌, ℕ, List, IfOk, option_map, string_bytes, subst, sym, ap, ◌∙◌}
 use Rattle.wf_after.specs.Waits.{bad_run_after}
-use Rattle.wf_json.specs.Pointer.{least}
+use Rattle.wf_after.specs.Pointer.{least}
 use Rattle.wf_val.proofs.ValueTreeLemmas.{pairs-members}
 use Rattle.wf_val.specs.Seen.{tree}
 use Rattle.wf_form.specs.Judge.{run_after_in}

@@ -1,5 +1,5 @@
 use Rattle.std.proofs.Common.{◌≡◌, ◌+◌, ◌++◌, ℕ, List, Option, drop, map, option_map, string_bytes, get_or, ap, ap₂, sym, ◌∙◌, arith}
-use Rattle.wf_json.specs.Pointer.{lesser, least, member_step}
+use Rattle.wf_after.specs.Pointer.{lesser, least, member_step}
 use Rattle.wf_form.specs.Actions.{in_part}
 use Rattle.wf_form.specs.KnownSeen.{whole_seen}
 use Rattle.wf_form.specs.Places.{in_members, places}

@@ -1,7 +1,7 @@
 use Rattle.std.proofs.Common.{◌≡◌, ◌*◌, ◌+◌, drop, map, option_map, string_bytes}
 use Rattle.wf_val.specs.Seen.{tree, member}
 use Rattle.wf_val.specs.ValueTree.{members, node_count, members_count}
-use Rattle.wf_json.specs.Pointer.{lesser, least}
+use Rattle.wf_after.specs.Pointer.{lesser, least}
 use Rattle.wf_form.specs.KnownSeen.{whole_seen}
 use Rattle.wf_form.specs.Places.{in_members}
 use Rattle.wf_form.proofs.walk.+least.Given as goal

@@ -1,5 +1,5 @@
 use Rattle.std.proofs.Common.{◌≡◌, ◌≤◌, ◌+◌, ◌-◌, ◌*◌, ◌^◌, drop}
-use Rattle.wf_asks.specs.Instances.{rows_in}
+use Rattle.wf_tables.specs.Instances.{rows_in}
 use Rattle.wf_meter.specs.Parts.{block_worth, row_part}
 use Rattle.wf_meter.proofs.parts.block_part.Given as goal
 

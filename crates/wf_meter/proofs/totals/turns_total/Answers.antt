@@ -1,5 +1,5 @@
 use Rattle.std.proofs.Common.{◌+◌, arith}
-use Rattle.wf_plan.specs.PlanSeen.{plan_tree}
+use Rattle.wf_tables.specs.PlanSeen.{plan_tree}
 use Rattle.wf_meter.proofs.TotalLemmas.{turns_on}
 use Rattle.wf_meter.proofs.totals.turns_total.Goals as goal
 

@@ -1,5 +1,5 @@
 use Rattle.std.proofs.Common.{◌≡◌, ◌≤◌, ◌+◌, ◌-◌, ◌*◌, ◌^◌, drop}
-use Rattle.wf_plan.specs.PlanSeen.{plan_tree}
+use Rattle.wf_tables.specs.PlanSeen.{plan_tree}
 use Rattle.wf_meter.specs.Parts.{turns_sum}
 use Rattle.wf_meter.proofs.totals.turns_total.Given as goal
 

@@ -1,5 +1,5 @@
 use Rattle.std.proofs.Common.{rules, ◌≡◌, ◌∷◌, ◌++◌, [], IfOk, ℕ, suc, ◌+◌, List, Option, Some, map, drop, get_or, add-one, ap, sym, ◌∙◌, subst, arith}
-use Rattle.wf_layers.specs.Definition as layers
+use Rattle.wf_def.specs.Definition as layers
 use Rattle.wf_def.specs.ActionSeen.{action_tree, case_tree, cases_seen, graph_tree, kind_tree}
 use Rattle.wf_def.specs.ActionTree.{action_trees, CaseTree, case_trees}
 use Rattle.wf_def.specs.Layered.{layered, layered_cases, layered_kind}

@@ -1,5 +1,5 @@
 use Rattle.std.proofs.Common.{ℕ, List, [], ◌++◌, ◌+◌, cond, drop, append_assoc, ap, sym, ◌∙◌, arith}
-use Rattle.wf_layers.specs.Definition.{is_one}
+use Rattle.wf_def.specs.Definition.{is_one}
 use Rattle.wf_def.proofs.SizeLemmas.{drop_at_place}
 use Rattle.wf_plan.specs.Plan.{BranchTree, passed_but}
 use Rattle.wf_plan.specs.PlanSeen.{branches_seen}

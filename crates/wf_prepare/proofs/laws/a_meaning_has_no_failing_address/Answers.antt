@@ -1,15 +1,15 @@
 use Rattle.wf_form.specs.Fault.{inner_of}
-use Rattle.wf_reading.proofs.ReadLemmas.{inner-fine}
-use Rattle.wf_meant.specs.Record.{depth_of, meaning}
-use Rattle.wf_meant.specs.Source.{source, table_of}
+use Rattle.wf_shaped.proofs.ReadLemmas.{inner-fine}
+use Rattle.wf_shaped.specs.Record.{depth_of, meaning}
+use Rattle.wf_shaped.specs.Source.{source, table_of}
 use Rattle.wf_shaped.proofs.KnownLemmas.{are_known}
 use Rattle.std.proofs.Common.{◌≡◌, Bool, true, false, refl, subst, sym}
-use Rattle.wf_meant.specs.Points.{graph_of}
+use Rattle.wf_shaped.specs.Points.{graph_of}
 use Rattle.wf_record.specs.Record.{Row}
 use Rattle.wf_shape.specs.Law.{Fitting, Idle}
 use Rattle.wf_shape.specs.Standing.{fails}
 use Rattle.wf_shape.proofs.NoneFails.{none_fails}
-use Rattle.wf_turns.specs.Reading.{reading}
+use Rattle.wf_shaped.specs.Reading.{reading}
 use Rattle.wf_shaped.specs.Fits.{fits_in}
 use Rattle.wf_prepare.proofs.BackLemmas.{none_fails_at}
 use Rattle.wf_prepare.proofs.IdleLemmas.{graph_idle}

@@ -1,7 +1,7 @@
 use Rattle.wf_form.specs.Fault.{inner_of}
-use Rattle.wf_reading.proofs.ReadLemmas.{inner-fine}
-use Rattle.wf_meant.specs.Record.{depth_of, meaning}
-use Rattle.wf_meant.specs.Source.{table_of}
+use Rattle.wf_shaped.proofs.ReadLemmas.{inner-fine}
+use Rattle.wf_shaped.specs.Record.{depth_of, meaning}
+use Rattle.wf_shaped.specs.Source.{table_of}
 use Rattle.wf_shaped.proofs.KnownLemmas.{are_known}
 use Rattle.wf_prepare.proofs.BackLemmas.{rows_back}
 use Rattle.wf_prepare.proofs.NamedLemmas.{none-unnamed}

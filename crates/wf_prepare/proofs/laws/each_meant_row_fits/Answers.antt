@@ -1,8 +1,8 @@
 use Rattle.std.specs.Prelude.{length}
 use Rattle.wf_def.specs.Names.{graph_names}
-use Rattle.wf_meant.specs.Points.{graph_of}
-use Rattle.wf_meant.specs.Record.{depth_of}
-use Rattle.wf_meant.specs.Source.{table_of}
+use Rattle.wf_shaped.specs.Points.{graph_of}
+use Rattle.wf_shaped.specs.Record.{depth_of}
+use Rattle.wf_shaped.specs.Source.{table_of}
 use Rattle.wf_shaped.proofs.KnownLemmas.{are_known}
 use Rattle.wf_prepare.proofs.EachLemmas.{each_meant_says, is_ordered, none_broken}
 use Rattle.wf_prepare.proofs.InitialLemmas.{has_its_sort}

@@ -1,5 +1,5 @@
 use Rattle.wf_form.specs.Fault.{inner_of}
-use Rattle.wf_reading.proofs.ReadLemmas.{inner-fine}
+use Rattle.wf_shaped.proofs.ReadLemmas.{inner-fine}
 use Rattle.wf_shaped.proofs.KnownLemmas.{are_known}
 use Rattle.wf_prepare.proofs.KeptLemmas.{whole_kept}
 use Rattle.wf_prepare.proofs.NamedLemmas.{none-unnamed}

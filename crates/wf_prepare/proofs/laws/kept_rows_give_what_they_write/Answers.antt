@@ -1,6 +1,6 @@
 use Rattle.wf_form.specs.Fault.{inner_of}
-use Rattle.wf_reading.proofs.ReadLemmas.{inner-fine}
-use Rattle.wf_meant.specs.Resubmitted.{rows_by}
+use Rattle.wf_shaped.proofs.ReadLemmas.{inner-fine}
+use Rattle.wf_shaped.specs.Resubmitted.{rows_by}
 use Rattle.wf_shaped.proofs.KnownLemmas.{are_known}
 use Rattle.wf_prepare.proofs.KeptLemmas.{each_says, gives_where_said}
 use Rattle.wf_prepare.proofs.NamedLemmas.{none-unnamed}

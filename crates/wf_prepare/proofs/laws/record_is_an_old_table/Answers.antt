@@ -1,11 +1,11 @@
 use Rattle.std.proofs.Common.{refl}
 use Rattle.wf_layers.proofs.Shaped.{shaped_is_old_table}
-use Rattle.wf_meant.specs.Points.{graph_of}
-use Rattle.wf_meant.specs.Record.{depth_of}
-use Rattle.wf_meant.specs.Resubmitted.{is_chosen, recalled, rows_by}
-use Rattle.wf_meant.specs.Source.{source}
+use Rattle.wf_shaped.specs.Points.{graph_of}
+use Rattle.wf_shaped.specs.Record.{depth_of}
+use Rattle.wf_shaped.specs.Resubmitted.{is_chosen, recalled, rows_by}
+use Rattle.wf_shaped.specs.Source.{source}
 use Rattle.wf_shaped.proofs.KnownLemmas.{are_known}
-use Rattle.wf_turns.specs.Reading.{reading}
+use Rattle.wf_shaped.specs.Reading.{reading}
 use Rattle.wf_prepare.specs.Old.{from_names, is_closed_again, is_redone}
 use Rattle.wf_prepare.proofs.ChosenLemmas.{Asked, asked, chosen_ran}
 use Rattle.wf_prepare.proofs.OldLemmas.{recalled_taken}

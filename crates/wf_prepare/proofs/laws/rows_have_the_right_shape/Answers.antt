@@ -1,8 +1,8 @@
 use Rattle.wf_layers.proofs.Shape.{meaning_has_shape}
-use Rattle.wf_meant.specs.Points.{graph_of}
-use Rattle.wf_meant.specs.Record.{depth_of}
-use Rattle.wf_meant.specs.Source.{source, table_of}
-use Rattle.wf_turns.specs.Reading.{reading}
+use Rattle.wf_shaped.specs.Points.{graph_of}
+use Rattle.wf_shaped.specs.Record.{depth_of}
+use Rattle.wf_shaped.specs.Source.{source, table_of}
+use Rattle.wf_shaped.specs.Reading.{reading}
 use Rattle.wf_prepare.proofs.laws.rows_have_the_right_shape.Goals as goal
 
 pub returns : goal.returns

@@ -5,7 +5,7 @@ use Rattle.wf_val.specs.Get.{value_of}
 use Rattle.wf_val.specs.ValueTree.{members}
 use Rattle.wf_val.specs.declared.val.Val.{Val}
 use Rattle.wf_val.proofs.NodeCountLemmas.{member-falls}
-use Rattle.wf_json.specs.Pointer.{member_step}
+use Rattle.wf_form.specs.Pointer.{member_step}
 use Rattle.wf_def.specs.ActionTree.{ActionTree}
 use Rattle.wf_def.specs.ActionSeen.{action_tree, actions_seen}
 use Rattle.wf_reading.specs.Graphs.{action_of, actions_of, branch_of, cases_of, graph_of}

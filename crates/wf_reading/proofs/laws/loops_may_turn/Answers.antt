@@ -2,7 +2,7 @@ use Rattle.std.proofs.Common.{ℕ, List, Some, None, Option, subst}
 use Rattle.std.specs.Prelude.{codes}
 use Rattle.wf_val.specs.Get.{get}
 use Rattle.wf_val.specs.ValueTree.{ValueTree}
-use Rattle.wf_layers.specs.Definition.{Turns}
+use Rattle.wf_def.specs.Definition.{Turns}
 use Rattle.wf_form.specs.Fault.{inner_of}
 use Rattle.wf_def.specs.DefTree.{DefTree}
 use Rattle.wf_def.specs.Layered.{layered}

@@ -2,11 +2,11 @@ use Rattle.std.proofs.Common.{◌+◌, List, drop, map, ap, sym, ◌∙◌, arit
 use Rattle.wf_def.proofs.SizeLemmas.{drop_at_place}
 use Rattle.wf_layers.specs.Address.{Table}
 use Rattle.wf_paths.specs.Table.{slot}
-use Rattle.wf_reading.specs.ReadSeen.{def_tree}
+use Rattle.wf_turns.specs.ReadSeen.{def_tree}
 use Rattle.wf_record.specs.Record as record_of
 use Rattle.wf_record.specs.Seen.{row_tree}
 use Rattle.wf_record.specs.declared.row.Row.{Row}
-use Rattle.wf_views.specs.Seen.{rows_seen}
+use Rattle.wf_sight_laws.specs.Seen.{rows_seen}
 use Rattle.wf_regained.specs.Kept.{with_all_kept}
 use Rattle.wf_regained.proofs.OverLemmas.{none_left}
 use Rattle.wf_regained.proofs.kept.kept_rows.Goals as goal

@@ -1,9 +1,9 @@
 use Rattle.std.proofs.Common.{◌≡◌, None, drop, map}
 use Rattle.wf_layers.specs.Address.{Address}
 use Rattle.wf_paths.specs.Table.{slot}
-use Rattle.wf_reading.specs.ReadSeen.{def_tree}
+use Rattle.wf_turns.specs.ReadSeen.{def_tree}
 use Rattle.wf_record.specs.Seen.{row_tree}
-use Rattle.wf_views.specs.Seen.{rows_seen}
+use Rattle.wf_sight_laws.specs.Seen.{rows_seen}
 use Rattle.wf_regained.specs.Kept.{with_all_kept}
 use Rattle.wf_regained.proofs.kept.kept_rows.Given as goal
 

@@ -5,7 +5,7 @@ use Rattle.wf_events.proofs.TableLemmas.{put_entry}
 use Rattle.wf_layers.specs.Address.{is_own}
 use Rattle.wf_record.specs.Record as record_of
 use Rattle.wf_record.specs.declared.row.Row.{Row}
-use Rattle.wf_views.specs.Seen.{row_content, rows_seen}
+use Rattle.wf_sight_laws.specs.Seen.{row_content, rows_seen}
 use Rattle.wf_regained.proofs.kept.put_row.Goals as goal
 
 pub returns : goal.returns

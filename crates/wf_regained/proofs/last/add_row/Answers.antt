@@ -1,10 +1,10 @@
 use Rattle.std.proofs.Common.{Bool, cond, ap, ◌∙◌}
 use Rattle.wf_asks.specs.Instances.{address_of}
 use Rattle.wf_asks.specs.Known.{store_in}
-use Rattle.wf_reading.specs.ReadSeen.{def_tree}
-use Rattle.wf_reading.specs.declared.definition.Def.{Def}
+use Rattle.wf_turns.specs.ReadSeen.{def_tree}
+use Rattle.wf_turns.specs.Def.{Def}
 use Rattle.wf_sight_laws.specs.Writes.{writes}
-use Rattle.wf_views.specs.Seen.{row_content}
+use Rattle.wf_sight_laws.specs.Seen.{row_content}
 use Rattle.wf_regained.specs.Last.{last_of}
 use Rattle.wf_regained.proofs.last.add_row.Goals as goal
 

@@ -2,7 +2,7 @@ use Rattle.std.proofs.Common.{◌+◌, List, Option, drop, ap, sym, ◌∙◌, a
 use Rattle.wf_layers.specs.Address.{Address}
 use Rattle.wf_asks.specs.Known.{store_in}
 use Rattle.wf_asks.specs.declared.known.RowAt.{RowAt}
-use Rattle.wf_reading.specs.ReadSeen.{def_tree}
+use Rattle.wf_turns.specs.ReadSeen.{def_tree}
 use Rattle.wf_record.specs.declared.row.Row.{Row}
 use Rattle.wf_regained.specs.Last.{last_from}
 use Rattle.wf_regained.proofs.OverLemmas.{next_at, none_left}

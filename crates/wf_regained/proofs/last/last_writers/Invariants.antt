@@ -1,6 +1,6 @@
 use Rattle.std.proofs.Common.{◌≡◌, ℕ, None, drop}
 use Rattle.wf_asks.specs.Known.{store_in}
-use Rattle.wf_reading.specs.ReadSeen.{def_tree}
+use Rattle.wf_turns.specs.ReadSeen.{def_tree}
 use Rattle.wf_regained.specs.Last.{last_from}
 use Rattle.wf_regained.proofs.last.last_writers.Given as goal
 

@@ -4,7 +4,7 @@ use Rattle.wf_asks.specs.Known.{store_in}
 use Rattle.wf_asks.specs.declared.instance.Instance.{Instance}
 use Rattle.wf_asks.specs.declared.known.WriterAt.{WriterAt}
 use Rattle.wf_events.proofs.WrittenLemmas.{writer_put}
-use Rattle.wf_reading.specs.ReadSeen.{def_tree}
+use Rattle.wf_turns.specs.ReadSeen.{def_tree}
 use Rattle.wf_regained.proofs.OverLemmas.{put_last, stays_last}
 use Rattle.wf_regained.proofs.last.overwrite.Goals as goal
 

@@ -1,7 +1,7 @@
 use Rattle.std.proofs.Common.{◌≡◌, ℕ, drop}
 use Rattle.wf_asks.specs.Instances.{address_of}
 use Rattle.wf_asks.specs.Known.{store_in}
-use Rattle.wf_reading.specs.ReadSeen.{def_tree}
+use Rattle.wf_turns.specs.ReadSeen.{def_tree}
 use Rattle.wf_regained.specs.Last.{each_last}
 use Rattle.wf_regained.proofs.last.overwrite_each.Given as goal
 

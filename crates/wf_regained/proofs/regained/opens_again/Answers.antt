@@ -4,14 +4,14 @@ use Rattle.wf_def.specs.ActionTree.{ActionTree, action_kind}
 use Rattle.wf_def.specs.Layered.{layered_kind}
 use Rattle.wf_def.specs.Names.{graph_names}
 use Rattle.std.specs.Prelude.{length}
-use Rattle.wf_instance.proofs.KindLemmas.{kinds}
+use Rattle.wf_sight_laws.proofs.KindLemmas.{kinds}
 use Rattle.wf_order.specs.Table.{OrderTree}
-use Rattle.wf_meant.specs.Points.{graph_of}
-use Rattle.wf_meant.specs.Record.{depth_of}
-use Rattle.wf_reading.specs.ReadSeen.{def_tree}
+use Rattle.wf_turns.specs.Points.{graph_of}
+use Rattle.wf_turns.specs.Record.{depth_of}
+use Rattle.wf_turns.specs.ReadSeen.{def_tree}
 use Rattle.wf_record.specs.Seen.{record_tree}
 use Rattle.wf_redo.specs.Sets.{again_any, redo_any}
-use Rattle.wf_standing.specs.Whole.{order_in}
+use Rattle.wf_sight_laws.specs.Whole.{order_in}
 use Rattle.wf_regained.specs.Reopened.{with_all_reopened}
 use Rattle.wf_regained.proofs.FirstLemmas.{SameSets, first_opens}
 use Rattle.wf_regained.proofs.regained.opens_again.Goals as goal

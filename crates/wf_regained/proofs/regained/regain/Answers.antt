@@ -4,13 +4,13 @@ use Rattle.wf_opening.specs.DecisionSeen.{decision_tree, verdict_tree}
 use Rattle.wf_regained.specs.First.{first_state}
 use Rattle.wf_layers.specs.Redo.{closed_again, redone}
 use Rattle.wf_layers.specs.Resubmission.{kept}
-use Rattle.wf_meant.specs.Points.{graph_of}
-use Rattle.wf_meant.specs.Record.{depth_of}
-use Rattle.wf_meant.specs.Resubmitted.{is_chosen, rows_by}
-use Rattle.wf_meant.specs.Source.{source}
-use Rattle.wf_reading.specs.ReadSeen.{def_tree}
+use Rattle.wf_turns.specs.Points.{graph_of}
+use Rattle.wf_turns.specs.Record.{depth_of}
+use Rattle.wf_turns.specs.Resubmitted.{is_chosen, rows_by}
+use Rattle.wf_turns.specs.Source.{source}
+use Rattle.wf_turns.specs.ReadSeen.{def_tree}
 use Rattle.wf_record.specs.Seen.{record_tree}
-use Rattle.wf_views.specs.Seen.{rows_seen}
+use Rattle.wf_sight_laws.specs.Seen.{rows_seen}
 use Rattle.wf_regained.proofs.FirstLemmas.{some_environment}
 use Rattle.wf_regained.proofs.LineLemmas.{kept_line}
 use Rattle.wf_regained.proofs.regained.regain.Goals as goal

@@ -5,16 +5,16 @@ use Rattle.wf_def.specs.Names.{graph_names}
 use Rattle.wf_layers.specs.Resubmission.{kept}
 use Rattle.wf_lists.proofs.KeyOrderLemmas.{in_order-map}
 use Rattle.wf_order.specs.Table.{OrderTree}
-use Rattle.wf_meant.specs.Points.{graph_of}
-use Rattle.wf_meant.specs.Record.{depth_of}
+use Rattle.wf_turns.specs.Points.{graph_of}
+use Rattle.wf_turns.specs.Record.{depth_of}
 use Rattle.wf_paths.specs.Table.{from as at_places, slot}
-use Rattle.wf_reading.specs.ReadSeen.{def_tree}
-use Rattle.wf_reading.specs.declared.definition.Def.{Def}
+use Rattle.wf_turns.specs.ReadSeen.{def_tree}
+use Rattle.wf_turns.specs.Def.{Def}
 use Rattle.wf_record.specs.Record.{address_of}
 use Rattle.wf_record.specs.Seen.{record_tree, row_tree}
 use Rattle.wf_record.specs.declared.row.Row.{Row}
 use Rattle.wf_redo.specs.Sets.{again_any, redo_any}
-use Rattle.wf_standing.specs.Whole.{order_in}
+use Rattle.wf_sight_laws.specs.Whole.{order_in}
 use Rattle.wf_val.specs.Address.{address_cmp}
 use Rattle.wf_regained.specs.Kept.{with_all_kept}
 use Rattle.wf_regained.proofs.FirstLemmas.{SameSets, as_many, first_rows, some_environment}

@@ -2,13 +2,13 @@ use Rattle.std.proofs.Common.{Option, subst, sym}
 use Rattle.wf_layers.specs.Address.{Address}
 use Rattle.wf_layers.specs.Variables.{IsLastWritten}
 use Rattle.wf_asks.specs.Known.{writer}
-use Rattle.wf_meant.specs.Points.{graph_of}
-use Rattle.wf_meant.specs.Record.{depth_of}
-use Rattle.wf_reading.specs.ReadSeen.{def_tree}
+use Rattle.wf_turns.specs.Points.{graph_of}
+use Rattle.wf_turns.specs.Record.{depth_of}
+use Rattle.wf_turns.specs.ReadSeen.{def_tree}
 use Rattle.wf_def.specs.Names.{graph_names}
 use Rattle.std.specs.Prelude.{length}
 use Rattle.wf_sight_laws.specs.Writes.{writes}
-use Rattle.wf_views.specs.Seen.{rows_seen}
+use Rattle.wf_sight_laws.specs.Seen.{rows_seen}
 use Rattle.wf_regained.proofs.LaterLemmas.{IsExact, NeverBoth, SeenAreEarlier, one_is_later, seen_later}
 use Rattle.wf_regained.proofs.NamedLemmas.{action_has}
 use Rattle.wf_regained.proofs.StoreLemmas.{store_is}

@@ -1,4 +1,4 @@
-use Rattle.wf_plan.specs.PlanSeen.{plan_tree}
+use Rattle.wf_enter.specs.PlanSeen.{plan_tree}
 use Rattle.wf_resting.proofs.RestingLemmas.{standing_next}
 use Rattle.wf_resting.proofs.graphs.standing.Goals as goal
 

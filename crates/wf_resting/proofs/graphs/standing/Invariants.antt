@@ -1,5 +1,5 @@
 use Rattle.std.proofs.Common.{◌≡◌, ◌++◌, drop}
-use Rattle.wf_plan.specs.PlanSeen.{plan_tree}
+use Rattle.wf_enter.specs.PlanSeen.{plan_tree}
 use Rattle.wf_resting.specs.Resting.{all_entered, standing}
 use Rattle.wf_resting.proofs.graphs.standing.Given as goal
 

@@ -1,8 +1,8 @@
 use Rattle.std.proofs.Common.{◌∙◌}
-use Rattle.wf_asks.specs.Instances.{rows_in}
-use Rattle.wf_asks.specs.Known.{opens_in}
-use Rattle.wf_plan.specs.PlanSeen.{plan_tree}
-use Rattle.wf_tables.specs.Tables.{count_in, left_in}
+use Rattle.wf_enter.specs.Instances.{rows_in}
+use Rattle.wf_enter.specs.Known.{opens_in}
+use Rattle.wf_enter.specs.PlanSeen.{plan_tree}
+use Rattle.wf_enter.specs.Tables.{count_in, left_in}
 use Rattle.wf_resting.specs.Resting.{resting_at}
 use Rattle.wf_resting.proofs.RestingLemmas.{looks_of_all}
 use Rattle.wf_resting.proofs.looked.first_ready.Goals as goal

@@ -1,8 +1,8 @@
 use Rattle.std.proofs.Common.{◌∙◌, arith}
-use Rattle.wf_asks.specs.Instances.{rows_in}
-use Rattle.wf_asks.specs.Known.{opens_in}
-use Rattle.wf_plan.specs.PlanSeen.{plan_tree}
-use Rattle.wf_tables.specs.Tables.{count_in, events_in, left_in}
+use Rattle.wf_enter.specs.Instances.{rows_in}
+use Rattle.wf_enter.specs.Known.{opens_in}
+use Rattle.wf_enter.specs.PlanSeen.{plan_tree}
+use Rattle.wf_enter.specs.Tables.{count_in, events_in, left_in}
 use Rattle.wf_resting.specs.Resting.{resting_at}
 use Rattle.wf_resting.proofs.RestingLemmas.{looked_done, looked_next, room_next}
 use Rattle.wf_resting.proofs.looked.look_at_all.Goals as goal

@@ -1,10 +1,10 @@
 use Rattle.std.proofs.Common.{◌≡◌, ◌≤◌, drop, length}
 use Rattle.wf_layers.specs.Address.{Address}
-use Rattle.wf_asks.specs.Instances.{rows_in}
-use Rattle.wf_asks.specs.Known.{opens_in}
-use Rattle.wf_plan.specs.PlanSeen.{plan_tree}
-use Rattle.wf_tables.specs.Tables.{count_in, events_in, left_in}
-use Rattle.wf_events.specs.Looked.{instances_at, look_each}
+use Rattle.wf_enter.specs.Instances.{rows_in}
+use Rattle.wf_enter.specs.Known.{opens_in}
+use Rattle.wf_enter.specs.PlanSeen.{plan_tree}
+use Rattle.wf_enter.specs.Tables.{count_in, events_in, left_in}
+use Rattle.wf_enter.specs.Looked.{instances_at, look_each}
 use Rattle.wf_resting.specs.Resting.{resting_at}
 use Rattle.wf_resting.proofs.looked.look_at_all.Given as goal
 

@@ -1,5 +1,5 @@
 use Rattle.std.proofs.Common.{◌≡◌, ◌+◌, ◌≤◌, drop}
-use Rattle.wf_asks.specs.Instances.{rows_in}
+use Rattle.wf_enter.specs.Instances.{rows_in}
 use Rattle.wf_resting.specs.Resting.{lacking_of}
 use Rattle.wf_resting.proofs.recount.lacking.Given as goal
 

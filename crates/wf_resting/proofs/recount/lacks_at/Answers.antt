@@ -1,5 +1,5 @@
-use Rattle.wf_asks.specs.Instances.{rows_in}
-use Rattle.wf_plan.specs.PlanSeen.{plan_tree}
+use Rattle.wf_enter.specs.Instances.{rows_in}
+use Rattle.wf_enter.specs.PlanSeen.{plan_tree}
 use Rattle.wf_resting.proofs.RestingLemmas.{entered_lacks}
 use Rattle.wf_resting.proofs.recount.lacks_at.Goals as goal
 

@@ -1,7 +1,7 @@
 use Rattle.std.proofs.Common.{◌≡◌, ◌++◌, drop}
-use Rattle.wf_asks.specs.Instances.{rows_in}
-use Rattle.wf_asks.specs.Known.{opens_in}
-use Rattle.wf_plan.specs.PlanSeen.{plan_tree}
+use Rattle.wf_enter.specs.Instances.{rows_in}
+use Rattle.wf_enter.specs.Known.{opens_in}
+use Rattle.wf_enter.specs.PlanSeen.{plan_tree}
 use Rattle.wf_resting.specs.Resting.{counts_at, lacks_at}
 use Rattle.wf_resting.proofs.recount.lacks_of.Given as goal
 

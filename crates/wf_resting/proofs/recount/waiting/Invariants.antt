@@ -1,7 +1,7 @@
 use Rattle.std.proofs.Common.{◌≡◌, ◌+◌, ◌≤◌, drop, map}
 use Rattle.wf_layers.specs.Waiting.{waiting}
-use Rattle.wf_asks.specs.Instances.{rows_in}
-use Rattle.wf_plan.specs.PlanSeen.{wait_need}
+use Rattle.wf_enter.specs.Instances.{rows_in}
+use Rattle.wf_enter.specs.PlanSeen.{wait_need}
 use Rattle.wf_resting.proofs.recount.waiting.Given as goal
 
 -- those that are counted, and those that are left to count, are all

@@ -1,5 +1,5 @@
-use Rattle.wf_asks.specs.Instances.{rows_in}
-use Rattle.wf_plan.specs.PlanSeen.{plan_tree}
+use Rattle.wf_enter.specs.Instances.{rows_in}
+use Rattle.wf_enter.specs.PlanSeen.{plan_tree}
 use Rattle.wf_resting.specs.Resting.{waits_at}
 use Rattle.wf_resting.proofs.RestingLemmas.{counts_next}
 use Rattle.wf_resting.proofs.recount.waits_of.Goals as goal

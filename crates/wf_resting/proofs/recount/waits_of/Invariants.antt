@@ -1,6 +1,6 @@
 use Rattle.std.proofs.Common.{◌≡◌, ◌++◌, drop}
-use Rattle.wf_asks.specs.Instances.{rows_in}
-use Rattle.wf_plan.specs.PlanSeen.{plan_tree}
+use Rattle.wf_enter.specs.Instances.{rows_in}
+use Rattle.wf_enter.specs.PlanSeen.{plan_tree}
 use Rattle.wf_resting.specs.Resting.{counts_at, waits_at}
 use Rattle.wf_resting.proofs.recount.waits_of.Given as goal
 

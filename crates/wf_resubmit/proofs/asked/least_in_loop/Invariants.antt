@@ -1,6 +1,6 @@
 use Rattle.std.proofs.Common.{◌≡◌, drop, map, option_map}
 use Rattle.wf_def.specs.ActionSeen.{action_tree, graph_tree}
-use Rattle.wf_order.specs.OrderSeen.{order_tree}
+use Rattle.wf_loops.specs.OrderSeen.{order_tree}
 use Rattle.wf_resubmit.specs.Least.{least_from, least_of}
 use Rattle.wf_resubmit.specs.Refused.{is_in_loop}
 use Rattle.wf_resubmit.proofs.asked.least_in_loop.Given as goal

@@ -1,7 +1,7 @@
 use Rattle.std.proofs.Common.{◌≡◌, drop, map}
 use Rattle.std.specs.List.{find}
 use Rattle.wf_def.specs.ActionSeen.{action_tree}
-use Rattle.wf_order.specs.OrderSeen.{order_tree}
+use Rattle.wf_loops.specs.OrderSeen.{order_tree}
 use Rattle.wf_resubmit.specs.Refused.{is_round}
 use Rattle.wf_resubmit.proofs.asked.loop_round.Given as goal
 

@@ -1,7 +1,7 @@
 use Rattle.std.proofs.Common.{◌≡◌, ◌+◌, ℕ, List, Option, Some, None, drop, get_or, option_map, string_bytes, ap, sym, ◌∙◌, arith}
-use Rattle.wf_def.specs.DefTree.{DefTree}
+use Rattle.wf_varorder.specs.DefTree.{DefTree}
 use Rattle.wf_json.specs.Pointer.{least}
-use Rattle.wf_reading.specs.ReadSeen.{def_tree}
+use Rattle.wf_varorder.specs.ReadSeen.{def_tree}
 use Rattle.wf_first.specs.First.{or_later, first_broken}
 use Rattle.wf_first.proofs.FirstLemmas.{first_step}
 use Rattle.wf_rules.specs.Broken.{offences, rules_in_order}

@@ -1,5 +1,5 @@
 use Rattle.std.proofs.Common.{◌≡◌, drop}
-use Rattle.wf_reading.specs.ReadSeen.{def_tree}
+use Rattle.wf_varorder.specs.ReadSeen.{def_tree}
 use Rattle.wf_first.specs.First.{first_broken}
 use Rattle.wf_rules.specs.Broken.{offences, rules_in_order}
 use Rattle.wf_rules.proofs.fault.first_among.Given as goal

@@ -1,13 +1,13 @@
 use Rattle.std.proofs.Common.{◌+◌, ℕ, Bool, List, Option, Some, None, cond, drop, map, option_map, ap, sym, ◌∙◌, arith}
-use Rattle.wf_def.proofs.SizeLemmas.{drop_at_place}
+use Rattle.wf_varorder.proofs.SizeLemmas.{drop_at_place}
 use Rattle.wf_json.specs.Pointer.{lesser, least}
 use Rattle.wf_rules.specs.Broken.{told}
-use Rattle.wf_standing.specs.KnownSeen.{whole_seen}
+use Rattle.wf_varorder.specs.KnownSeen.{whole_seen}
 use Rattle.wf_breaks.specs.Rules.{action_breaks}
-use Rattle.wf_standing.specs.Seen.{standing_tree}
-use Rattle.wf_standing.specs.Standing.{StandingTree, pointer_at}
-use Rattle.wf_standing.specs.declared.standing.Standing.{Standing}
-use Rattle.wf_standing.proofs.StandingLemmas.{pointer-seen}
+use Rattle.wf_varorder.specs.StandingSeen.{standing_tree}
+use Rattle.wf_varorder.specs.Standing.{StandingTree, pointer_at}
+use Rattle.wf_varorder.specs.StandingStanding.{Standing}
+use Rattle.wf_varorder.proofs.StandingLemmas.{pointer-seen}
 use Rattle.wf_rules.proofs.ToldLemmas.{told-more}
 use Rattle.wf_rules.proofs.fault.least_action.Goals as goal
 

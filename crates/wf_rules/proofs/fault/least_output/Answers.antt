@@ -1,11 +1,11 @@
 use Rattle.std.proofs.Common.{◌+◌, ◌++◌, ℕ, Bool, List, Option, Some, None, codes, cond, drop, map, option_map, string_bytes, ap, sym, ◌∙◌}
 use Rattle.std.proofs.Common.{arith}
-use Rattle.wf_def.proofs.SizeLemmas.{drop_at_place}
-use Rattle.wf_def.specs.DefSeen.{output_tree}
-use Rattle.wf_def.specs.declared.section.Output.{Output}
+use Rattle.wf_varorder.proofs.SizeLemmas.{drop_at_place}
+use Rattle.wf_varorder.specs.DefSeen.{output_tree}
+use Rattle.wf_varorder.specs.Output.{Output}
 use Rattle.wf_json.specs.Pointer.{lesser, least, member_step}
 use Rattle.wf_rules.specs.Broken.{told_in}
-use Rattle.wf_standing.specs.KnownSeen.{whole_seen}
+use Rattle.wf_varorder.specs.KnownSeen.{whole_seen}
 use Rattle.wf_breaks.specs.Rules.{output_breaks}
 use Rattle.wf_rules.proofs.ToldLemmas.{told_in-more}
 use Rattle.wf_rules.proofs.fault.least_output.Goals as goal

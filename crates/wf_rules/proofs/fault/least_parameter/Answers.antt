@@ -1,8 +1,8 @@
 use Rattle.std.proofs.Common.{◌+◌, ℕ, Bool, List, Option, Some, None, cond, drop, map, option_map, string_bytes, ap, sym, ◌∙◌, arith}
-use Rattle.wf_def.proofs.SizeLemmas.{drop_at_place}
-use Rattle.wf_def.specs.DefSeen.{param_tree}
-use Rattle.wf_def.specs.DefTree.{ParamTree}
-use Rattle.wf_def.specs.declared.section.Param.{Param}
+use Rattle.wf_varorder.proofs.SizeLemmas.{drop_at_place}
+use Rattle.wf_varorder.specs.DefSeen.{param_tree}
+use Rattle.wf_varorder.specs.DefTree.{ParamTree}
+use Rattle.wf_varorder.specs.Param.{Param}
 use Rattle.wf_json.specs.Pointer.{lesser, least}
 use Rattle.wf_rules.specs.Broken.{parameter_pointer, told}
 use Rattle.wf_breaks.specs.Rules.{parameter_breaks}

@@ -1,5 +1,5 @@
 use Rattle.std.proofs.Common.{◌≡◌, drop, map, option_map, string_bytes}
-use Rattle.wf_def.specs.DefSeen.{param_tree}
+use Rattle.wf_varorder.specs.DefSeen.{param_tree}
 use Rattle.wf_json.specs.Pointer.{lesser, least}
 use Rattle.wf_rules.specs.Broken.{parameter_pointer, told}
 use Rattle.wf_breaks.specs.Rules.{parameter_breaks}

@@ -1,11 +1,11 @@
 use Rattle.std.proofs.Common.{◌+◌, ◌++◌, ℕ, Bool, List, Option, Some, None, codes, cond, drop, map, option_map, string_bytes, ap, sym, ◌∙◌}
 use Rattle.std.proofs.Common.{arith}
-use Rattle.wf_def.proofs.SizeLemmas.{drop_at_place}
-use Rattle.wf_def.specs.DefSeen.{trigger_tree}
-use Rattle.wf_def.specs.declared.section.Trigger.{Trigger}
+use Rattle.wf_varorder.proofs.SizeLemmas.{drop_at_place}
+use Rattle.wf_varorder.specs.DefSeen.{trigger_tree}
+use Rattle.wf_varorder.specs.Trigger.{Trigger}
 use Rattle.wf_json.specs.Pointer.{lesser, least, member_step}
 use Rattle.wf_rules.specs.Broken.{told_in}
-use Rattle.wf_standing.specs.KnownSeen.{whole_seen}
+use Rattle.wf_varorder.specs.KnownSeen.{whole_seen}
 use Rattle.wf_breaks.specs.Rules.{trigger_breaks}
 use Rattle.wf_rules.proofs.ToldLemmas.{told_in-more}
 use Rattle.wf_rules.proofs.fault.least_trigger.Goals as goal

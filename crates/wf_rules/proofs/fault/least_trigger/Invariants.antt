@@ -1,8 +1,8 @@
 use Rattle.std.proofs.Common.{◌≡◌, codes, drop, map, option_map, string_bytes}
-use Rattle.wf_def.specs.DefSeen.{trigger_tree}
+use Rattle.wf_varorder.specs.DefSeen.{trigger_tree}
 use Rattle.wf_json.specs.Pointer.{lesser, least}
 use Rattle.wf_rules.specs.Broken.{told_in}
-use Rattle.wf_standing.specs.KnownSeen.{whole_seen}
+use Rattle.wf_varorder.specs.KnownSeen.{whole_seen}
 use Rattle.wf_breaks.specs.Rules.{trigger_breaks}
 use Rattle.wf_rules.proofs.fault.least_trigger.Given as goal
 

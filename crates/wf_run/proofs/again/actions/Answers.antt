@@ -2,9 +2,9 @@ use Rattle.std.proofs.Common.{sym, subst}
 use Rattle.wf_answers.specs.InputsSeen.{inputs_tree}
 use Rattle.wf_environment.specs.Environment.{fresh}
 use Rattle.wf_layers.specs.Resubmission.{IsOldTable}
-use Rattle.wf_meant.specs.Points.{graph_of}
-use Rattle.wf_meant.specs.Resubmitted.{pinned_source, recalled, resubmitted, rows_by}
-use Rattle.wf_meant.specs.Source.{source}
+use Rattle.wf_actions.specs.Points.{graph_of}
+use Rattle.wf_actions.specs.Resubmitted.{pinned_source, recalled, resubmitted, rows_by}
+use Rattle.wf_actions.specs.Source.{source}
 use Rattle.wf_pinned.specs.Answered.{IsAnswered}
 use Rattle.wf_pinned.specs.Old.{MayGoOn, recloses, redoes}
 use Rattle.wf_record.specs.Record.{RecordTree}

@@ -5,18 +5,18 @@ use Rattle.wf_environment.specs.Environment.{Environment}
 use Rattle.wf_kept.specs.Reached.{IsAsResumed, IsResumption, resumption}
 use Rattle.wf_layers.specs.Resubmission.{IsOldTable}
 use Rattle.wf_layers.specs.Variables.{IsLastWritten}
-use Rattle.wf_meant.specs.Points.{graph_of}
-use Rattle.wf_meant.specs.Record.{depth_of}
-use Rattle.wf_meant.specs.Resubmitted.{pinned_source, recalled, resubmitted, rows_by}
-use Rattle.wf_meant.specs.Source as sources
+use Rattle.wf_actions.specs.Points.{graph_of}
+use Rattle.wf_actions.specs.Record.{depth_of}
+use Rattle.wf_actions.specs.Resubmitted.{pinned_source, recalled, resubmitted, rows_by}
+use Rattle.wf_actions.specs.Source as sources
 use Rattle.wf_pinned.specs.Old.{recloses, redoes}
 use Rattle.wf_plan.specs.PlanSeen.{plan_tree}
 use Rattle.wf_record.specs.Record.{RecordTree}
 use Rattle.wf_record.specs.Seen.{record_tree}
 use Rattle.wf_resubmit.specs.Chosen.{MayBeRedone}
 use Rattle.wf_ended.specs.Writes as laws
-use Rattle.wf_steps.specs.Kept.{IsPlanned}
-use Rattle.wf_views.specs.Seen.{rows_seen}
+use Rattle.wf_actions.specs.Kept.{IsPlanned}
+use Rattle.wf_actions.specs.Seen.{rows_seen}
 use Rattle.wf_actions.specs.Meant.{source}
 use Rattle.wf_run.specs.Made.{Moment, moment}
 use Rattle.wf_run.specs.Runs.{definition}

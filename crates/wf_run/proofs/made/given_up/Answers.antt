@@ -1,6 +1,6 @@
 use Rattle.std.proofs.Common.{◌≡◌, sym, subst}
 use Rattle.wf_layers.specs.Meaning.{meaning}
-use Rattle.wf_views.specs.Seen.{rows_seen}
+use Rattle.wf_actions.specs.Seen.{rows_seen}
 use Rattle.wf_actions.specs.Meant.{depth, graph, source}
 use Rattle.wf_run.specs.Made.{IsAtLast}
 use Rattle.wf_run.proofs.made.given_up.Goals as goal

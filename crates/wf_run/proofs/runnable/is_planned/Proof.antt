@@ -12,10 +12,10 @@ use borrow.Fn.Function.{fn_of, plain_of}
 use borrow.Fn.Kinds.{sig_of}
 use contract.Fact.{fact}
 use contract.Monad.{fact_mono}
-use Rattle.wf_meant.specs.Points.{graph_of}
+use Rattle.wf_actions.specs.Points.{graph_of}
 use Rattle.wf_plan.specs.PlanSeen.{plan_tree}
 use Rattle.wf_reading.specs.ReadSeen.{def_tree}
-use Rattle.wf_steps.specs.Kept.{IsPlanned}
+use Rattle.wf_actions.specs.Kept.{IsPlanned}
 use Rattle.wf_run.specs.declared.runnable.Runnable.{Runnable}
 use Rattle.wf_run.proofs.runnable.is_planned.Statement.{statement}
 use Rattle.wf_run.proofs.runnable.is_planned.Lts as lts

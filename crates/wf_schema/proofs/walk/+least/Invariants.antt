@@ -1,7 +1,7 @@
 use Rattle.std.proofs.Common.{◌≡◌, ◌*◌, ◌+◌, drop, map, option_map, string_bytes}
 use Rattle.wf_val.specs.Seen.{tree, member}
 use Rattle.wf_val.specs.ValueTree.{members, trees, node_count, members_count, trees_count}
-use Rattle.wf_json.specs.Pointer.{lesser, least}
+use Rattle.wf_places.specs.Pointer.{lesser, least}
 use Rattle.wf_places.specs.Form.{in_members, in_items}
 use Rattle.wf_schema.specs.Fails.{by_schema}
 use Rattle.wf_schema.proofs.walk.+least.Given as goal

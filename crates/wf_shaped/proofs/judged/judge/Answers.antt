@@ -1,7 +1,7 @@
 use Rattle.std.proofs.Common.{ℕ, List, ap, ◌∙◌}
 use Rattle.wf_layers.specs.Address.{address}
 use Rattle.wf_def.specs.declared.graph.Action.{out-Action}
-use Rattle.wf_reading.specs.ReadSeen.{def_tree}
+use Rattle.wf_catalog.specs.ReadSeen.{def_tree}
 use Rattle.wf_record.specs.Seen.{record_tree, row_tree}
 use Rattle.wf_shape.specs.Standing.{Standing}
 use Rattle.wf_fits.specs.Fits.{fits_in, stands_in}

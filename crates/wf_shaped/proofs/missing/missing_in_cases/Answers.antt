@@ -5,7 +5,7 @@ use Rattle.wf_def.specs.declared.graph.Case.{Case, out-Case}
 use Rattle.wf_def.proofs.SizeLemmas.{case_tree-is}
 use Rattle.wf_record.specs.Seen.{record_tree}
 use Rattle.wf_shaped.specs.Least.{least_from}
-use Rattle.wf_meant.specs.References.{in_cases}
+use Rattle.wf_catalog.specs.References.{in_cases}
 use Rattle.wf_shaped.specs.Told.{indexes_inside, instances_of, missing}
 use Rattle.wf_shaped.proofs.MissingLemmas.{cut_at, least_of_both}
 use Rattle.wf_shaped.proofs.missing.missing_in_cases.Goals as goal

@@ -3,7 +3,7 @@ use Rattle.wf_def.specs.ActionSeen.{case_tree, cases_seen}
 use Rattle.wf_def.specs.ActionTree.{case_trees}
 use Rattle.wf_record.specs.Seen.{record_tree}
 use Rattle.wf_shaped.specs.Least.{least_from}
-use Rattle.wf_meant.specs.References.{in_cases}
+use Rattle.wf_catalog.specs.References.{in_cases}
 use Rattle.wf_shaped.specs.Told.{indexes_inside, instances_of, missing}
 use Rattle.wf_shaped.proofs.missing.missing_in_cases.Given as goal
 

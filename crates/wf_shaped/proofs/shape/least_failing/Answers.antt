@@ -1,7 +1,7 @@
 use Rattle.std.proofs.Common.{List, flat_map, map, ap, ◌∙◌}
 use Rattle.std.proofs.Math.Logic.{∥∥₁_elim}
-use Rattle.wf_reading.specs.ReadSeen.{def_tree}
-use Rattle.wf_reading.specs.declared.definition.Def.{Def}
+use Rattle.wf_catalog.specs.ReadSeen.{def_tree}
+use Rattle.wf_catalog.specs.ReadingDef.{Def}
 use Rattle.wf_record.specs.Seen.{record_tree, row_tree}
 use Rattle.wf_record.specs.declared.row.Row.{Row}
 use Rattle.wf_shaped.specs.Failing.{fails_at, told_in}

@@ -1,6 +1,6 @@
 use Rattle.std.proofs.Common.{◌≡◌, IfOk, subst}
 use Rattle.wf_def.specs.ActionSeen.{action_tree}
-use Rattle.wf_reading.specs.ReadSeen.{def_tree}
+use Rattle.wf_catalog.specs.ReadSeen.{def_tree}
 use Rattle.wf_record.specs.Seen.{record_tree, row_tree}
 use Rattle.wf_shaped.specs.Failing.{told_judged}
 use Rattle.wf_shaped.specs.Least.{least_from}

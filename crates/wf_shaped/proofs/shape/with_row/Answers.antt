@@ -1,6 +1,6 @@
 use Rattle.std.proofs.Common.{◌≡◌, IfOk, Option, subst}
 use Rattle.wf_def.specs.ActionTree.{ActionTree}
-use Rattle.wf_reading.specs.ReadSeen.{def_tree}
+use Rattle.wf_catalog.specs.ReadSeen.{def_tree}
 use Rattle.wf_record.specs.Seen.{record_tree, row_tree}
 use Rattle.wf_shaped.specs.Failing.{told_by_action}
 use Rattle.wf_shaped.specs.Least.{least_from}

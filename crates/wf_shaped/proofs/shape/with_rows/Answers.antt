@@ -1,6 +1,6 @@
 use Rattle.std.proofs.Common.{List, ◌+◌, drop, flat_map, map, ap, sym, ◌∙◌, arith}
 use Rattle.wf_val.specs.declared.address.Address.{Address}
-use Rattle.wf_reading.specs.ReadSeen.{def_tree}
+use Rattle.wf_catalog.specs.ReadSeen.{def_tree}
 use Rattle.wf_record.specs.Seen.{record_tree, row_tree}
 use Rattle.wf_record.specs.declared.row.Row.{Row}
 use Rattle.wf_shaped.specs.Failing.{told_in}

@@ -1,5 +1,5 @@
 use Rattle.std.proofs.Common.{◌≡◌, drop, flat_map, map}
-use Rattle.wf_reading.specs.ReadSeen.{def_tree}
+use Rattle.wf_catalog.specs.ReadSeen.{def_tree}
 use Rattle.wf_record.specs.Seen.{record_tree, row_tree}
 use Rattle.wf_shaped.specs.Failing.{told_in}
 use Rattle.wf_shaped.specs.Least.{least_from}

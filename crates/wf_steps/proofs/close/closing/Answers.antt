@@ -1,6 +1,6 @@
 use Rattle.std.proofs.Common.{option_map, ap, ◌∙◌}
-use Rattle.wf_asks.specs.Instances.{address_of, rows_in}
-use Rattle.wf_plan.specs.PlanSeen.{at_place, plan_tree}
+use Rattle.wf_events.specs.Instances.{address_of, rows_in}
+use Rattle.wf_events.specs.PlanSeen.{at_place, plan_tree}
 use Rattle.wf_events.specs.Closed.{iterations_by}
 use Rattle.wf_steps.proofs.CloseLemmas.{seen_test}
 use Rattle.wf_steps.proofs.close.closing.Goals as goal

@@ -1,5 +1,5 @@
 use Rattle.std.proofs.Common.{Some, cond, ap, ◌∙◌}
-use Rattle.wf_asks.specs.Instances.{address_of}
+use Rattle.wf_events.specs.Instances.{address_of}
 use Rattle.wf_events.specs.Written.{put_each}
 use Rattle.wf_events.proofs.WrittenLemmas.{written_all}
 use Rattle.wf_steps.proofs.end.ending.Goals as goal

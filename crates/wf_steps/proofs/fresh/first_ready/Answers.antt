@@ -1,8 +1,8 @@
 use Rattle.std.proofs.Common.{◌∙◌}
-use Rattle.wf_asks.specs.Instances.{rows_in}
-use Rattle.wf_plan.specs.PlanSeen.{plan_tree}
+use Rattle.wf_events.specs.Instances.{rows_in}
+use Rattle.wf_events.specs.PlanSeen.{plan_tree}
 use Rattle.wf_events.specs.Looked.{idle_at}
-use Rattle.wf_tables.specs.Tables.{count_in}
+use Rattle.wf_events.specs.Tables.{count_in}
 use Rattle.wf_steps.proofs.FreshLemmas.{events_of_top}
 use Rattle.wf_steps.proofs.fresh.first_ready.Goals as goal
 

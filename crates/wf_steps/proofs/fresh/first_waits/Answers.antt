@@ -1,5 +1,5 @@
 use Rattle.std.proofs.Common.{◌∙◌}
-use Rattle.wf_plan.specs.PlanSeen.{plan_tree}
+use Rattle.wf_events.specs.PlanSeen.{plan_tree}
 use Rattle.wf_steps.proofs.FreshLemmas.{counts_of_top}
 use Rattle.wf_steps.proofs.fresh.first_waits.Goals as goal
 

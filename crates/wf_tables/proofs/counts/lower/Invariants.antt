@@ -1,7 +1,7 @@
 use Rattle.std.proofs.Common.{◌≡◌, ◌≤◌, ◌&&◌, cond, drop}
-use Rattle.wf_layers.specs.Address.{Address, same_at}
+use Rattle.wf_plan.specs.Address.{Address, same_at}
 use Rattle.wf_kept.specs.Counted.{less}
-use Rattle.wf_asks.specs.Known.{is_among}
+use Rattle.wf_plan.specs.Known.{is_among}
 use Rattle.wf_plan.specs.Once.{AreDistinct}
 use Rattle.wf_tables.specs.Tables.{count_in}
 use Rattle.wf_tables.proofs.counts.lower.Given as goal

@@ -1,6 +1,6 @@
 use Rattle.std.proofs.Common.{◌≡◌, ◌≤◌, length}
 use Rattle.std.specs.Vec.Iter.{into_iter_items}
-use Rattle.wf_layers.specs.Address.{Address}
+use Rattle.wf_plan.specs.Address.{Address}
 use Rattle.wf_tables.specs.Counts.{set_all}
 use Rattle.wf_tables.specs.Tables.{count_in}
 use Rattle.wf_tables.proofs.counts.set_counts.Given as goal

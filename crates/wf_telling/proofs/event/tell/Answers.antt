@@ -1,12 +1,12 @@
 use Rattle.std.proofs.Common.{◌∙◌, option_map}
 use Rattle.wf_answers.specs.InputsSeen.{inputs_tree}
 use Rattle.wf_asks.specs.Known.{open_tree}
-use Rattle.wf_done.specs.DoneSeen.{begun_tree}
-use Rattle.wf_meant.specs.Answering.{table_by}
-use Rattle.wf_opening.specs.DecisionSeen.{decision_tree, verdict_tree}
+use Rattle.wf_trace.specs.DoneSeen.{begun_tree}
+use Rattle.wf_doing.specs.Answering.{table_by}
+use Rattle.wf_trace.specs.DecisionSeen.{decision_tree, verdict_tree}
 use Rattle.wf_tables.specs.Tables.{leaf_tree}
-use Rattle.wf_trigger.specs.StartsSeen.{start_tree}
-use Rattle.wf_views.specs.Seen.{row_content}
+use Rattle.wf_doing.specs.StartsSeen.{start_tree}
+use Rattle.wf_doing.specs.ViewsSeen.{row_content}
 use Rattle.wf_doing.specs.Seen.{definition_of}
 use Rattle.wf_telling.proofs.ToldLemmas.{told_is}
 use Rattle.wf_telling.proofs.event.tell.Goals as goal

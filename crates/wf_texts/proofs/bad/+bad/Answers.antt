@@ -3,7 +3,7 @@ use Rattle.wf_val.specs.Seen.{tree, member}
 use Rattle.wf_val.specs.ValueTree.{node_count, members, members_count, trees, trees_count}
 use Rattle.wf_val.specs.declared.val.Val.{Val}
 use Rattle.wf_val.proofs.NodeCountLemmas.{item_count-le, member_count-le}
-use Rattle.wf_json.specs.Pointer.{lesser, least, member_step}
+use Rattle.wf_kinds.specs.Pointer.{lesser, least, member_step}
 use Rattle.wf_texts.specs.Bad.{bad_texts, bad_items, bad_members}
 use Rattle.wf_texts.proofs.TextLemmas.{drop_at_place, item_more, part_more}
 use Rattle.wf_texts.proofs.bad.+bad.Goals as goal

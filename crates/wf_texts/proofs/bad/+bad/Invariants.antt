@@ -1,7 +1,7 @@
 use Rattle.std.proofs.Common.{◌≡◌, ◌*◌, ◌+◌, drop, map, option_map, string_bytes}
 use Rattle.wf_val.specs.Seen.{tree, member}
 use Rattle.wf_val.specs.ValueTree.{members, node_count, members_count, trees, trees_count}
-use Rattle.wf_json.specs.Pointer.{lesser, least}
+use Rattle.wf_kinds.specs.Pointer.{lesser, least}
 use Rattle.wf_texts.specs.Bad.{bad_items, bad_members}
 use Rattle.wf_texts.proofs.bad.+bad.Given as goal
 

@@ -4,7 +4,7 @@ use Rattle.std.proofs.lemmas.Result.{IfOk-weaker}
 use Rattle.wf_val.specs.Get.{get}
 use Rattle.wf_val.specs.Seen.{tree}
 use Rattle.wf_val.specs.ValueTree.{ValueTree}
-use Rattle.wf_json.specs.Pointer.{member_step}
+use Rattle.wf_kinds.specs.Pointer.{member_step}
 use Rattle.wf_texts.specs.Members.{along, to, to_each}
 use Rattle.wf_texts.proofs.TextLemmas.{under}
 use Rattle.wf_texts.proofs.members.along_variables.Goals as goal

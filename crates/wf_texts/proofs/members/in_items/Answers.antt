@@ -2,7 +2,7 @@ use Rattle.std.proofs.Common.{◌+◌, ◌∙◌, ℕ, List, [], ◌∷◌, Opti
 use Rattle.wf_val.specs.Seen.{tree}
 use Rattle.wf_val.specs.ValueTree.{ValueTree, trees}
 use Rattle.wf_val.specs.declared.val.Val.{Val}
-use Rattle.wf_json.specs.Pointer.{lesser, least}
+use Rattle.wf_kinds.specs.Pointer.{lesser, least}
 use Rattle.wf_texts.specs.Members.{along, in_items, to}
 use Rattle.wf_texts.proofs.TextLemmas.{drop_at_place, item_more}
 use Rattle.wf_texts.proofs.members.in_items.Goals as goal

@@ -1,7 +1,7 @@
 use Rattle.std.proofs.Common.{◌≡◌, [], ◌∷◌, drop, map, option_map, string_bytes}
 use Rattle.wf_val.specs.Seen.{tree}
 use Rattle.wf_val.specs.ValueTree.{trees}
-use Rattle.wf_json.specs.Pointer.{lesser, least}
+use Rattle.wf_kinds.specs.Pointer.{lesser, least}
 use Rattle.wf_texts.specs.Members.{along, in_items, to}
 use Rattle.wf_texts.proofs.members.in_items.Given as goal
 

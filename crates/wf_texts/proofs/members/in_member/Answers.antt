@@ -2,7 +2,7 @@ use Rattle.std.proofs.Common.{◌∙◌, ℕ, List}
 use Rattle.std.proofs.lemmas.Result.{IfOk-weaker}
 use Rattle.wf_val.specs.Seen.{tree}
 use Rattle.wf_val.specs.ValueTree.{ValueTree}
-use Rattle.wf_json.specs.Pointer.{member_step}
+use Rattle.wf_kinds.specs.Pointer.{member_step}
 use Rattle.wf_texts.specs.Bad.{bad_texts}
 use Rattle.wf_texts.proofs.TextLemmas.{under}
 use Rattle.wf_texts.proofs.members.in_member.Goals as goal

@@ -2,7 +2,7 @@ use Rattle.std.proofs.Common.{◌+◌, ◌∙◌, ℕ, List, Option, drop, map, 
 use Rattle.wf_val.specs.Seen.{tree, member}
 use Rattle.wf_val.specs.ValueTree.{members}
 use Rattle.wf_val.specs.declared.val.Val.{Val}
-use Rattle.wf_json.specs.Pointer.{lesser, least}
+use Rattle.wf_kinds.specs.Pointer.{lesser, least}
 use Rattle.wf_texts.specs.Bad.{bad_texts}
 use Rattle.wf_texts.specs.Members.{in_members_but, in_other}
 use Rattle.wf_texts.proofs.TextLemmas.{drop_at_place, more}

@@ -1,7 +1,7 @@
 use Rattle.std.proofs.Common.{◌≡◌, drop, map, option_map, string_bytes}
 use Rattle.wf_val.specs.Seen.{member}
 use Rattle.wf_val.specs.ValueTree.{members}
-use Rattle.wf_json.specs.Pointer.{lesser, least}
+use Rattle.wf_kinds.specs.Pointer.{lesser, least}
 use Rattle.wf_texts.specs.Bad.{bad_texts}
 use Rattle.wf_texts.specs.Members.{in_members_but}
 use Rattle.wf_texts.proofs.members.in_members_but.Given as goal

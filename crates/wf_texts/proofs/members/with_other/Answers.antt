@@ -3,7 +3,7 @@ use Rattle.std.specs.Prelude.{bytes_eq}
 use Rattle.std.proofs.lemmas.Result.{IfOk-weaker}
 use Rattle.wf_val.specs.Seen.{tree}
 use Rattle.wf_val.specs.ValueTree.{ValueTree}
-use Rattle.wf_json.specs.Pointer.{lesser, member_step}
+use Rattle.wf_kinds.specs.Pointer.{lesser, member_step}
 use Rattle.wf_texts.specs.Bad.{bad_texts}
 use Rattle.wf_texts.proofs.TextLemmas.{under}
 use Rattle.wf_texts.proofs.members.with_other.Goals as goal

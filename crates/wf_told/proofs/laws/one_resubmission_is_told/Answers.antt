@@ -1,4 +1,4 @@
-use Rattle.wf_meant.specs.Resubmitted.{resubmitted}
+use Rattle.wf_prepare.specs.Resubmitted.{resubmitted}
 use Rattle.wf_told.proofs.ResubmissionLemmas.{one_text}
 use Rattle.wf_told.proofs.laws.one_resubmission_is_told.Goals as goal
 

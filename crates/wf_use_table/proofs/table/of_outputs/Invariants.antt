@@ -1,6 +1,6 @@
 use Rattle.std.proofs.Common.{◌≡◌, map, take}
 use Rattle.wf_def.specs.DefSeen.{output_tree}
-use Rattle.wf_uses.specs.Seen.{uses_seen}
+use Rattle.wf_refs.specs.UsesSeen.{uses_seen}
 use Rattle.wf_refs.specs.Sites.{uses_at_output}
 use Rattle.wf_use_table.proofs.table.of_outputs.Given as goal
 

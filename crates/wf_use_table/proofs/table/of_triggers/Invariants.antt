@@ -1,6 +1,6 @@
 use Rattle.std.proofs.Common.{◌≡◌, map, take}
 use Rattle.wf_def.specs.DefSeen.{trigger_tree}
-use Rattle.wf_uses.specs.Seen.{uses_seen}
+use Rattle.wf_refs.specs.UsesSeen.{uses_seen}
 use Rattle.wf_refs.specs.Sites.{uses_at_trigger}
 use Rattle.wf_use_table.proofs.table.of_triggers.Given as goal
 

@@ -3,7 +3,7 @@ use Rattle.wf_val.specs.Seen.{tree}
 use Rattle.wf_val.specs.ValueTree.{ValueTree}
 use Rattle.wf_def.specs.ActionSeen.{action_tree, kind_tree}
 use Rattle.wf_catalog.specs.References.{first_level}
-use Rattle.wf_reading.specs.ReadSeen.{def_tree}
+use Rattle.wf_catalog.specs.ReadSeen.{def_tree}
 use Rattle.wf_catalog.specs.PlacesSeen.{named_tree}
 use Rattle.wf_views.specs.Seen.{rows_seen}
 use Rattle.wf_views.proofs.ViewLemmas.{result_given}

@@ -1,5 +1,5 @@
 use Rattle.std.proofs.Common.{refl}
-use Rattle.wf_environment.specs.Environment.{Environment}
+use Rattle.wf_catalog.specs.Environment.{Environment}
 use Rattle.wf_actions.specs.Acting.{begun_with, ready_definition}
 use Rattle.wf_actions.proofs.actions.Actions.of.Goals as goal
 

@@ -1,13 +1,13 @@
 use Rattle.std.proofs.Common.{List, Option, ℕ, option_map, subst}
 use Rattle.wf_asks.specs.Known.{open_tree}
 use Rattle.wf_def.specs.DefTree.{DefTree}
-use Rattle.wf_done.specs.DoneSeen.{begun_tree}
-use Rattle.wf_environment.specs.Environment.{Environment}
+use Rattle.wf_catalog.specs.DoneSeen.{begun_tree}
+use Rattle.wf_catalog.specs.Environment.{Environment}
 use Rattle.wf_opening.specs.DecisionSeen.{decision_tree, verdict_tree}
 use Rattle.wf_record.specs.Record.{Row}
 use Rattle.wf_tables.specs.Tables.{event_tree, leaf_tree}
-use Rattle.wf_views.specs.Seen.{row_content}
-use Rattle.wf_doing.specs.Seen as setting
+use Rattle.wf_sight_laws.specs.Seen.{row_content}
+use Rattle.wf_paying.specs.Seen as setting
 use Rattle.wf_telling.specs.Lines.{Container, Leaf}
 use Rattle.wf_telling.specs.Telling.{IsTold}
 use Rattle.wf_actions.specs.Meant.{environment_of, source}

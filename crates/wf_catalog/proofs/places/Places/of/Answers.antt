@@ -4,7 +4,7 @@ use Rattle.std.specs.Coded.{Coded-set, coded_list, coded_ℕ}
 use Rattle.std.specs.List.{find}
 use Rattle.wf_def.specs.ActionSeen.{action_tree}
 use Rattle.wf_meant.specs.Points.{has_action_name}
-use Rattle.wf_reading.specs.ReadSeen.{def_tree}
+use Rattle.wf_known_laws.specs.ReadSeen.{def_tree}
 use Rattle.wf_catalog.specs.PlacesSeen.{entry_of, number_in}
 use Rattle.wf_catalog.specs.Variables.{first_place, written_names}
 use Rattle.wf_catalog.specs.Walk.{Walked, is_at}

@@ -1,13 +1,13 @@
 use Rattle.std.proofs.Common.{◌≡◌, sym, subst}
 use Rattle.wf_answers.specs.InputsSeen.{inputs_tree}
 use Rattle.wf_layers.specs.Address.{Table}
-use Rattle.wf_environment.specs.Environment.{Environment, fresh}
-use Rattle.wf_meant.specs.Answering.{table_by}
-use Rattle.wf_meant_laws.specs.Tables.{AreWhole}
-use Rattle.wf_reading.specs.ReadSeen.{def_tree}
+use Rattle.wf_catalog.specs.Environment.{Environment, fresh}
+use Rattle.wf_catalog.specs.Answering.{table_by}
+use Rattle.wf_sight_laws.specs.Tables.{AreWhole}
+use Rattle.wf_catalog.specs.ReadSeen.{def_tree}
 use Rattle.wf_record.specs.Record as record_of
-use Rattle.wf_views.specs.Seen.{rows_seen}
-use Rattle.wf_trigger.specs.StartsSeen.{start_tree}
+use Rattle.wf_sight_laws.specs.Seen.{rows_seen}
+use Rattle.wf_catalog.specs.StartsSeen.{start_tree}
 use Rattle.wf_ended.specs.LeftSeen.{left_tree}
 use Rattle.wf_ended.proofs.LeftLemmas.{left_is, left_is_recorded}
 use Rattle.wf_ended.proofs.ends.Ends.left.Goals as goal

@@ -5,15 +5,15 @@ use Rattle.wf_def.specs.DefTree.{DefTree, OutputTree}
 use Rattle.wf_def.specs.declared.section.Output.{Output}
 use Rattle.wf_eval.specs.TreeValue.{members_after}
 use Rattle.wf_look.specs.Told.{Told}
-use Rattle.wf_environment.specs.Ending.{output_runs}
-use Rattle.wf_environment.specs.Environment.{Environment, fresh}
-use Rattle.wf_meant.specs.Look.{told_to_outputs}
-use Rattle.wf_reading.specs.ReadSeen.{def_tree}
-use Rattle.wf_views.specs.Seen.{rows_seen}
-use Rattle.wf_sight.specs.Seen.{known_tree}
-use Rattle.wf_sight.specs.Sight.{KnownTree, RunTree, seen_by_outputs}
-use Rattle.wf_sight.specs.SightSeen.{run_tree, sight_drawn, sight_told}
-use Rattle.wf_trigger.specs.StartsSeen.{start_tree}
+use Rattle.wf_catalog.specs.Ending.{output_runs}
+use Rattle.wf_catalog.specs.Environment.{Environment, fresh}
+use Rattle.wf_catalog.specs.Look.{told_to_outputs}
+use Rattle.wf_catalog.specs.ReadSeen.{def_tree}
+use Rattle.wf_sight_laws.specs.Seen.{rows_seen}
+use Rattle.wf_sight_laws.specs.SightSeen.{known_tree}
+use Rattle.wf_sight_laws.specs.Sight.{KnownTree, RunTree, seen_by_outputs}
+use Rattle.wf_sight_laws.specs.SightSightSeen.{run_tree, sight_drawn, sight_told}
+use Rattle.wf_catalog.specs.StartsSeen.{start_tree}
 use Rattle.wf_ended.proofs.ends.Ends.outputs.Goals as goal
 
 pub returns : goal.returns

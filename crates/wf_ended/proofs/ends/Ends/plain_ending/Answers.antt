@@ -1,5 +1,5 @@
 use Rattle.std.proofs.Common.{ap₂, ◌∙◌}
-use Rattle.wf_environment.specs.Ending.{ending}
+use Rattle.wf_catalog.specs.Ending.{ending}
 use Rattle.wf_ended.proofs.ends.Ends.plain_ending.Goals as goal
 
 pub returns : goal.returns

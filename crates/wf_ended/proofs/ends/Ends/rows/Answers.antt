@@ -3,12 +3,12 @@ use Rattle.std.specs.Prelude.{sum_by}
 use Rattle.wf_lists.specs.KeyOrder.{IsInKeyOrder}
 use Rattle.wf_val.specs.Address.{address_cmp}
 use Rattle.wf_asks.specs.declared.known.RowAt.{RowAt}
-use Rattle.wf_reading.specs.ReadSeen.{def_tree}
-use Rattle.wf_reading.specs.declared.definition.Def.{Def}
+use Rattle.wf_catalog.specs.ReadSeen.{def_tree}
+use Rattle.wf_catalog.specs.ReadingDef.{Def}
 use Rattle.wf_record.specs.Cost.{row_cost}
 use Rattle.wf_record.specs.Record.{RowTree, address_of}
 use Rattle.wf_record.specs.declared.row.Row.{Row}
-use Rattle.wf_views.specs.Seen.{rows_seen}
+use Rattle.wf_sight_laws.specs.Seen.{rows_seen}
 use Rattle.wf_ended.specs.Found.{as_row}
 use Rattle.wf_ended.proofs.NameLemmas.{names_ascend}
 use Rattle.wf_ended.proofs.RowLemmas.{costs_are, have_actions, rows_are, rows_ascend}

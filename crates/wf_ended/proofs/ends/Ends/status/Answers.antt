@@ -1,6 +1,6 @@
 use Rattle.std.proofs.Common.{◌∙◌}
-use Rattle.wf_reading.specs.ReadSeen.{def_tree}
-use Rattle.wf_views.specs.Seen.{rows_seen}
+use Rattle.wf_catalog.specs.ReadSeen.{def_tree}
+use Rattle.wf_sight_laws.specs.Seen.{rows_seen}
 use Rattle.wf_closing.specs.StepsSeen.{judged_tree}
 use Rattle.wf_ended.proofs.TopLemmas.{top_status}
 use Rattle.wf_ended.proofs.ends.Ends.status.Goals as goal

@@ -2,9 +2,9 @@ use Rattle.std.proofs.Common.{None, List, map, ap, ◌∙◌}
 use Rattle.wf_asks.specs.Instances.{address_of}
 use Rattle.wf_asks.specs.declared.instance.Instance.{Instance}
 use Rattle.wf_order.specs.OrderSeen.{order_tree}
-use Rattle.wf_reading.specs.ReadSeen.{def_tree}
-use Rattle.wf_views.specs.Seen.{rows_seen}
-use Rattle.wf_meant.specs.Containers.{is_terminate}
+use Rattle.wf_catalog.specs.ReadSeen.{def_tree}
+use Rattle.wf_sight_laws.specs.Seen.{rows_seen}
+use Rattle.wf_catalog.specs.Containers.{is_terminate}
 use Rattle.wf_ended.specs.First.{first_among, row_of_place}
 use Rattle.wf_ended.proofs.FirstLemmas.{first_row}
 use Rattle.wf_ended.proofs.ends.Ends.terminate.Goals as goal

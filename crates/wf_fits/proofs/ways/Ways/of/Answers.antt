@@ -1,8 +1,8 @@
 use Rattle.std.proofs.Common.{List, map, ap, ◌∙◌}
 use Rattle.std.specs.List.{find}
 use Rattle.wf_def.specs.ActionSeen.{action_tree}
-use Rattle.wf_meant.specs.Points.{has_action_name}
-use Rattle.wf_reading.specs.ReadSeen.{def_tree}
+use Rattle.wf_catalog.specs.Points.{has_action_name}
+use Rattle.wf_catalog.specs.ReadSeen.{def_tree}
 use Rattle.wf_fits.specs.Sorts.{all_initials, sort_by}
 use Rattle.wf_fits.specs.declared.walk.Placed.{Placed}
 use Rattle.wf_fits.proofs.WayLemmas.{are_ways}

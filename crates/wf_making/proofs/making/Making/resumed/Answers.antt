@@ -1,5 +1,5 @@
 use Rattle.std.proofs.Common.{subst, sym}
-use Rattle.wf_steps.specs.Shown.{shown}
+use Rattle.wf_metered.specs.Shown.{shown}
 use Rattle.wf_drive.specs.Driven.{IsFirst}
 use Rattle.wf_making.proofs.FirstLemmas.{is_first}
 use Rattle.wf_making.proofs.making.Making.resumed.Goals as goal

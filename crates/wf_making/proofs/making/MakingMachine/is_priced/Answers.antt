@@ -1,5 +1,5 @@
 use Rattle.std.proofs.Common.{arith}
-use Rattle.wf_meter.proofs.FewLemmas.{taken_paid}
+use Rattle.wf_metered.proofs.FewLemmas.{taken_paid}
 use Rattle.wf_making.proofs.making.MakingMachine.is_priced.Goals as goal
 
 pub returns-clause-within : goal.returns-clause-within

@@ -1,4 +1,4 @@
-use Rattle.wf_steps.specs.Shown.{shown}
+use Rattle.wf_metered.specs.Shown.{shown}
 use Rattle.wf_drive_laws.proofs.PickLemmas.{picked}
 use Rattle.wf_making.proofs.making.MakingMachine.pick.Goals as goal
 

@@ -1,5 +1,5 @@
 use Rattle.std.proofs.Common.{◌∙◌, length, refl, ap}
-use Rattle.wf_steps.specs.Shown.{shown}
+use Rattle.wf_metered.specs.Shown.{shown}
 use Rattle.wf_drive_laws.proofs.LeafLemmas.{leaves_run}
 use Rattle.wf_making.proofs.making.MakingMachine.running.Goals as goal
 

@@ -2,8 +2,8 @@ use Rattle.std.proofs.Common.{◌∙◌, ap, sym}
 use Rattle.wf_layers.specs.Meaning.{meaning}
 use Rattle.wf_scheduled.specs.Counts.{number_of}
 use Rattle.wf_scheduled.proofs.HappenedLemmas.{happened}
-use Rattle.wf_tables.specs.Tables.{event_tree}
-use Rattle.wf_steps.specs.Shown.{shown}
+use Rattle.wf_metered.specs.Tables.{event_tree}
+use Rattle.wf_metered.specs.Shown.{shown}
 use Rattle.wf_metered.proofs.MeteredLemmas.{place_is}
 use Rattle.wf_making.proofs.StandingLemmas.{happened_there}
 use Rattle.wf_making.proofs.making.MakingMachine.tell.Goals as goal

@@ -1,4 +1,4 @@
-use Rattle.wf_plan.specs.PlanSeen.{plan_tree}
+use Rattle.wf_meter.specs.PlanSeen.{plan_tree}
 use Rattle.wf_metered.proofs.metered.Metered.again.Goals as goal
 
 pub invariant_of-result : goal.invariant_of-result

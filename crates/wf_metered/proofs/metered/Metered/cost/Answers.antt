@@ -1,5 +1,5 @@
 use Rattle.std.proofs.Common.{◌∙◌}
-use Rattle.wf_plan.specs.PlanSeen.{plan_tree}
+use Rattle.wf_meter.specs.PlanSeen.{plan_tree}
 use Rattle.wf_metered.proofs.MeteredLemmas.{total_is}
 use Rattle.wf_metered.proofs.metered.Metered.cost.Goals as goal
 

@@ -1,4 +1,4 @@
-use Rattle.wf_plan.specs.PlanSeen.{plan_tree}
+use Rattle.wf_meter.specs.PlanSeen.{plan_tree}
 use Rattle.wf_metered.proofs.RestLemmas.{sums_are_of}
 use Rattle.wf_metered.proofs.metered.Metered.rest.Goals as goal
 

@@ -1,6 +1,6 @@
 use Rattle.wf_asks.specs.Instances.{address_of}
-use Rattle.wf_plan.specs.PlanSeen.{plan_tree}
-use Rattle.wf_tables.specs.Tables.{event_tree}
+use Rattle.wf_meter.specs.PlanSeen.{plan_tree}
+use Rattle.wf_meter.specs.Tables.{event_tree}
 use Rattle.wf_metered.proofs.MeteredLemmas.{place_is, sums_follow}
 use Rattle.wf_metered.proofs.metered.Metered.step.Goals as goal
 

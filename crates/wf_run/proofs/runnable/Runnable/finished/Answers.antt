@@ -1,15 +1,15 @@
 use Rattle.std.proofs.Common.{sym, subst, ◌∙◌}
 use Rattle.wf_actions.specs.Weights.{begun_weight, decision_weight}
-use Rattle.wf_done.specs.DoneSeen.{begun_tree}
+use Rattle.wf_told.specs.DoneSeen.{begun_tree}
 use Rattle.wf_environment.specs.Environment.{Environment}
 use Rattle.wf_layers.specs.Machine.{IsOver}
-use Rattle.wf_meant.specs.Answering.{RowSource}
-use Rattle.wf_meant.specs.Points.{graph_of}
-use Rattle.wf_meant.specs.Source as sources
-use Rattle.wf_metered.specs.Sums.{AreSumsOf}
+use Rattle.wf_actions.specs.Answering.{RowSource}
+use Rattle.wf_actions.specs.Points.{graph_of}
+use Rattle.wf_actions.specs.Source as sources
+use Rattle.wf_actions.specs.Sums.{AreSumsOf}
 use Rattle.wf_opening.specs.DecisionSeen.{decision_tree, verdict_tree}
 use Rattle.wf_actions.specs.Paying.{cost_of_row}
-use Rattle.wf_views.specs.Seen.{row_content}
+use Rattle.wf_actions.specs.Seen.{row_content}
 use Rattle.wf_actions.specs.Acting.{ActFor}
 use Rattle.wf_actions.specs.Meant.{source}
 use Rattle.wf_run.specs.Made.{AreLeft, IsAtLast, moment}

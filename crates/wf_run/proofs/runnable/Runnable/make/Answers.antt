@@ -1,11 +1,11 @@
 use Rattle.std.proofs.Common.{arith, sym, subst, ◌∙◌}
 use Rattle.std.proofs.lemmas.Result.{err_from_is_err_and}
 use Rattle.wf_environment.specs.Environment.{Environment}
-use Rattle.wf_meant.specs.Points.{graph_of}
-use Rattle.wf_meant.specs.Source as sources
+use Rattle.wf_actions.specs.Points.{graph_of}
+use Rattle.wf_actions.specs.Source as sources
 use Rattle.wf_plan.specs.PlanSeen.{plan_tree}
 use Rattle.wf_record.specs.Cost.{cost}
-use Rattle.wf_steps.specs.Kept.{IsPlanned}
+use Rattle.wf_actions.specs.Kept.{IsPlanned}
 use Rattle.wf_actions.specs.Acting.{ActFor}
 use Rattle.wf_run.specs.Made.{AreFew, AreLeft, IsAtFirst, IsMade, IsTooMuch, moment, price}
 use Rattle.wf_run.specs.Runs.{begun_with, definition}

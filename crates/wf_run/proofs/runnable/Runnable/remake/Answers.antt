@@ -2,9 +2,9 @@ use Rattle.std.proofs.Common.{arith, ap, false, sym, subst, ◌∙◌}
 use Rattle.std.proofs.lemmas.Result.{err_from_is_err_and}
 use Rattle.wf_answers.specs.InputsSeen.{inputs_tree}
 use Rattle.wf_environment.specs.Environment.{Environment, fresh}
-use Rattle.wf_meant.specs.Answering.{table_by}
-use Rattle.wf_meant.specs.Record.{record_of_table}
-use Rattle.wf_meant.specs.Resubmitted.{pinned_source}
+use Rattle.wf_actions.specs.Answering.{table_by}
+use Rattle.wf_actions.specs.Record.{record_of_table}
+use Rattle.wf_actions.specs.Resubmitted.{pinned_source}
 use Rattle.wf_record.specs.Cost.{cost}
 use Rattle.wf_record.specs.Record.{RecordTree}
 use Rattle.wf_record.specs.Seen.{record_tree}

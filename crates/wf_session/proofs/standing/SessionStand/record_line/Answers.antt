@@ -3,7 +3,7 @@ use Rattle.std.proofs.lemmas.Result.{err_from_is_err_and}
 use Rattle.std.specs.Prelude.{IfSome}
 use Rattle.wf_answers.specs.InputsSeen.{inputs_tree}
 use Rattle.wf_environment.specs.Environment.{fresh}
-use Rattle.wf_meant.specs.Record.{meaning}
+use Rattle.wf_planned.specs.Record.{meaning}
 use Rattle.wf_reading.specs.ReadSeen.{def_tree}
 use Rattle.wf_record.specs.Cost.{cost}
 use Rattle.wf_record.specs.Record.{record_line}

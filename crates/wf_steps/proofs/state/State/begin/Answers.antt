@@ -1,4 +1,4 @@
-use Rattle.wf_plan.specs.PlanSeen.{plan_tree}
+use Rattle.wf_events.specs.PlanSeen.{plan_tree}
 use Rattle.wf_steps.proofs.BeginLemmas.{begin_goes, begin_is_below, begin_kept, begin_last, few_left}
 use Rattle.wf_steps.proofs.state.State.begin.Goals as goal
 

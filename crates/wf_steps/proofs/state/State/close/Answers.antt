@@ -1,7 +1,7 @@
 use Rattle.std.proofs.Common.{subst, sym}
 use Rattle.wf_layers.specs.Changes.{next_of}
-use Rattle.wf_asks.specs.Known.{opens_in}
-use Rattle.wf_plan.specs.PlanSeen.{plan_tree}
+use Rattle.wf_events.specs.Known.{opens_in}
+use Rattle.wf_events.specs.PlanSeen.{plan_tree}
 use Rattle.wf_events.specs.RowEdits.{AreRowEdits}
 use Rattle.wf_steps.proofs.CloseLemmas.{apart, close_goes, close_is_informed, close_kept, edits_taken, none_closes}
 use Rattle.wf_steps.proofs.state.State.close.Goals as goal

@@ -1,6 +1,6 @@
 use Rattle.std.proofs.Common.{◌∙◌}
-use Rattle.wf_asks.specs.Known.{store_in}
-use Rattle.wf_plan.specs.PlanSeen.{plan_tree}
+use Rattle.wf_events.specs.Known.{store_in}
+use Rattle.wf_events.specs.PlanSeen.{plan_tree}
 use Rattle.wf_steps.proofs.EndLemmas.{end_goes, end_is_informed, end_kept, none_ends}
 use Rattle.wf_steps.proofs.state.State.end.Goals as goal
 

@@ -1,5 +1,5 @@
 use Rattle.std.proofs.Common.{refl}
-use Rattle.wf_plan.specs.PlanSeen.{plan_tree}
+use Rattle.wf_events.specs.PlanSeen.{plan_tree}
 use Rattle.wf_steps.proofs.FreshLemmas.{first_kept}
 use Rattle.wf_steps.proofs.state.State.fresh.Goals as goal
 

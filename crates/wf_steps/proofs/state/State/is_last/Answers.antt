@@ -1,5 +1,5 @@
-use Rattle.wf_asks.specs.Known.{store_in, writer}
-use Rattle.wf_tables.specs.Tables.{state_of}
+use Rattle.wf_events.specs.Known.{store_in, writer}
+use Rattle.wf_events.specs.Tables.{state_of}
 use Rattle.wf_kept.proofs.Stored.{store_is_written}
 use Rattle.wf_steps.proofs.state.State.is_last.Goals as goal
 

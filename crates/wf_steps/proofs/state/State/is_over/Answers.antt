@@ -1,4 +1,4 @@
-use Rattle.wf_tables.specs.Tables.{state_of}
+use Rattle.wf_events.specs.Tables.{state_of}
 use Rattle.wf_steps.proofs.OverLemmas.{over_by, not_over}
 use Rattle.wf_steps.proofs.state.State.is_over.Goals as goal
 

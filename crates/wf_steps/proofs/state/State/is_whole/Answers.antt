@@ -1,4 +1,4 @@
-use Rattle.wf_tables.specs.Tables.{state_of}
+use Rattle.wf_events.specs.Tables.{state_of}
 use Rattle.wf_steps.proofs.WholeLemmas.{whole}
 use Rattle.wf_steps.proofs.state.State.is_whole.Goals as goal
 

@@ -1,4 +1,4 @@
-use Rattle.wf_plan.specs.PlanSeen.{plan_tree}
+use Rattle.wf_events.specs.PlanSeen.{plan_tree}
 use Rattle.wf_steps.proofs.OpeningLemmas.{decide_is_anew, decide_is_informed, open_goes, open_kept, open_last}
 use Rattle.wf_steps.proofs.state.State.open_up.Goals as goal
 

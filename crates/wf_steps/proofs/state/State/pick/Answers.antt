@@ -1,6 +1,6 @@
 use Rattle.std.proofs.Common.{◌%◌, arith}
 use Rattle.std.proofs.lemmas.Nat.{mod_below}
-use Rattle.wf_tables.specs.Tables.{state_of}
+use Rattle.wf_events.specs.Tables.{state_of}
 use Rattle.wf_steps.proofs.OverLemmas.{enabled_at, some_left}
 use Rattle.wf_steps.proofs.state.State.pick.Goals as goal
 

@@ -1,5 +1,5 @@
 use Rattle.std.proofs.Common.{◌∙◌}
-use Rattle.wf_plan.specs.PlanSeen.{plan_tree}
+use Rattle.wf_events.specs.PlanSeen.{plan_tree}
 use Rattle.wf_steps.proofs.ResumedLemmas.{resumed_kept}
 use Rattle.wf_steps.proofs.state.State.resumed.Goals as goal
 

@@ -1,4 +1,4 @@
-use Rattle.wf_plan.specs.PlanSeen.{plan_tree}
+use Rattle.wf_events.specs.PlanSeen.{plan_tree}
 use Rattle.wf_steps.proofs.SkipLemmas.{skip_goes, skip_kept}
 use Rattle.wf_steps.proofs.state.State.skip.Goals as goal
 

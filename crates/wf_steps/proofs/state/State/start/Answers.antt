@@ -1,7 +1,7 @@
 use Rattle.wf_steps.proofs.QuietLemmas.{start_kept, start_goes}
 use Rattle.wf_layers.specs.Definition.{Leaf}
-use Rattle.wf_asks.specs.Known.{store_in}
-use Rattle.wf_tables.specs.Tables.{state_of}
+use Rattle.wf_events.specs.Known.{store_in}
+use Rattle.wf_events.specs.Tables.{state_of}
 use Rattle.wf_steps.proofs.InformedLemmas.{decided_is_informed, decided_holds_last}
 use Rattle.wf_steps.proofs.state.State.start.Goals as goal
 

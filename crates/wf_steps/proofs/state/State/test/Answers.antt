@@ -1,4 +1,4 @@
-use Rattle.wf_plan.specs.PlanSeen.{plan_tree}
+use Rattle.wf_events.specs.PlanSeen.{plan_tree}
 use Rattle.wf_steps.proofs.TestLemmas.{index_is, none_open, test_leads, test_is_informed, test_kept}
 use Rattle.wf_steps.proofs.state.State.test.Goals as goal
 

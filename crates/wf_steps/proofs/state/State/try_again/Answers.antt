@@ -1,5 +1,5 @@
 use Rattle.std.proofs.Common.{◌+◌, arith}
-use Rattle.wf_asks.specs.Instances.{address_of}
+use Rattle.wf_events.specs.Instances.{address_of}
 use Rattle.wf_steps.proofs.QuietLemmas.{fewer, none_runs, try_kept, try_goes}
 use Rattle.wf_steps.proofs.state.State.try_again.Goals as goal
 
