@@ -202,6 +202,7 @@ def long():
             ("100,000 items in 100,000", {"L": foreach("@range(0,100000)", M=foreach("@range(0,100000)", **item))}),
             ("one item in 100,000", {"L": foreach("@range(0,100000)", M=foreach([1], **item))}),
             ("100,000 items of two scopes", {"L": foreach("@range(0,100000)", **boxes)}),
+            ("2,000 items in 2,000, two actions", {"L": foreach("@range(0,2000)", M=foreach("@range(0,2000)", **item, D=compose(1)))}),
             ("5,000 turns in 20", {"L": foreach("@range(0,20)", U=until(5000, **item))}),
             ("5,000 turns of 5,000", {"U": until(5000, V=until(5000, C=compose(1)))}),
             ("four loops of 16 items in one another", {"L": sixteen})):
