@@ -1,2 +1,3 @@
-pub mod BesideLemmas
 pub mod CellLemmas
+pub mod ChunkLemmas
+pub mod SearchLemmas

@@ -5,14 +5,18 @@
 //! behind it can't fail. Its contract sees the items as a plain list in order, by the functions of `wf_lists`, and beside it for how many
 //! more items there is room: `put` asks for room for one, and takes room for one at most; no other edit takes any.
 //!
-//! Each item stands in a cell of its own on the heap, and the cells of the items to come are made by `make_room`: so an edit before many
-//! other items shifts their cells' addresses alone, whatever the size of an item.
+//! Each item stands in a cell of its own on the heap, and the cells of the items to come are made by `make_room` and stand empty behind
+//! the others: so an edit before many other items moves their cells' addresses alone, whatever the size of an item, and one that takes
+//! an item out leaves its cell for the next. The cells stand in chunks of one size, each a ring: an edit moves those of two chunks at
+//! most, and one of each chunk between, whatever the number of items.
 //!
 //! It isn't a list to be read whole before it is used up: items are asked for by key or by place. For that, and where an edit may fail,
 //! `wf_lists` has `Sorted`.
 #![tactic(auto)]
 
-mod full;
+mod cell;
+mod cells;
+mod chunk;
 mod roomy;
 mod still;
 

@@ -1,36 +1,33 @@
 //! Items that stand still.
-ghost use Rattle.std.specs.Prelude.{◌≡◌, ◌<◌, ◌≤◌, ◌+◌, ◌^◌, [], length, true, Ok, Err, IfOk, IfErr, OnOk, Some, insert, remove, slice_get, slice_index_or, slice_set, vec_capacity};
-ghost use Rattle.std.specs.List.{AllByRecursion};
-ghost use Rattle.std.specs.declared.cmp.Ordering.TheVariants.{Less, Greater};
+ghost use Rattle.std.specs.Prelude.{◌≡◌, ◌<◌, ◌≤◌, ◌+◌, ◌-◌, ◌++◌, ◌^◌, [], length, None, IfOk, IfErr, OnOk, Some, insert, remove, replicate, slice_get, slice_set};
 ghost use Rattle.std.specs.List.Sorted.{IsSearchInRange};
 ghost use Rattle.wf_lists.specs.KeyOrder.{IsInKeyOrder, IsKeyPlace, IsKeyGap};
-ghost use Rattle.wf_room.specs.Cells.{held, AreFull};
 
-use crate::full::{Full, add_cells, filled};
+use crate::cells::Cells;
 use std::alloc::{AllocError, Global};
+use std::cmp::Ordering;
 use std::marker::Model;
 use wf_lists::Keyed;
 
 /// Items, each in a cell of its own, so that an edit moves cells and no item; seen as their list, and for how many more there is room.
 #[derive(Drop)]
 pub(crate) struct Still<T> {
-    full: Vec<Full<T>>,
-    empty: Vec<Box<Option<T>>>,
-    // The place of the last edit: a search begins there and right behind it, and then goes on beside it, since what is asked for next
-    // mostly stands there.
+    // The cells of the items, in order, and the empty ones behind them.
+    cells: Cells<T>,
+    count: usize,
+    // The place of the last edit: a search begins there, since what is asked for next mostly stands beside it.
     last: usize,
-    alloc: Global,
 }
 
 impl<T> Model for Still<T> {
-    ghost use Rattle.std.specs.Prelude.{List, ℕ, ◌+◌, ◌≤◌, length, vec_capacity};
-    ghost use Rattle.wf_room.specs.Cells.{held, AreFull};
+    ghost use Rattle.std.specs.Prelude.{List, ℕ, ◌≡◌, ◌-◌, length};
+    ghost use Rattle.wf_room.specs.Cells.{held, laid};
 
     ghost Value = { List T × ℕ };
 
-    ghost view = { λ a. (held a.full.items, length a.empty.items) };
+    ghost view = { λ a. (held a.cells, length a.cells - a.count) };
 
-    ghost invariant = { λ a. AreFull a.full.items × (length a.full.items + length a.empty.items ≤ vec_capacity a.full) };
+    ghost invariant = { λ a. (a.cells ≡ laid (held a.cells) (length a.cells - a.count)) × (a.count ≡ length (held a.cells)) };
 }
 
 impl<T> Still<T> {
@@ -39,10 +36,9 @@ impl<T> Still<T> {
         ensures { result.0 ≡ [] }
     {
         Still {
-            full: Vec::new(alloc),
-            empty: Vec::new(alloc),
+            cells: Cells::new(alloc),
+            count: 0,
             last: 0,
-            alloc,
         }
     }
 
@@ -54,11 +50,7 @@ impl<T> Still<T> {
         ensures room { OnOk result (more ≤ self.new.1) }
         ensures kept { self.old.1 ≤ self.new.1 }
     {
-        if self.empty.len() < more {
-            self.full.reserve(more)?;
-            add_cells(self.alloc, &mut self.empty, more)?;
-        }
-        Ok(())
+        add_cells(&mut self.cells, self.count, more)
     }
 
     /// How many items there are.
@@ -66,7 +58,9 @@ impl<T> Still<T> {
         ensures count { result ≡ length self.now.0 }
         ensures in_range { result < 2 ^ 63 }
     {
-        self.full.len() as u64
+        // Their number is in range, and there are no fewer.
+        let _cells = self.cells.len();
+        self.count as u64
     }
 
     /// The item at a place.
@@ -74,7 +68,7 @@ impl<T> Still<T> {
         requires { place < length self.now.0 }
         ensures { slice_get self.now.0 place ≡ Some result.now }
     {
-        self.full[place].item()
+        self.cells.cell(place).item()
     }
 
     /// Puts an item before the one at a place.
@@ -86,8 +80,10 @@ impl<T> Still<T> {
         ensures items { self.new.0 ≡ insert self.old.0 place item }
         ensures room { self.old.1 ≡ self.new.1 + 1 }
     {
-        let full = filled(&mut self.empty, item);
-        insert_in_room(&mut self.full, place, full);
+        let _ = self.cells.replace(self.count, Some(item));
+        self.cells.shift(self.count, place);
+        let _cells = self.cells.len();
+        self.count += 1;
         self.last = place;
     }
 
@@ -99,19 +95,28 @@ impl<T> Still<T> {
         ensures room { self.new.1 ≡ self.old.1 }
     {
         self.last = place;
-        replace_at(&mut self.full, place, item)
+        match self.cells.replace(place, Some(item)) {
+            Some(before) => before,
+            None => unreachable!(),
+        }
     }
 
-    /// Takes an item out.
+    /// Takes an item out, and keeps its cell for another.
     pub(crate) fn remove(&mut self, place: usize) -> T
         requires { place < length self.old.0 }
         ensures item { slice_get self.old.0 place ≡ Some result }
         ensures rest { self.new.0 ≡ remove self.old.0 place }
-        ensures room { self.new.1 ≡ self.old.1 }
+        ensures room { self.new.1 ≡ self.old.1 + 1 }
     {
         // What is taken out is mostly asked for next: it would go behind the item before.
         self.last = place.saturating_sub(1);
-        self.full.remove(place).into_item()
+        let item = self.cells.replace(place, None);
+        self.count -= 1;
+        self.cells.shift(place, self.count);
+        match item {
+            Some(item) => item,
+            None => unreachable!(),
+        }
     }
 
     /// The items.
@@ -121,13 +126,11 @@ impl<T> Still<T> {
         ensures { IfOk result (λ items. items.items ≡ self.0) }
     {
         let Still {
-            full,
-            empty,
+            cells,
+            count,
             last: _,
-            alloc,
         } = self;
-        drop(empty);
-        items_of(alloc, full)
+        cells.into_items(count)
     }
 }
 
@@ -139,133 +142,50 @@ impl<T: Keyed> Still<T> {
         ensures place { IfOk result (IsKeyPlace T.Key.cmp T.key_of key.now self.now.0) }
         ensures gap { IfErr result (IsKeyGap T.Key.cmp T.key_of key.now self.now.0) }
     {
-        let behind = self.last.saturating_add(1).min(self.full.len());
-        if is_at(&self.full, self.last, key) {
-            Ok(self.last)
-        } else if is_gap(&self.full, behind, key) {
-            Err(behind)
-        } else {
-            place_beside(&self.full, self.last, key)
+        let mut low = 0;
+        let mut high = self.count;
+        let mut looks: u8 = 0;
+        while low < high {
+            let place = next_look(looks, self.last, low, high);
+            match self.at(place).key().cmp(key) {
+                Ordering::Less => low = place + 1,
+                Ordering::Greater => high = place,
+                Ordering::Equal => return Ok(place),
+            }
+            looks = looks.saturating_add(1);
         }
+        Err(low)
     }
 }
 
-// Whether the key is that of the cell at a place.
-fn is_at<T: Keyed>(cells: &[Full<T>], place: usize, key: &T::Key) -> bool
-    requires full { AreFull cells.now }
-    requires in_order { IsInKeyOrder T.Key.cmp T.key_of (held cells.now) }
-    ensures in_range { result ≡ true → place < length cells.now }
-    ensures place { result ≡ true → IsKeyPlace T.Key.cmp T.key_of key.now (held cells.now) place }
+// Where a search looks next that is known to end between two places: first at the place of the last edit, then right beside it, then a few
+// places further, and then in the middle.
+fn next_look(looks: u8, last: usize, low: usize, high: usize) -> usize
+    requires { low < high }
+    ensures least { low ≤ result }
+    ensures most { result < high }
 {
-    match cells.get(place) {
-        Some(cell) => cell.item().key().cmp(key).is_eq(),
-        None => false,
+    let is_behind = last < low;
+    let place = match (looks, is_behind) {
+        (0, _) => last,
+        (1, true) => low,
+        (1, false) => high - 1,
+        (2, true) => low.saturating_add(7),
+        (2, false) => high.saturating_sub(8),
+        _ => low + (high - low) / 2,
+    };
+    place.max(low).min(high - 1)
+}
+
+// Adds empty cells until there are so many behind the full ones.
+fn add_cells<T: Drop>(cells: &mut Cells<T>, full: usize, wanted: usize) -> Result<(), AllocError>
+    requires { full ≤ length cells.old }
+    ensures cells { cells.new ≡ cells.old ++ replicate (length cells.new - length cells.old) None }
+    ensures more { length cells.old ≤ length cells.new }
+    ensures ok { OnOk result (full + wanted ≤ length cells.new) }
+{
+    while cells.len() - full < wanted {
+        cells.add()?;
     }
-}
-
-// Whether an item of the key would go before the cell at a place, and behind all others.
-fn is_gap<T: Keyed>(cells: &[Full<T>], place: usize, key: &T::Key) -> bool
-    requires place { place ≤ length cells.now }
-    requires full { AreFull cells.now }
-    requires in_order { IsInKeyOrder T.Key.cmp T.key_of (held cells.now) }
-    ensures { result ≡ true → IsKeyGap T.Key.cmp T.key_of key.now (held cells.now) place }
-{
-    let (before, behind) = cells.split_at(place);
-    is_above(before, key) && is_below(behind, key)
-}
-
-// As `place_among` says, and sooner where the key stands beside a place: only few cells are looked at, which stand side by side.
-fn place_beside<T: Keyed>(cells: &[Full<T>], place: usize, key: &T::Key) -> Result<usize, usize>
-    requires full { AreFull cells.now }
-    requires in_order { IsInKeyOrder T.Key.cmp T.key_of (held cells.now) }
-    ensures in_range { IsSearchInRange result (length cells.now) }
-    ensures place { IfOk result (IsKeyPlace T.Key.cmp T.key_of key.now (held cells.now)) }
-    ensures gap { IfErr result (IsKeyGap T.Key.cmp T.key_of key.now (held cells.now)) }
-{
-    let (before, rest) = cells.split_at(place.saturating_sub(8).min(cells.len()));
-    let (beside, behind) = rest.split_at(rest.len().min(16));
-    if is_above(before, key) && is_below(behind, key) {
-        further(place_among(beside, key), before.len())
-    } else {
-        place_among(cells, key)
-    }
-}
-
-// Whether the key is above those of all cells, which the last of them tells.
-fn is_above<T: Keyed>(cells: &[Full<T>], key: &T::Key) -> bool
-    requires full { AreFull cells.now }
-    requires in_order { IsInKeyOrder T.Key.cmp T.key_of (held cells.now) }
-    ensures { result ≡ true → AllByRecursion (λ x. T.Key.cmp key.now (T.key_of x) ≡ Greater) (held cells.now) }
-{
-    match cells.last() {
-        Some(cell) => key.cmp(cell.item().key()).is_gt(),
-        None => true,
-    }
-}
-
-// Whether the key is below those of all cells, which the first of them tells.
-fn is_below<T: Keyed>(cells: &[Full<T>], key: &T::Key) -> bool
-    requires full { AreFull cells.now }
-    requires in_order { IsInKeyOrder T.Key.cmp T.key_of (held cells.now) }
-    ensures { result ≡ true → AllByRecursion (λ x. T.Key.cmp key.now (T.key_of x) ≡ Less) (held cells.now) }
-{
-    match cells.first() {
-        Some(cell) => key.cmp(cell.item().key()).is_lt(),
-        None => true,
-    }
-}
-
-// A place or a gap, behind so many cells more.
-fn further(place: Result<usize, usize>, cells: usize) -> Result<usize, usize>
-    requires place { IfOk place (λ i. cells + i < 2 ^ 64) }
-    requires gap { IfErr place (λ i. cells + i < 2 ^ 64) }
-    ensures place { IfOk place (λ i. result ≡ Ok (cells + i)) }
-    ensures gap { IfErr place (λ i. result ≡ Err (cells + i)) }
-{
-    match place {
-        Ok(place) => Ok(cells + place),
-        Err(gap) => Err(cells + gap),
-    }
-}
-
-// The place of the key among the items of full cells, or the place where an item of it would go.
-fn place_among<T: Keyed>(cells: &[Full<T>], key: &T::Key) -> Result<usize, usize>
-    requires full { AreFull cells.now }
-    requires in_order { IsInKeyOrder T.Key.cmp T.key_of (held cells.now) }
-    ensures in_range { IsSearchInRange result (length cells.now) }
-    ensures place { IfOk result (IsKeyPlace T.Key.cmp T.key_of key.now (held cells.now)) }
-    ensures gap { IfErr result (IsKeyGap T.Key.cmp T.key_of key.now (held cells.now)) }
-{
-    cells.binary_search_by(|cell| cell.item().key().cmp(key))
-}
-
-// Shifts the cells from a place on up, and puts one there.
-fn insert_in_room<T: Drop>(cells: &mut Vec<T>, place: usize, cell: T)
-    requires place { place ≤ length cells.old.items }
-    requires room { length cells.old.items < vec_capacity cells.old }
-    ensures items { cells.new.items ≡ insert cells.old.items place cell }
-    ensures capacity { vec_capacity cells.old ≤ vec_capacity cells.new }
-{
-    let _ = cells.insert(place, cell);
-}
-
-// Puts an item in the place of another.
-fn replace_at<T>(cells: &mut Vec<Full<T>>, place: usize, item: T) -> T
-    requires { place < length cells.old.items }
-    ensures before { Some result ≡ slice_index_or cells.old.items place (Some result) }
-    ensures items { cells.new.items ≡ slice_set cells.old.items place (Some item) }
-    ensures capacity { vec_capacity cells.old ≡ vec_capacity cells.new }
-{
-    cells[place].replace(item)
-}
-
-// The items of full cells, in order.
-fn items_of<T: Drop>(alloc: Global, cells: Vec<Full<T>>) -> Result<Vec<T>, AllocError>
-    ensures { IfOk result (λ items. items.items ≡ held cells.items) }
-{
-    let mut items = Vec::with_capacity(alloc, cells.len())?;
-    for cell in cells {
-        items.push(cell.into_item())?;
-    }
-    Ok(items)
+    Ok(())
 }

@@ -1,24 +1,28 @@
-use Rattle.std.proofs.Common.{◌<◌, length, sym, ap, ◌∙◌, arith}
-use Rattle.std.proofs.lemmas.List.Edits.{length-remove}
-use Rattle.wf_room.proofs.CellLemmas.{length-held, holds-remove, held-at}
+use Rattle.std.proofs.Common.{◌<◌, length}
+use Rattle.wf_room.specs.Cells.{held}
+use Rattle.wf_room.proofs.CellLemmas.{removed, stood, never}
 use Rattle.wf_room.proofs.still.Still.remove.Goals as goal
+
+pub unreachable-requires : goal.unreachable-requires
+unreachable-requires g c =
+    let within : c.args.place < length (held c.self.inside.cells) = rw (← c.self.view_is) at c.requires in
+    never c.self.inside.cells c.self.inside.count c.args.place c.self.invariant within c.in-None.ensures.before
 
 pub invariant_of-self : goal.invariant_of-self
 invariant_of-self g c =
-    let cells = c.self.inside.full.items in
-    let within : c.args.place < length cells =
-    omega (arith, c.requires, ap (λ p. length p.0) c.self.view_is, length-held cells c.self.invariant.0) in
-    let count = length-remove cells c.args.place within in
-    rw (c.remove.ensures.items, c.remove.ensures.capacity)
-    ((holds-remove cells c.args.place c.self.invariant.0).full, omega (arith, count, c.self.invariant.1))
+    let within : c.args.place < length (held c.self.inside.cells) = rw (← c.self.view_is) at c.requires in
+    (removed c.self.inside.cells c.replace-item.new.self c.shift.new.self c.self.inside.count c.args.place c.self.invariant within
+    c.replace-item.ensures.after c.shift.ensures).are_laid
 
 pub returns-clause-item : goal.returns-clause-item
 returns-clause-item g c =
-    let within = rw (← c.self.view_is) at c.requires in
+    let within : c.args.place < length (held c.self.inside.cells) = rw (← c.self.view_is) at c.requires in
     rw (← c.self.view_is)
-    (held-at c.self.inside.full.items c.args.place c.remove.result c.into_item.result c.self.invariant.0 within
-    (sym c.remove.ensures.value ∙ c.into_item.ensures))
+    (stood c.self.inside.cells c.self.inside.count c.args.place c.in-Some.item c.self.invariant within c.in-Some.ensures.before)
 
 pub returns-clause-rest : goal.returns-clause-rest
 returns-clause-rest g c =
-    rw (← c.self.view_is, c.remove.ensures.items) (holds-remove c.self.inside.full.items c.args.place c.self.invariant.0).items
+    let within : c.args.place < length (held c.self.inside.cells) = rw (← c.self.view_is) at c.requires in
+    rw (← c.self.view_is)
+    (removed c.self.inside.cells c.replace-item.new.self c.shift.new.self c.self.inside.count c.args.place c.self.invariant within
+    c.replace-item.ensures.after c.shift.ensures).items
