@@ -51,6 +51,11 @@ round_in p i c = record {
 abbrev pub round_at : PlanTree → Instance → Option Round
 round_at p place = option_map (round_in p place.at) (at_place p.holders place.action)
 
+-- How many containers are put anew as an action gets its row: the one round it, where there is one.
+abbrev pub puts : Option Round → ℕ
+puts None = 0
+puts (Some r) = 1
+
 -- At the address is what the graph lacks.
 abbrev pub is_graph : Option Round → Address → Bool
 is_graph None x = false

@@ -1,11 +1,11 @@
 //! Counts, as an action gets its row.
-ghost use Rattle.std.specs.Prelude.{◌≡◌, ◌<◌, ◌≤◌, ◌+◌, ◌-◌, ◌&&◌, cond};
+ghost use Rattle.std.specs.Prelude.{◌≡◌, ◌≤◌, ◌+◌, ◌-◌, ◌&&◌, cond};
 ghost use Rattle.wf_layers.specs.Address.{Address, same_at};
 ghost use Rattle.wf_tables.specs.Counted.{less};
 ghost use Rattle.wf_tables.specs.Known.{is_among, opens_in};
 ghost use Rattle.wf_tables.specs.Once.{AreDistinct};
 ghost use Rattle.wf_tables.specs.PlanSeen.{list_at, plan_tree};
-ghost use Rattle.wf_events.specs.Round.{is_finished, is_graph};
+ghost use Rattle.wf_events.specs.Round.{is_finished, is_graph, puts};
 ghost use Rattle.wf_tables.specs.Tables.{count_in, left_in};
 
 use crate::round::Round;
@@ -18,7 +18,7 @@ fn count_round<D: Drop, V: Drop>(
     opens: &mut Opens<D, V>,
     round: Option<Round>,
 ) -> Option<Round>
-    requires { 0 < opens.old.1 }
+    requires { puts round ≤ opens.old.1 }
     ensures lacks { (x : Address) → count_in lacks.new.0 x
         ≡ cond (is_graph round x) (less 1 (count_in lacks.old.0 x)) (count_in lacks.old.0 x) }
     ensures left { (x : Address) → left_in opens.new.0 x
@@ -51,7 +51,7 @@ pub fn count_row<D: Drop, V: Drop>(
     round: Option<Round>,
 ) -> Option<Round>
     requires followers { AreDistinct (list_at (plan_tree plan.now).followers place.action) }
-    requires room { 0 < opens.old.1 }
+    requires room { puts round ≤ opens.old.1 }
     ensures waits { (x : Address) → count_in waits.new.0 x
         ≡ cond (is_among x.name (list_at (plan_tree plan.now).followers place.action) && same_at place.at x.at)
         (less 1 (count_in waits.old.0 x)) (count_in waits.old.0 x) }

@@ -1,10 +1,11 @@
 //! What is edited beside the rows as an action gets its own: all that takes memory first, and then the edits, which take none.
-ghost use Rattle.std.specs.Prelude.{◌≡◌, ◌<◌, IfOk, OnOk, length};
+ghost use Rattle.std.specs.Prelude.{◌≡◌, ◌<◌, ◌≤◌, IfOk, OnOk, length};
 ghost use Rattle.wf_layers.specs.Changes.{next_of};
 ghost use Rattle.wf_tables.specs.Instances.{rows_in};
 ghost use Rattle.wf_tables.specs.Known.{opens_in};
 ghost use Rattle.wf_tables.specs.Once.{AreDistinct};
 ghost use Rattle.wf_tables.specs.PlanSeen.{list_at, plan_tree};
+ghost use Rattle.wf_events.specs.Round.{puts};
 ghost use Rattle.wf_events.specs.RowEdits.{AreRowEdits, IsSettled};
 ghost use Rattle.wf_tables.specs.Tables.{count_in, events_in, left_in};
 
@@ -50,6 +51,16 @@ pub fn row_edits<D, V>(
     })
 }
 
+// At the top no container is put anew, and needs no room.
+fn puts(round: &Option<Round>) -> usize
+    ensures { result ≡ puts round.now }
+{
+    match round {
+        Some(_) => 1,
+        None => 0,
+    }
+}
+
 /// Makes room for the row and for these edits.
 pub fn make_room<R: Drop, D: Drop, V: Drop>(
     rows: &mut Rows<R>,
@@ -61,11 +72,11 @@ pub fn make_room<R: Drop, D: Drop, V: Drop>(
     ensures opens { opens.new.0 ≡ opens.old.0 }
     ensures ready { ready.new.0 ≡ ready.old.0 }
     ensures rows_room { OnOk result (0 < rows.new.1) }
-    ensures opens_room { OnOk result (0 < opens.new.1) }
+    ensures opens_room { OnOk result (puts edits.now.round ≤ opens.new.1) }
     ensures ready_room { OnOk result (length edits.now.followers.items < ready.new.1) }
 {
     rows.make_room(1)?;
-    opens.make_room(1)?;
+    opens.make_room(puts(&edits.round))?;
     ready.make_room(edits.followers.len() + 1)
 }
 
@@ -84,7 +95,7 @@ pub fn count_and_settle<A: Acts>(
 )
     requires edits { AreRowEdits (plan_tree plan.now) (λ x. next_of (opens_in (λ d. d) (λ v. v) opens.old.0 x)) place.now edits }
     requires followers { AreDistinct (list_at (plan_tree plan.now).followers place.now.action) }
-    requires opens_room { 0 < opens.old.1 }
+    requires opens_room { puts edits.round ≤ opens.old.1 }
     requires ready_room { length edits.followers.items < ready.old.1 }
     ensures settled { IsSettled (A.source acts.now) (plan_tree plan.now) place.now (rows_in A.row_tree rows.now.0)
         (opens_in A.decision_tree A.verdict_tree opens.new.0) (count_in waits.old.0) (count_in waits.new.0) (count_in lacks.old.0)

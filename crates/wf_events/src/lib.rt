@@ -34,5 +34,6 @@ pub use store::{put_writers, writers};
 pub use until::{count_of, iterations, last_test, next_index, with_test};
 pub use wf_tables::{
     Acts, CountAt, Entry, EventAt, EventKind, Instance, Known, LeafAt, OpenAt, Opens, Plan, RowAt,
-    Rows, Shape, Store, Wait, WriterAt, enter, entered, put_rows, set_counts, skipped_rows,
+    Rows, Shape, Store, Wait, WriterAt, enter, entered, needs_of, put_rows, set_count, set_counts,
+    skipped_rows,
 };

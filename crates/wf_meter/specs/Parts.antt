@@ -61,6 +61,39 @@ decides (Begin n i) = false
 decides (Test n i) = false
 decides (Close n i) = true
 
+-- Whether an event gives rows.
+abbrev pub gives_rows : Event → Bool
+gives_rows (Start n i) = false
+gives_rows (Try n i) = false
+gives_rows (End n i) = true
+gives_rows (Skip n i) = true
+gives_rows (Open n i) = true
+gives_rows (Begin n i) = false
+gives_rows (Test n i) = false
+gives_rows (Close n i) = true
+
+-- Whether an event changes which leaves run, or how many attempts one of them has made.
+abbrev pub moves_leaves : Event → Bool
+moves_leaves (Start n i) = true
+moves_leaves (Try n i) = true
+moves_leaves (End n i) = true
+moves_leaves (Skip n i) = false
+moves_leaves (Open n i) = false
+moves_leaves (Begin n i) = false
+moves_leaves (Test n i) = false
+moves_leaves (Close n i) = false
+
+-- Whether an event changes which containers are open, or how far one of them has come.
+abbrev pub moves_containers : Event → Bool
+moves_containers (Start n i) = false
+moves_containers (Try n i) = false
+moves_containers (End n i) = false
+moves_containers (Skip n i) = false
+moves_containers (Open n i) = true
+moves_containers (Begin n i) = true
+moves_containers (Test n i) = true
+moves_containers (Close n i) = true
+
 -- ---- the parts that sums are kept of, each cut to the greatest u64
 
 abbrev pub row_part : {Row : Type 0} → (Row → ℕ) → Address → Row → ℕ

@@ -37,9 +37,12 @@ ghost use Rattle.wf_tables.specs.declared.entries.LeafAt.{LeafAt};
 ghost use Rattle.wf_meter.specs.Cost.{opens_cost, rows_cost, running_cost};
 ghost use Rattle.wf_meter.specs.Parts.{block_of, block_worth, decides, turns_cost, worth};
 
-pub use parts::{block, block_part, decides, decision_part, leaf_part, total, turns_part};
+pub use parts::{
+    block, block_part, decides, decision_part, gives_rows, leaf_part, moves_containers,
+    moves_leaves, total, turns_part,
+};
 pub use totals::{decisions_total, rows_total, turns_total};
-pub use wf_tables::{EventAt, LeafAt, Plan};
+pub use wf_tables::{EventAt, EventKind, LeafAt, Plan};
 
 /// As an event is taken, the sum over the rows of a state moves by what its own action, and those inside it that stand in no loop there,
 /// had before and have now, whatever a row is worth.

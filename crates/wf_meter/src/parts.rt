@@ -6,8 +6,8 @@ ghost use Rattle.wf_tables.specs.Instances.{address_of, rows_in};
 ghost use Rattle.wf_tables.specs.Known.{open_tree, opens_in};
 ghost use Rattle.wf_tables.specs.PlanSeen.{at_place, plan_tree, shape_tree};
 ghost use Rattle.wf_tables.specs.Tables.{event_at, running_in};
-ghost use Rattle.wf_meter.specs.Parts.{block_of, block_worth, decides, decision_part, iterations_by, leaf_part, row_part};
-ghost use Rattle.wf_meter.specs.Parts.{shape_iterations, turns_part, worth};
+ghost use Rattle.wf_meter.specs.Parts.{block_of, block_worth, decides, decision_part, gives_rows, iterations_by, leaf_part};
+ghost use Rattle.wf_meter.specs.Parts.{moves_containers, moves_leaves, row_part, shape_iterations, turns_part, worth};
 
 use wf_room::Roomy;
 use wf_tables::{Acts, EventKind, Instance, LeafAt, OpenAt, Opens, Plan, Rows, Shape};
@@ -156,6 +156,36 @@ pub fn decides(kind: EventKind) -> bool
     match kind {
         EventKind::Open => true,
         EventKind::Close => true,
+        _ => false,
+    }
+}
+
+/// Whether an event of this kind gives rows; any other leaves them as they were.
+pub fn gives_rows(kind: EventKind) -> bool
+    ensures { (n : ℕ) → (i : List ℕ) → result ≡ gives_rows (event_at kind n i) }
+{
+    match kind {
+        EventKind::End | EventKind::Skip | EventKind::Open | EventKind::Close => true,
+        _ => false,
+    }
+}
+
+/// Whether an event of this kind changes running leaves.
+pub fn moves_leaves(kind: EventKind) -> bool
+    ensures { (n : ℕ) → (i : List ℕ) → result ≡ moves_leaves (event_at kind n i) }
+{
+    match kind {
+        EventKind::Start | EventKind::Try | EventKind::End => true,
+        _ => false,
+    }
+}
+
+/// Whether an event of this kind changes open containers.
+pub fn moves_containers(kind: EventKind) -> bool
+    ensures { (n : ℕ) → (i : List ℕ) → result ≡ moves_containers (event_at kind n i) }
+{
+    match kind {
+        EventKind::Open | EventKind::Begin | EventKind::Test | EventKind::Close => true,
         _ => false,
     }
 }

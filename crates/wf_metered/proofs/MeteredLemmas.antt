@@ -2,30 +2,31 @@
 use Rattle.std.proofs.Common.{◌≡◌, ◌<◌, ◌≤◌, ℕ, ◌+◌, ◌-◌, ◌^◌, Bool, true, false, cond, List, Option, Some, None, option_map, length, refl, sym, subst, ap, ◌∙◌, arith}
 use Rattle.wf_val.specs.Cut.{cut_u64}
 use Rattle.wf_lists.specs.KeyOrder.{IsInKeyOrder}
-use Rattle.wf_layers.specs.Address.{Address}
+use Rattle.wf_layers.specs.Address.{Address, Table}
 use Rattle.wf_layers.specs.Definition.{Graph}
 use Rattle.wf_layers.specs.Listed.{sum_of}
-use Rattle.wf_layers.specs.Machine.{Event, Opening, Step, place_of}
+use Rattle.wf_layers.specs.Machine.{Event, Opening, Running, Step, place_of}
 use Rattle.wf_layers.specs.Source.{Source}
 use Rattle.wf_kept.specs.Reached.{IsReached}
-use Rattle.wf_asks.specs.Instances.{address_of, instance_cmp}
+use Rattle.wf_asks.specs.Instances.{address_of, instance_cmp, rows_in}
 use Rattle.wf_asks.specs.Known.{open_tree, opens_in}
 use Rattle.wf_asks.specs.declared.known.OpenAt.{OpenAt}
 use Rattle.wf_asks.specs.declared.known.RowAt.{RowAt}
 use Rattle.wf_meter.specs.Plan.{PlanTree}
 use Rattle.wf_meter.specs.PlanOf.{IsPlanOf}
-use Rattle.wf_meter.specs.Tables.{event_at, event_tree, leaf_tree, state_of}
+use Rattle.wf_meter.specs.Tables.{event_at, event_tree, leaf_tree, running_in, state_of}
 use Rattle.wf_meter.specs.EventAt.{EventAt}
 use Rattle.wf_meter.specs.EventKind.{EventKind}
 use Rattle.wf_meter.specs.EventKind.TheVariants.{Start, Try, End, Skip, Open, Begin, Test, Close}
 use Rattle.wf_meter.specs.LeafAt.{LeafAt}
 use Rattle.wf_meter.specs.Cost.{leaf_cost, opens_cost, rows_cost, running_cost}
-use Rattle.wf_meter.specs.Parts.{decides, decision_part, leaf_part, row_part, turns_cost, turns_part, worth, decisions_sum, leaves_sum, rows_sum, turns_sum}
+use Rattle.wf_meter.specs.Parts.{block_of, block_worth, decides, decision_part, gives_rows, leaf_part, moves_containers, moves_leaves, row_part, turns_cost, turns_part, worth, decisions_sum, leaves_sum, rows_sum, turns_sum}
 use Rattle.wf_meter.proofs.CutLemmas.{cut_bound, cut_whole}
 use Rattle.wf_meter.proofs.MoveLemmas.{containers_move, containers_within, leaves_move, leaves_within, rows_move, rows_within}
 use Rattle.wf_meter.proofs.PriceLemmas.{all_priced}
-use Rattle.wf_meter.proofs.StayLemmas.{decisions_stay}
-use Rattle.wf_metered.specs.Sums.{AreParts, AreSums, MayMove, moved}
+use Rattle.wf_meter.proofs.StayLemmas.{containers_stay, decisions_stay, leaves_stay, rows_stay}
+use Rattle.wf_metered.specs.Sums.{AreParts, AreSums, IsAsked, MayMove, moved}
+use Rattle.wf_metered.specs.declared.sums.Moves.{Moves}
 use Rattle.wf_metered.specs.declared.sums.Sums.{Sums}
 
 -- ---- numbers
@@ -129,45 +130,77 @@ module _ {Row Begun Decision Verdict Kept Started Decided Told : Type 0} (see : 
           (state_of see started decided told rows' running' opens') st apart (place_of e))
           ∙ sym (by_decision weight (place_of e) (opens_in decided told opens (place_of e)))
 
-      module _ (before after : Sums)
-          (b : AreParts see started decided told p cost begun_weight m.items weight rows running opens (decides e) (place_of e) before)
-          (a : AreParts see started decided told p cost begun_weight m.items weight rows' running' opens' (decides e) (place_of e) after)
+      -- and of all else, what stands there where the event doesn't move it
+      block_stays : gives_rows e ≡ false
+          → block_worth (row_part cost) (rows_in see rows') (place_of e).at (block_of p (place_of e).name)
+          ≡ block_worth (row_part cost) (rows_in see rows) (place_of e).at (block_of p (place_of e).name)
+      block_stays apart =
+          ap (λ (t : Table Kept). block_worth (row_part cost) t (place_of e).at (block_of p (place_of e).name))
+          (rows_stay d m (state_of see started decided told rows running opens) e
+          (state_of see started decided told rows' running' opens') st apart)
+
+      leaf_stays : moves_leaves e ≡ false
+          → worth (leaf_part begun_weight) (place_of e) (running_in started running' (place_of e))
+          ≡ worth (leaf_part begun_weight) (place_of e) (running_in started running (place_of e))
+      leaf_stays apart =
+          ap (λ (t : Table (Running Started)). worth (leaf_part begun_weight) (place_of e) (t (place_of e)))
+          (leaves_stay d m (state_of see started decided told rows running opens) e
+          (state_of see started decided told rows' running' opens') st apart)
+
+      container_stays : moves_containers e ≡ false
+          → worth (turns_part p m.items) (place_of e) (opens_in decided told opens' (place_of e))
+          ≡ worth (turns_part p m.items) (place_of e) (opens_in decided told opens (place_of e))
+      container_stays apart =
+          ap (λ (t : Table (Opening Decided Told)). worth (turns_part p m.items) (place_of e) (t (place_of e)))
+          (containers_stay d m (state_of see started decided told rows running opens) e
+          (state_of see started decided told rows' running' opens') st apart)
+
+      module _ (asked : Moves) (is : IsAsked e asked) (before after : Sums)
+          (b : AreParts see started decided told p cost begun_weight m.items weight rows running opens asked (place_of e) before)
+          (a : AreParts see started decided told p cost begun_weight m.items weight rows' running' opens' asked (place_of e) after)
         where
           rows_follow : (before.rows ≤ sums.rows) × (sums.rows - before.rows + after.rows ≡ new_rows)
           rows_follow =
-              exchanged sums.rows before.rows after.rows _ new_rows _ _ are.rows_are b.rows_are a.rows_are
+              let there = where_asked asked.rows _ new_rows _ _
               (rows_move see started decided told d depth m p plan rows rows' running running' opens opens' reached e st by_rows
               by_rows' (row_part cost))
               (rows_within see started decided told d depth m p plan rows rows' running running' opens opens' reached e st by_rows
               (row_part cost))
+              (λ u. block_stays (sym is.rows_are ∙ u)) in
+              exchanged sums.rows before.rows after.rows _ new_rows _ _ are.rows_are b.rows_are a.rows_are there.0 there.1
 
           running_follow : (before.running ≤ sums.running) × (sums.running - before.running + after.running ≡ new_running)
           running_follow =
-              exchanged sums.running before.running after.running _ new_running _ _ are.running_are b.running_are a.running_are
+              let there = where_asked asked.running _ new_running _ _
               (leaves_move see started decided told d depth m p plan rows rows' running running' opens opens' reached e st by_running
               by_running' (leaf_part begun_weight))
               (leaves_within see started decided told d depth m p plan rows rows' running running' opens opens' reached e st by_running
               (leaf_part begun_weight))
+              (λ u. leaf_stays (sym is.running_are ∙ u)) in
+              exchanged sums.running before.running after.running _ new_running _ _ are.running_are b.running_are a.running_are there.0
+              there.1
 
           turns_follow : (before.turns ≤ sums.turns) × (sums.turns - before.turns + after.turns ≡ new_turns)
           turns_follow =
-              exchanged sums.turns before.turns after.turns _ new_turns _ _ are.turns_are b.turns_are a.turns_are
+              let there = where_asked asked.turns _ new_turns _ _
               (containers_move see started decided told d depth m p plan rows rows' running running' opens opens' reached e st by_opens
               by_opens' (turns_part p m.items))
               (containers_within see started decided told d depth m p plan rows rows' running running' opens opens' reached e st by_opens
               (turns_part p m.items))
+              (λ u. container_stays (sym is.turns_are ∙ u)) in
+              exchanged sums.turns before.turns after.turns _ new_turns _ _ are.turns_are b.turns_are a.turns_are there.0 there.1
 
           decisions_follow : (before.decisions ≤ sums.decisions)
               × (sums.decisions - before.decisions + after.decisions ≡ new_decisions)
           decisions_follow =
-              let asked = where_asked (decides e) _ new_decisions _ _
+              let there = where_asked asked.decisions _ new_decisions _ _
               (containers_move see started decided told d depth m p plan rows rows' running running' opens opens' reached e st by_opens
               by_opens' (decision_part weight))
               (containers_within see started decided told d depth m p plan rows rows' running running' opens opens' reached e st by_opens
               (decision_part weight))
-              decision_stays in
+              (λ u. decision_stays (sym is.decisions_are ∙ u)) in
               exchanged sums.decisions before.decisions after.decisions _ new_decisions _ _ are.decisions_are b.decisions_are
-              a.decisions_are asked.0 asked.1
+              a.decisions_are there.0 there.1
 
           may_move : MayMove sums before after
           may_move = record {
@@ -193,22 +226,20 @@ module _ {Row Begun Decision Verdict Kept Started Decided Told : Type 0} (see : 
             },
           )
 
-      abbrev Before : Bool → Address → Sums → Type 0
+      abbrev Before : Moves → Address → Sums → Type 0
       Before = AreParts see started decided told p cost begun_weight m.items weight rows running opens
 
-      abbrev After : Bool → Address → Sums → Type 0
+      abbrev After : Moves → Address → Sums → Type 0
       After = AreParts see started decided told p cost begun_weight m.items weight rows' running' opens'
 
       -- SUMS THAT ARE MOVED by what stands at an event's action are those of the next state.
-      pub sums_follow : (weighs : Bool) → weighs ≡ decides e → (x : Address) → place_of e ≡ x → (before after : Sums)
-          → AreParts see started decided told p cost begun_weight m.items weight rows running opens weighs x before
-          → AreParts see started decided told p cost begun_weight m.items weight rows' running' opens' weighs x after
+      pub sums_follow : (asked : Moves) → IsAsked e asked → (x : Address) → place_of e ≡ x → (before after : Sums)
+          → AreParts see started decided told p cost begun_weight m.items weight rows running opens asked x before
+          → AreParts see started decided told p cost begun_weight m.items weight rows' running' opens' asked x after
           → MayMove sums before after
           × AreSums see started decided told p cost begun_weight m.items weight rows' running' opens' (moved sums before after)
-      sums_follow weighs asked x here before after b a =
-          follow before after
-          (subst (λ w. Before w (place_of e) before) asked (subst (λ y. Before weighs y before) (sym here) b))
-          (subst (λ w. After w (place_of e) after) asked (subst (λ y. After weighs y after) (sym here) a))
+      sums_follow asked is x here before after b a =
+          follow asked is before after (subst (λ y. Before asked y before) (sym here) b) (subst (λ y. After asked y after) (sym here) a)
 
 -- where an event is
 pub place_is : (e : EventAt) → place_of (event_tree e) ≡ address_of e.instance

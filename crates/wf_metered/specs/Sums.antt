@@ -2,6 +2,7 @@
 use Rattle.std.specs.Prelude.{◌≡◌, ◌≤◌, ◌<◌, ◌+◌, ◌-◌, ◌^◌, ℕ, Bool, List, cond}
 use Rattle.wf_layers.specs.Address.{Address}
 use Rattle.wf_layers.specs.Definition.{Graph}
+use Rattle.wf_layers.specs.Machine.{Event}
 use Rattle.wf_asks.specs.Instances.{rows_in}
 use Rattle.wf_asks.specs.Known.{opens_in}
 use Rattle.wf_asks.specs.declared.known.OpenAt.{OpenAt}
@@ -11,6 +12,8 @@ use Rattle.wf_meter.specs.PlanOf.{IsPlanOf}
 use Rattle.wf_meter.specs.Tables.{running_in}
 use Rattle.wf_meter.specs.LeafAt.{LeafAt}
 use Rattle.wf_meter.specs.Parts.{block_of, block_worth, decision_part, leaf_part, row_part, turns_part, worth, decisions_sum, leaves_sum, rows_sum, turns_sum}
+use Rattle.wf_meter.specs.Parts.{decides, gives_rows, moves_containers, moves_leaves}
+use Rattle.wf_metered.specs.declared.sums.Moves.{Moves}
 use Rattle.wf_metered.specs.declared.sums.Sums.{Sums}
 
 module _ {Row Begun Decision Verdict Kept Started Decided Told : Type 0} (see : Row → Kept) (started : Begun → Started)
@@ -24,13 +27,12 @@ module _ {Row Begun Decision Verdict Kept Started Decided Told : Type 0} (see : 
     pub turns_are : sums.turns ≡ turns_sum decided told p items opens
     pub decisions_are : sums.decisions ≡ decisions_sum decided told weight opens
 
-  -- The same of what stands at one action, and of rows, at those inside it that stand in no loop there; what containers decided by only
-  -- where it is asked for.
-  pub record AreParts (weighs : Bool) (x : Address) (parts : Sums) : Type 0 where
-    pub rows_are : parts.rows ≡ block_worth (row_part cost) (rows_in see rows) x.at (block_of p x.name)
-    pub running_are : parts.running ≡ worth (leaf_part begun_weight) x (running_in started running x)
-    pub turns_are : parts.turns ≡ worth (turns_part p items) x (opens_in decided told opens x)
-    pub decisions_are : parts.decisions ≡ cond weighs (worth (decision_part weight) x (opens_in decided told opens x)) 0
+  -- The same of what stands at one action, and of rows, at those inside it that stand in no loop there; of each only where it is asked for.
+  pub record AreParts (asked : Moves) (x : Address) (parts : Sums) : Type 0 where
+    pub rows_are : parts.rows ≡ cond asked.rows (block_worth (row_part cost) (rows_in see rows) x.at (block_of p x.name)) 0
+    pub running_are : parts.running ≡ cond asked.running (worth (leaf_part begun_weight) x (running_in started running x)) 0
+    pub turns_are : parts.turns ≡ cond asked.turns (worth (turns_part p items) x (opens_in decided told opens x)) 0
+    pub decisions_are : parts.decisions ≡ cond asked.decisions (worth (decision_part weight) x (opens_in decided told opens x)) 0
 
 -- THE SAME BY A GRAPH: whichever plan of it one goes by.
 module _ {Row Begun Decision Verdict Kept Started Decided Told : Type 0} (see : Row → Kept) (started : Begun → Started)
@@ -39,6 +41,13 @@ module _ {Row Begun Decision Verdict Kept Started Decided Told : Type 0} (see : 
   abbrev pub AreSumsOf : Sums → Type 0
   AreSumsOf sums =
       (p : PlanTree) → IsPlanOf d p → AreSums see started decided told p cost begun_weight items weight rows running opens sums
+
+-- Those are asked for that the event can move.
+pub record IsAsked (e : Event) (asked : Moves) : Type 0 where
+  pub rows_are : asked.rows ≡ gives_rows e
+  pub running_are : asked.running ≡ moves_leaves e
+  pub turns_are : asked.turns ≡ moves_containers e
+  pub decisions_are : asked.decisions ≡ decides e
 
 -- Sums from which some parts go, and to which others come.
 abbrev pub moved : Sums → Sums → Sums → Sums

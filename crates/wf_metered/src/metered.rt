@@ -13,11 +13,11 @@ ghost use Rattle.wf_meter.specs.Cost.{opens_cost, rows_cost, running_cost};
 ghost use Rattle.wf_steps.specs.Kept.{Goes, IsEnabled, IsPlanned};
 ghost use Rattle.wf_steps.specs.Shown.{shown};
 
-use crate::sums::{Sums, moved, parts_at};
+use crate::sums::{Moves, Sums, moved, parts_at};
 use std::alloc::{AllocError, Global};
 use std::marker::Model;
 use wf_asks::{Acts, Opens, Rows, Store};
-use wf_meter::{EventAt, Plan, decides, decisions_total, rows_total, total, turns_total};
+use wf_meter::{EventAt, Plan, decisions_total, rows_total, total, turns_total};
 use wf_steps::State;
 
 /// A state, and what it costs.
@@ -139,13 +139,13 @@ impl<'a, A: Acts> Metered<'a, A> {
         ensures err { OnErr result (self.new ≡ self.old) }
     {
         let mut probe = event.instance.copy(alloc)?;
-        let weighs = decides(event.kind);
+        let moves = Moves::of(event.kind);
         self.state.is_reached();
         self.state.is_listed();
-        let before = parts_at(&self.state, self.plan, &event.instance, weighs, &mut probe);
+        let before = parts_at(&self.state, self.plan, &event.instance, moves, &mut probe);
         self.state.step(alloc, event)?;
         self.state.is_listed();
-        let after = parts_at(&self.state, self.plan, &event.instance, weighs, &mut probe);
+        let after = parts_at(&self.state, self.plan, &event.instance, moves, &mut probe);
         self.sums = moved(self.sums, before, after);
         Ok(())
     }

@@ -1,8 +1,9 @@
 -- What is kept of the state of a run that begins.
-use Rattle.std.proofs.Common.{◌≡◌, ℕ, suc, Bool, true, false, ◌&&◌, ◌||◌, cond, List, [], ◌∷◌, length, Option, None, ⊎_elim, refl, eqb-true, true≢false, sym, ap, ◌∙◌, subst, nat_eq}
+use Rattle.std.proofs.Common.{◌≡◌, ℕ, suc, ◌+◌, ◌<◌, ◌≤◌, Bool, true, false, ◌&&◌, ◌||◌, cond, List, [], ◌∷◌, drop, get_or, length, Option, None, ⊎_elim, refl, eqb-true, true≢false, sym, ap, ◌∙◌, subst, nat_eq}
+use Rattle.std.proofs.lemmas.List.{at_drop_all, at_drop_more}
 use Rattle.std.proofs.lemmas.Option.{none-some}
 use Rattle.wf_layers.specs.Definition.{Need, Kind, Leaf, Scope, Choice, Foreach, Until, Graph, done, add, has_own, needs_of}
-use Rattle.wf_layers.specs.Address.{Address, Table, address, is_in, same_at}
+use Rattle.wf_layers.specs.Address.{Address, Table, address, is_in, is_own, same_at}
 use Rattle.wf_layers.specs.Enabled.{event_in, events, own_event}
 use Rattle.wf_layers.specs.Laws.{IsInstance}
 use Rattle.wf_layers.specs.Machine.{State, Event, In, here, there, IsOpen, top, scope, chosen, turn, round, IsThere, fresh}
@@ -199,3 +200,21 @@ events_of_top look {places} {old} {at} {ns} {top} are none graph new x =
     ∙ ap (λ q. look_each look (instances_at [] q) (events_in old) x) graph
     ∙ looked_all look [] top (events_in old) x
     ∙ ap (λ (es : List EventAt). cond (is_among x.name top && same_at [] x.at) (look x) (events_in es x)) new
+
+-- one count more, in a loop over the actions of the graph; and where none is left
+pub counts_more : (p : PlanTree) (ns : List ℕ) (k : ℕ) → k < length ns → (old new : Table ℕ) (at : List ℕ) → at ≡ [] → (count : ℕ)
+    → count ≡ length (needs_at p (get_or ns k 0))
+    → ((x : Address) → new x ≡ cond (is_own (get_or ns k 0) at x) (nonzero count) (old x)) → (x : Address)
+    → set_all (entered_counts p [] (drop (k + 1) ns)) new x ≡ set_all (entered_counts p [] (drop k ns)) old x
+counts_more p ns k lt old new at none count are e x =
+    let same : new ≡ (λ (y : Address). cond (is_own (get_or ns k 0) at y) (nonzero count) (old y)) = λ j y. e y j in
+    ap (λ (t : Table ℕ). set_all (entered_counts p [] (drop (k + 1) ns)) t x) same
+    ∙ ap (λ (i : List ℕ). set_all (entered_counts p [] (drop (k + 1) ns))
+    (λ (y : Address). cond (is_own (get_or ns k 0) i y) (nonzero count) (old y)) x) none
+    ∙ ap (λ (c : ℕ). set_all (entered_counts p [] (drop (k + 1) ns))
+    (λ (y : Address). cond (is_own (get_or ns k 0) [] y) (nonzero c) (old y)) x) are
+    ∙ sym (at_drop_more (λ (r : List ℕ). set_all (entered_counts p [] r) old x) ns k 0 lt)
+
+pub counts_done : (p : PlanTree) (ns : List ℕ) (k : ℕ) → length ns ≤ k → (t : Table ℕ) (x : Address)
+    → t x ≡ set_all (entered_counts p [] (drop k ns)) t x
+counts_done p ns k le t x = sym (at_drop_all (λ (r : List ℕ). set_all (entered_counts p [] r) t x) ns k le)

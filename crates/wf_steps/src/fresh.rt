@@ -1,6 +1,6 @@
 //! The state of a run that begins.
-ghost use Rattle.std.specs.Prelude.{◌≡◌, ◌&&◌, [], IfOk, None, cond, length};
-ghost use Rattle.wf_layers.specs.Address.{Address, same_at};
+ghost use Rattle.std.specs.Prelude.{◌≡◌, ◌&&◌, [], IfOk, OnOk, None, cond, length};
+ghost use Rattle.wf_layers.specs.Address.{Address, is_own, same_at};
 ghost use Rattle.wf_layers.specs.Laws.{IsInstance};
 ghost use Rattle.wf_layers.specs.Machine.{fresh};
 ghost use Rattle.wf_kept.specs.Counted.{nonzero};
@@ -16,10 +16,24 @@ ghost use Rattle.wf_steps.specs.Shown.{shown};
 use crate::state::State;
 use std::alloc::{AllocError, Global};
 use wf_events::{
-    Acts, CountAt, EventAt, Opens, Plan, Rows, Store, entered, instances, look_at_each, set_counts,
+    Acts, CountAt, EventAt, Instance, Known, Opens, Plan, Rows, Store, look_at, needs_of, set_count,
 };
 use wf_room::Roomy;
 use wf_val::Indexes;
+
+// A count is put, and room is made for it where it is kept: 0 isn't.
+fn add_count(waits: &mut Roomy<CountAt>, item: CountAt) -> Result<(), AllocError>
+    ensures { OnOk result ((x : Address) → count_in waits.new.0 x
+        ≡ cond (is_own item.instance.action item.instance.at x) (nonzero item.count) (count_in waits.old.0 x)) }
+{
+    if item.count == 0 {
+        let _gone = waits.take(&item.instance);
+        return Ok(());
+    }
+    waits.make_room(1)?;
+    set_count(waits, item);
+    Ok(())
+}
 
 // How much each action of the definition's own graph waits for, where nothing has a row.
 fn first_waits(alloc: Global, plan: &Plan) -> Result<Roomy<CountAt>, AllocError>
@@ -27,10 +41,16 @@ fn first_waits(alloc: Global, plan: &Plan) -> Result<Roomy<CountAt>, AllocError>
         ≡ cond (is_among x.name (plan_tree plan.now).top && same_at [] x.at)
         (nonzero (length (needs_at (plan_tree plan.now) x.name))) None) }
 {
-    let counts = entered(alloc, plan, plan.top(), &Indexes::new(alloc))?;
+    let top = plan.top();
     let mut waits = Roomy::new(alloc);
-    waits.make_room(counts.len())?;
-    set_counts(&mut waits, counts);
+    for action in top {
+        let instance = Instance {
+            action: *action,
+            at: Indexes::new(alloc),
+        };
+        let count = needs_of(plan, *action);
+        add_count(&mut waits, CountAt { instance, count })?;
+    }
     Ok(waits)
 }
 
@@ -48,10 +68,23 @@ fn first_ready<A: Acts>(
         ≡ cond (is_among x.name (plan_tree plan.now).top && same_at [] x.at)
         (idle_at (A.source acts.now) (rows_in A.row_tree rows.now.0) (count_in waits.now.0) (plan_tree plan.now) x) None) }
 {
-    let places = instances(alloc, plan.top(), &Indexes::new(alloc))?;
+    let top = plan.top();
     let mut ready = Roomy::new(alloc);
-    ready.make_room(places.len())?;
-    look_at_each(acts, plan, rows, opens, store, waits, &mut ready, places);
+    for action in top {
+        let place = Instance {
+            action: *action,
+            at: Indexes::new(alloc),
+        };
+        ready.make_room(1)?;
+        look_at(
+            acts,
+            plan,
+            Known { rows, opens, store },
+            waits,
+            &mut ready,
+            place,
+        );
+    }
     Ok(ready)
 }
 

@@ -17,8 +17,8 @@ use wf_plan::{Instance, OpenAt, Opens, Plan};
 use wf_room::Roomy;
 use wf_val::Indexes;
 
-// How much an action waits for, where nothing that it names has a row.
-fn needs_of(plan: &Plan, action: u32) -> u64
+/// How much an action waits for, where nothing that it names has a row.
+pub fn needs_of(plan: &Plan, action: u32) -> u64
     ensures { result ≡ length (needs_at (plan_tree plan.now) action) }
 {
     match plan.entry(action) {

@@ -13,7 +13,7 @@ mod graphs;
 pub use blocks::{put_rows, skipped_rows};
 pub use counts::{lower, lower_one, set_count, set_counts};
 pub use entries::{CountAt, EventAt, EventKind, LeafAt};
-pub use graphs::{enter, entered, finish_iteration, lack_less};
+pub use graphs::{enter, entered, finish_iteration, lack_less, needs_of};
 pub use wf_plan::{
     Acts, Branch, Entry, Instance, Known, OpenAt, Opens, Plan, RowAt, Rows, Shape, Statuses, Store,
     Wait, WriterAt,

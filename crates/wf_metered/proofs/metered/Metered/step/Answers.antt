@@ -16,7 +16,7 @@ moved-self-inside-requires g c =
     s.sums c.self.invariant.1 u.1.0 u.1.1.0 u.1.1.1.0 c.is_listed-2.ensures.rows c.is_listed-2.ensures.running
     c.is_listed-2.ensures.opens c.is_listed-2.ensures.fewer_rows c.is_listed-2.ensures.fewer_running c.is_listed-2.ensures.fewer_opens
     (event_tree c.args.event.now) c.in_ok-step.ensures.ok
-    c.decides-weighs.result (c.decides-weighs.ensures c.args.event.now.instance.action c.args.event.now.instance.at)
+    c.of-moves.result (c.of-moves.ensures c.args.event.now.instance.action c.args.event.now.instance.at)
     (address_of c.args.event.now.instance) (place_is c.args.event.now) c.parts_at-before.result c.parts_at-after.result
     (record {
       rows_are = c.parts_at-before.ensures.rows;
@@ -45,7 +45,7 @@ invariant_of-self-2 g c =
           s.sums c.self.invariant.1 u.1.0 u.1.1.0 u.1.1.1.0 c.is_listed-2.ensures.rows c.is_listed-2.ensures.running
           c.is_listed-2.ensures.opens c.is_listed-2.ensures.fewer_rows c.is_listed-2.ensures.fewer_running c.is_listed-2.ensures.fewer_opens
           (event_tree c.args.event.now) c.in_ok-step.ensures.ok
-          c.decides-weighs.result (c.decides-weighs.ensures c.args.event.now.instance.action c.args.event.now.instance.at)
+          c.of-moves.result (c.of-moves.ensures c.args.event.now.instance.action c.args.event.now.instance.at)
           (address_of c.args.event.now.instance) (place_is c.args.event.now) c.parts_at-before.result c.parts_at-after.result
           (record {
             rows_are = c.parts_at-before.ensures.rows;
