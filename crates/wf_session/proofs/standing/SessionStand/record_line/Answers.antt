@@ -31,6 +31,11 @@ finished-requires c =
     (subst (λ v. wanted_in v.1.1.1.1 v.1.1.1.0 ≡ []) (sym c.self.view_is) c.requires) in
     at_last checked s.start s.inputs rest s.waits.0 st none c.in_ok-start.start c.in_ok-start.ensures
 
+pub returns-in_err-start-clause-fault : goal.returns-in_err-start-clause-fault
+returns-in_err-start-clause-fault c =
+    let p = err_from_is_err_and c.from_residual.result c.from_residual.ensures.1 in
+    rw (p.1) (λ other. absurd (other p.2))
+
 pub returns-then-costs_too_much-clause-fault : goal.returns-then-costs_too_much-clause-fault
 returns-then-costs_too_much-clause-fault c = λ other.
     let s = c.self.inside in
