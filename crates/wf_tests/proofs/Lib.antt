@@ -1,4 +1,5 @@
 mod SourceLemmas
+mod WholeLemmas
 mod HandedLemmas
 mod ScheduleLemmas
 mod RunLemmas

@@ -3,7 +3,7 @@ use Rattle.std.proofs.Common.{◌≡◌, ◌+◌, ◌<◌, ℕ, List, [], ◌∷
 use Rattle.std.proofs.lemmas.List.{take_more}
 use Rattle.wf_outside.specs.Outside.{Held}
 use Rattle.wf_tests.specs.Loaded.{AreLoaded, IsLoaded}
-use Rattle.wf_tests.specs.declared.loading.Loaded.{Loaded}
+use Rattle.wf_tests.specs.declared.loaded.Loaded.{Loaded}
 
 module _ (held : Held) where
   loaded-snoc : (files : List (List ℕ)) (all : List Loaded) (file : List ℕ) (loaded : Loaded) → AreLoaded held files all

@@ -16,7 +16,7 @@ use Rattle.wf_tests.specs.Names.{beside}
 use Rattle.wf_tests.specs.Runs.{AreRun, Says}
 use Rattle.wf_tests.specs.Served.{AreTested}
 use Rattle.wf_tests.specs.Sources.{source_named}
-use Rattle.wf_tests.specs.declared.loading.Loaded.{Loaded}
+use Rattle.wf_tests.specs.declared.loaded.Loaded.{Loaded}
 use Rattle.wf_tests.specs.declared.sources.Sources.{Sources}
 
 module _ (held : Held) where

@@ -5,7 +5,7 @@ use Rattle.wf_judged.specs.declared.lines.Ended.{Ended}
 use Rattle.wf_tap.specs.declared.report.Results.{Results}
 use Rattle.wf_tests.specs.Runs.{AreRun, Says}
 use Rattle.wf_tests.specs.Served.{AreTested}
-use Rattle.wf_tests.specs.declared.loading.Loaded.{Loaded}
+use Rattle.wf_tests.specs.declared.loaded.Loaded.{Loaded}
 
 module _ (says : Says) where
   tested-snoc : (ls : List Loaded) (rs : List Results) (l : Loaded) (r : Results) → AreTested says ls rs → r.file ≡ l.file

@@ -1,5 +1,5 @@
 -- The command of a test: its words, and the files that it is handed, which have names of their own.
-use Rattle.std.specs.Prelude.{ℕ, List, [], ◌∷◌, Option, Some, None, if◌then◌else◌, bytes_eq, codes, slice_get}
+use Rattle.std.specs.Prelude.{◌≡◌, ◌≢◌, ◌⊎◌, ℕ, List, [], ◌∷◌, Option, Some, None, if◌then◌else◌, bytes_eq, codes, slice_get}
 use Rattle.wf_json.specs.Json.{json}
 use Rattle.wf_judged.specs.Lines.{run_named}
 use Rattle.wf_judged.specs.declared.lines.Ended.{Ended}
@@ -41,6 +41,10 @@ schedule_of sources Kind.Check = Some []
 schedule_of sources (Kind.Run inputs schedule further seed) = schedule_in sources schedule
 schedule_of sources (Kind.Again of from inputs schedule) = schedule_in sources schedule
 
+-- all that is handed to a test's command is there
+abbrev pub IsReady : Sources → Kind → Type 0
+IsReady sources kind = (inputs_of sources kind ≢ None) × (schedule_of sources kind ≢ None)
+
 -- the bytes of each name
 abbrev pub handed : List ℕ → List ℕ → List ℕ → List ℕ → List ℕ → Option (List ℕ)
 handed definition history inputs schedule name =
@@ -66,6 +70,11 @@ abbrev pub words_of : Kind → List ℕ → List (List ℕ)
 words_of Kind.Check history = check_words
 words_of (Kind.Run inputs schedule further seed) history = run_words
 words_of (Kind.Again of from inputs schedule) history = again_words (run_named history) from
+
+-- these words are the command of a test
+abbrev pub IsOfATest : List (List ℕ) → Type 0
+IsOfATest words =
+    (words ≡ check_words) ⊎ (words ≡ run_words) ⊎ ((run : List ℕ) × (from : List (List ℕ)) × (words ≡ again_words run from))
 
 -- under how many further schedules a test runs, and what they are made from
 abbrev pub further_of : Kind → ℕ

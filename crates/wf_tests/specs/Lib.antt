@@ -3,6 +3,7 @@ pub mod Names
 pub mod Sources
 pub mod Reading
 pub mod Command
+pub mod Whole
 pub mod Schedules
 pub mod Runs
 pub mod Loaded

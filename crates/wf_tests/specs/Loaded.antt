@@ -4,7 +4,7 @@ use Rattle.wf_outside.specs.Outside.{Held}
 use Rattle.wf_tests.specs.Names.{beside}
 use Rattle.wf_tests.specs.Reading.{suite_in}
 use Rattle.wf_tests.specs.Sources.{source_named}
-use Rattle.wf_tests.specs.declared.loading.Loaded.{Loaded}
+use Rattle.wf_tests.specs.declared.loaded.Loaded.{Loaded}
 use Rattle.wf_tests.specs.declared.sources.Sources.{Sources}
 use Rattle.wf_tests.specs.declared.stop.Stop.{Stop}
 

@@ -14,7 +14,7 @@ use Rattle.wf_tests.specs.Asked.{AnyAsks, TellsOf}
 use Rattle.wf_tests.specs.Loaded.{AreLoaded, Stopped}
 use Rattle.wf_tests.specs.Runs.{AreRun, Says}
 use Rattle.wf_tests.specs.Words.{Wish, wish_of}
-use Rattle.wf_tests.specs.declared.loading.Loaded.{Loaded}
+use Rattle.wf_tests.specs.declared.loaded.Loaded.{Loaded}
 use Rattle.wf_tests.specs.declared.stop.Stop.{Stop}
 
 -- ---- what is written

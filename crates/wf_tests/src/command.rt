@@ -1,8 +1,8 @@
 //! The command of a test, and the files that it is handed.
-ghost use Rattle.std.specs.Prelude.{◌≡◌, ◌∷◌, ◌++◌, [], Some, IfOk, OnOk};
-ghost use Rattle.wf_tests.specs.Command.{again_words, check_words, history_of, inputs_in, inputs_of, run_words, schedule_in, schedule_of};
+ghost use Rattle.std.specs.Prelude.{◌≡◌, ◌≢◌, ◌∷◌, ◌++◌, [], Some, None, IfOk, OnOk};
+ghost use Rattle.wf_tests.specs.Command.{IsOfATest, again_words, check_words, history_of, inputs_in, inputs_of, run_words, schedule_in, schedule_of};
 ghost use Rattle.wf_tests.specs.Command.{words_of};
-ghost use Rattle.wf_tests.specs.Sources.{source_named};
+ghost use Rattle.wf_tests.specs.Sources.{IsThere, source_named};
 
 use crate::sources::Sources;
 use std::alloc::{AllocError, Global};
@@ -25,15 +25,14 @@ pub(crate) fn history_of<'a>(kind: &Kind, ends: &'a [Ended]) -> &'a [u8]
 
 // The bytes that a name has, which were read before any test runs.
 fn named(alloc: Global, sources: &Sources, name: &Text) -> Result<Vec<u8>, AllocError>
+    requires { IsThere sources.now name.now }
     ensures { IfOk result (λ bytes. source_named sources.now name.now ≡ Some bytes.items) }
 {
-    match sources.get(name) {
-        Some(bytes) => Ok(bytes.to_vec(alloc)?),
-        None => Err(AllocError),
-    }
+    sources.get(name).unwrap().to_vec(alloc)
 }
 
 fn inputs_in(alloc: Global, sources: &Sources, given: &Given) -> Result<Vec<u8>, AllocError>
+    requires { inputs_in sources.now given.now ≢ None }
     ensures { IfOk result (λ bytes. inputs_in sources.now given.now ≡ Some bytes.items) }
 {
     match given {
@@ -52,6 +51,7 @@ pub(crate) fn inputs_of(
     sources: &Sources,
     kind: &Kind,
 ) -> Result<Vec<u8>, AllocError>
+    requires { inputs_of sources.now kind.now ≢ None }
     ensures { IfOk result (λ bytes. inputs_of sources.now kind.now ≡ Some bytes.items) }
 {
     match kind {
@@ -62,6 +62,7 @@ pub(crate) fn inputs_of(
 }
 
 fn schedule_in(alloc: Global, sources: &Sources, name: &Option<Text>) -> Result<Vec<u8>, AllocError>
+    requires { schedule_in sources.now name.now ≢ None }
     ensures { IfOk result (λ bytes. schedule_in sources.now name.now ≡ Some bytes.items) }
 {
     match name {
@@ -76,6 +77,7 @@ pub(crate) fn schedule_of(
     sources: &Sources,
     kind: &Kind,
 ) -> Result<Vec<u8>, AllocError>
+    requires { schedule_of sources.now kind.now ≢ None }
     ensures { IfOk result (λ bytes. schedule_of sources.now kind.now ≡ Some bytes.items) }
 {
     match kind {
@@ -130,7 +132,8 @@ fn again_words(alloc: Global, run: &Text, from: &Names) -> Result<Vec<Text>, All
 
 /// The words of a test's command; a resubmission is of the first run of its history.
 pub(crate) fn words_of(alloc: Global, kind: &Kind, history: &[u8]) -> Result<Vec<Text>, AllocError>
-    ensures { IfOk result (λ words. words.items ≡ words_of kind.now history.now) }
+    ensures words { IfOk result (λ words. words.items ≡ words_of kind.now history.now) }
+    ensures of_a_test { IfOk result (λ words. IsOfATest words.items) }
 {
     match kind {
         Kind::Check => check_words(alloc),

@@ -12,6 +12,7 @@
 mod command;
 mod handed;
 mod kept;
+mod loaded;
 mod loading;
 mod names;
 mod program;

@@ -1,14 +1,17 @@
 //! The reading of files, before any test runs.
-ghost use Rattle.std.specs.Prelude.{◌≡◌, ◌≤◌, ◌++◌, Contains, Err, IfErr, IfOk, Ok, List, ℕ, option_map};
+ghost use Rattle.std.specs.Prelude.{◌≡◌, ◌≤◌, ◌++◌, Contains, Err, IfErr, IfOk, IfSome, Ok, List, ℕ, option_map};
 ghost use Rattle.wf_json.specs.Json.{string};
 ghost use Rattle.wf_tests.specs.Asked.{AnyAsks, FileAsks, IsNamed, SuiteNames, TellsOf, TestNames};
 ghost use Rattle.wf_tests.specs.Loaded.{AreLoaded, AreSources, HasRead, IsLoaded, Stopped};
 ghost use Rattle.wf_tests.specs.Named.{file_of, inputs_file, schedule_file};
 ghost use Rattle.wf_tests.specs.Names.{beside};
 ghost use Rattle.wf_tests.specs.Reading.{json_words, suite_in, suite_words};
-ghost use Rattle.wf_tests.specs.Sources.{source_named};
+ghost use Rattle.wf_tests.specs.Command.{IsReady};
+ghost use Rattle.wf_tests.specs.Sources.{IsThere, Keeps, source_named};
+ghost use Rattle.wf_tests.specs.Whole.{AreReady, IsWhole};
 ghost use Rattle.wf_tests.specs.declared.stop.Stop.TheVariants.{Memory};
 
+use crate::loaded::Loaded;
 use crate::names::beside;
 use crate::sources::Sources;
 use crate::stop::Stop;
@@ -99,6 +102,8 @@ fn with_named<F: Files>(
     requires long { 4194304 ≤ limit }
     requires read { AreSources (F.held files.old) file.now sources }
     ensures sources { IfOk result (λ s. AreSources (F.held files.old) file.now s × (F.failed files.new ≡ F.failed files.old)) }
+    ensures there { IfOk result (λ s. IsThere s name.now) }
+    ensures keeps { IfOk result (λ s. Keeps sources s) }
     ensures stop { IfErr result (λ stop. Stopped (F.held files.old) (F.failed files.old) (F.failed files.new) stop) }
     ensures told { IfErr result (λ stop. TellsOf (λ path. path ≡ beside file.now name.now) (λ _. ⊥) stop) }
     ensures same { F.held files.new ≡ F.held files.old }
@@ -121,6 +126,8 @@ fn with_any<F: Files>(
 ) -> Result<Sources, Stop>
     requires { AreSources (F.held files.old) file.now sources }
     ensures sources { IfOk result (λ s. AreSources (F.held files.old) file.now s × (F.failed files.new ≡ F.failed files.old)) }
+    ensures there { IfOk result (λ s. IfSome (option_map (λ n. n.now) name.entry) (λ n. IsThere s n)) }
+    ensures keeps { IfOk result (λ s. Keeps sources s) }
     ensures stop { IfErr result (λ stop. Stopped (F.held files.old) (F.failed files.old) (F.failed files.new) stop) }
     ensures told { IfErr result (λ stop. TellsOf (IsNamed file.now (option_map (λ n. n.now) name.entry)) (λ _. ⊥) stop) }
     ensures same { F.held files.new ≡ F.held files.old }
@@ -170,6 +177,8 @@ fn with_test<F: Files>(
 ) -> Result<Sources, Stop>
     requires { AreSources (F.held files.old) file.now sources }
     ensures sources { IfOk result (λ s. AreSources (F.held files.old) file.now s × (F.failed files.new ≡ F.failed files.old)) }
+    ensures ready { IfOk result (λ s. IsReady s test.now.kind) }
+    ensures keeps { IfOk result (λ s. Keeps sources s) }
     ensures stop { IfErr result (λ stop. Stopped (F.held files.old) (F.failed files.old) (F.failed files.new) stop) }
     ensures told { IfErr result (λ stop. TellsOf (TestNames file.now test.now) (λ _. ⊥) stop) }
     ensures same { F.held files.new ≡ F.held files.old }
@@ -186,6 +195,7 @@ fn sources_of<F: Files>(
     suite: &Suite,
 ) -> Result<Sources, Stop>
     ensures sources { IfOk result (λ s. AreSources (F.held files.old) file.now s × (F.failed files.new ≡ F.failed files.old)) }
+    ensures whole { IfOk result (λ s. IsWhole suite.now s) }
     ensures stop { IfErr result (λ stop. Stopped (F.held files.old) (F.failed files.old) (F.failed files.new) stop) }
     ensures told { IfErr result (λ stop. TellsOf (SuiteNames file.now suite.now) (λ _. ⊥) stop) }
     ensures same { F.held files.new ≡ F.held files.old }
@@ -196,14 +206,6 @@ fn sources_of<F: Files>(
         sources = with_test(alloc, files, file, test, sources)?;
     }
     Ok(sources)
-}
-
-/// A file of tests, and the files that it names.
-#[derive(Drop)]
-pub(crate) struct Loaded {
-    pub(crate) file: Text,
-    pub(crate) suite: Suite,
-    pub(crate) sources: Sources,
 }
 
 // The tests of a file.

@@ -3,9 +3,10 @@ ghost use Rattle.std.specs.Prelude.{◌≡◌, ◌≤◌, ◌<◌, List, ℕ, []
 ghost use Rattle.wf_judged.specs.Failures.{failures_of};
 ghost use Rattle.wf_judged.specs.Why.{why};
 ghost use Rattle.wf_judged.specs.declared.lines.Ended.{Ended};
-ghost use Rattle.wf_tests.specs.Command.{further_of, handed, history_of, seed_of, words_of};
+ghost use Rattle.wf_tests.specs.Command.{IsOfATest, IsReady, further_of, handed, history_of, seed_of, words_of};
 ghost use Rattle.wf_tests.specs.Runs.{AreRun, Came, CameUnder, IsRun};
-ghost use Rattle.wf_tests.specs.Sources.{source_named};
+ghost use Rattle.wf_tests.specs.Sources.{IsThere, source_named};
+ghost use Rattle.wf_tests.specs.Whole.{IsWhole};
 
 use crate::command::{history_of, inputs_of, schedule_of, words_of};
 use crate::handed::{Handed, files_of};
@@ -27,6 +28,7 @@ fn came<P: Program>(
     given: Handed<'_>,
     schedule: &[u8],
 ) -> Result<Ended, AllocError>
+    requires { IsOfATest words.now }
     ensures { IfOk result (λ ended. Came P.says words.now
         (handed given.entry.definition.now given.entry.history.now given.entry.inputs.now schedule.now) ended) }
 {
@@ -52,7 +54,7 @@ fn seed_of(kind: &Kind) -> u64
     }
 }
 
-// How they end under further schedules; no more than 1000 are made.
+// How they end under further schedules.
 fn came_under<P: Program>(
     alloc: Global,
     program: &P,
@@ -60,16 +62,13 @@ fn came_under<P: Program>(
     given: Handed<'_>,
     kind: &Kind,
 ) -> Result<Vec<Ended>, AllocError>
+    requires { IsOfATest words.now }
     ensures came { IfOk result (λ others. CameUnder P.says words.now
         (handed given.entry.definition.now given.entry.history.now given.entry.inputs.now) (seed_of kind.now) 0 others.items) }
     ensures all { IfOk result (λ others. length others.items ≡ further_of kind.now) }
 {
     let mut others = Vec::new(alloc);
-    let count = further_of(kind);
-    if count > 1000 {
-        return Err(AllocError);
-    }
-    for place in 0..count {
+    for place in 0..further_of(kind) {
         let schedule = further_schedule(alloc, seed_of(kind), place)?;
         others.push(came(alloc, program, words, given, &schedule)?)?;
     }
@@ -91,11 +90,11 @@ fn run_test<P: Program>(
     ends: &[Ended],
     test: &Test,
 ) -> Result<Ran, AllocError>
+    requires definition { IsThere sources.now definition.now }
+    requires ready { IsReady sources.now test.now.kind }
     ensures { IfOk result (λ ran. IsRun P.says sources.now definition.now ends.now test.now ran.ended ran.outcome) }
 {
-    let Some(text) = sources.get(definition) else {
-        return Err(AllocError);
-    };
+    let text = sources.get(definition).unwrap();
     let history = history_of(&test.kind, ends);
     let inputs = inputs_of(alloc, sources, &test.kind)?;
     let schedule = schedule_of(alloc, sources, &test.kind)?;
@@ -119,6 +118,7 @@ pub(crate) fn run_tests<P: Program>(
     sources: &Sources,
     suite: &Suite,
 ) -> Result<Series<Outcome>, AllocError>
+    requires { IsWhole suite.now sources.now }
     ensures { IfOk result (λ outcomes. (ends : List Ended)
         × AreRun P.says sources.now suite.now.definition [] suite.now.tests ends outcomes) }
 {

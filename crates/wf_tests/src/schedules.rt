@@ -13,11 +13,11 @@ fn next(state: u64) -> u64
 }
 
 fn start(seed: u64, place: u64) -> u64
-    requires { place < 1000 }
     ensures start { result ≡ start seed place }
     ensures within { result < 2147483648 }
 {
-    (seed % 2147483648 + place * 7919) % 2147483648
+    let sum = u128::from(seed % 2147483648) + u128::from(place) * 7919;
+    (sum % 2147483648) as u64
 }
 
 fn line(alloc: Global, state: u64) -> Result<String, AllocError>
@@ -29,7 +29,6 @@ fn line(alloc: Global, state: u64) -> Result<String, AllocError>
 
 /// The text of the schedule of a place, from 0.
 pub(crate) fn further_schedule(alloc: Global, seed: u64, place: u64) -> Result<Vec<u8>, AllocError>
-    requires { place < 1000 }
     ensures { IfOk result (λ bytes. bytes.items ≡ further_schedule seed place) }
 {
     let mut bytes = Vec::new(alloc);

@@ -13,7 +13,8 @@ ghost use Rattle.wf_tests.specs.Runs.{AreRun};
 ghost use Rattle.wf_talk.specs.Written.{Writes};
 ghost use Rattle.wf_tests.specs.Words.{wish_of, wish_tree};
 
-use crate::loading::{Loaded, load_all};
+use crate::loaded::Loaded;
+use crate::loading::load_all;
 use crate::program::Program;
 use crate::running::run_tests;
 use crate::stop::Stop;

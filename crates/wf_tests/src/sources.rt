@@ -1,6 +1,6 @@
 //! The bytes of files that tests name.
 ghost use Rattle.std.specs.Prelude.{◌≡◌, ℕ, List, None, Some, IfOk, bytes_eq, option_map, if◌then◌else◌};
-ghost use Rattle.wf_tests.specs.Sources.{source_named};
+ghost use Rattle.wf_tests.specs.Sources.{IsThere, Keeps, source_named};
 
 use std::alloc::{AllocError, Global};
 use std::collections::BTreeMap;
@@ -39,8 +39,10 @@ impl Sources {
         name: &Text,
         bytes: Vec<u8>,
     ) -> Result<Sources, AllocError>
-        ensures { IfOk result (λ s. (other : List ℕ) → source_named s other
+        ensures put { IfOk result (λ s. (other : List ℕ) → source_named s other
             ≡ (if bytes_eq name.now other then Some bytes.items else source_named self other)) }
+        ensures there { IfOk result (λ s. IsThere s name.now) }
+        ensures keeps { IfOk result (λ s. Keeps self s) }
     {
         let mut all = self.bytes;
         let _earlier = all.insert(name.copy(alloc)?, bytes)?;

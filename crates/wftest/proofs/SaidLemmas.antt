@@ -1,12 +1,38 @@
 -- What is said of words that are no session: the status, and all that was taken.
-use Rattle.std.proofs.Common.{◌≡◌, ◌⊎◌, ℕ, ◌<◌, List, [], ◌++◌, true, false, nat_le, suc, zero, Option, Some, inl, inr, refl, sym, ap, subst, ◌∙◌, arith, true≢false}
-use Rattle.std.specs.Prelude.{◌&&◌}
+use Rattle.std.proofs.Common.{◌≡◌, ◌⊎◌, Bool, ℕ, ◌<◌, List, [], ◌++◌, true, false, nat_le, suc, zero, Option, Some, inl, inr, refl, sym, ap, subst, ◌∙◌, arith, true≢false}
+use Rattle.std.specs.Prelude.{◌&&◌, None, if◌then◌else◌}
 use Rattle.wf_outside.specs.Outside.{IsCalm}
+use Rattle.wf_tests.specs.Command.{IsOfATest, again_words}
 use Rattle.wf_top.specs.Commands.{plan_of}
 use Rattle.wf_top.specs.Conversed.{HoldsTalk}
 use Rattle.wf_top.specs.Served.{FailedAt, IsSaid, Say}
 use Rattle.wf_top.specs.Words.{command_of}
-use Rattle.wf_top.specs.declared.words.Command.TheVariants.{Session}
+use Rattle.wf_top.specs.declared.words.Command.{Command}
+use Rattle.wf_top.specs.declared.words.Command.TheVariants.{ResubmitSet, Session}
+
+-- ---- the command of a test is no session
+
+is-session : Option Command → Bool
+is-session (Some Session) = true
+is-session command = false
+
+set-apart : (b : Bool) → is-session (if b then Some ResubmitSet else None) ≡ false
+set-apart true = refl
+set-apart false = refl
+
+again-apart : (run : List ℕ) (from : List (List ℕ)) → is-session (command_of (again_words run from)) ≡ false
+again-apart run from = set-apart _
+
+test-apart : (words : List (List ℕ)) → IsOfATest words → is-session (command_of words) ≡ false
+test-apart words (inl check) = ap (λ (w : List (List ℕ)). is-session (command_of w)) check
+test-apart words (inr (inl run)) = ap (λ (w : List (List ℕ)). is-session (command_of w)) run
+test-apart words (inr (inr again)) =
+    ap (λ (w : List (List ℕ)). is-session (command_of w)) again.2 ∙ again-apart again.0 again.1
+
+pub no_session : (words : List (List ℕ)) → IsOfATest words → command_of words ≡ Some Session → ⊥
+no_session words test session = true≢false (sym (ap is-session session) ∙ test-apart words test)
+
+-- ---- what is said
 
 -- a count that starts at 0 and doesn't rise is calm
 pub calm : (count later status : ℕ) → count ≡ 0 → (status ≡ 4 → ⊥) → (count < later → status ≡ 4) → IsCalm count later

@@ -1,26 +1,20 @@
 //! The program that tests are of.
-ghost use Rattle.std.specs.Prelude.{◌≡◌, ◌↔◌, ◌&&◌, IfOk, IsTrue, Some, nat_le};
+ghost use Rattle.std.specs.Prelude.{◌≡◌, ◌&&◌, IfOk, nat_le};
 ghost use Rattle.wf_outside.specs.MemFiles.{files_held};
+ghost use Rattle.wf_tests.specs.Command.{IsOfATest};
 ghost use Rattle.wf_top.specs.Served.{Say};
-ghost use Rattle.wf_top.specs.Words.{command_of};
 
 use std::alloc::{AllocError, Global};
 use wf_judged::Ended;
 use wf_outside::{MemFiles, MemSource};
 use wf_printed::Printer;
 use wf_tests::{Kept, Program};
-use wf_top::{Command, parse_words, serve_words};
+use wf_top::serve_words;
 use wf_val::Text;
 
-/// The program `wflow` without its standard streams: each command but `session` is done by `wf_top::serve_words`, and what that writes is
-/// kept.
+/// The program `wflow` without its standard streams: the command of a test is done by `wf_top::serve_words`, and what that writes is kept.
+/// No test has the command `session`, which alone would read an input.
 pub struct Wflow;
-
-fn is_session(words: &[Text]) -> bool
-    ensures { IsTrue result ↔ (command_of words.now ≡ Some Command.Session) }
-{
-    matches!(parse_words(words), Some(Command::Session))
-}
 
 // A read of files in memory that are all there, and a sink that grows, fail for want of memory alone.
 fn is_short_of_memory(status: u8) -> bool
@@ -38,11 +32,9 @@ impl Program for Wflow {
         words: &[Text],
         files: &mut MemFiles,
     ) -> Result<Ended, AllocError>
+        requires { IsOfATest words.now }
         ensures { IfOk result (λ ended. Say (files_held files.old) words.now ended.status ended.text.items) }
     {
-        if is_session(words) {
-            return Err(AllocError);
-        }
         let mut input = MemSource::new(alloc, b"")?;
         let mut kept = Kept::new(alloc);
         let status = serve_words(alloc, words, files, &Printer, &mut input, &mut kept);
