@@ -1,6 +1,6 @@
 -- That what tests are handed is there, as more files are read.
-use Rattle.std.proofs.Common.{◌≡◌, ◌+◌, ◌<◌, ◌≤◌, ℕ, Bool, true, false, cond, List, length, take, get_or, Option, None, Some, refl, sym, ◌∙◌, subst}
-use Rattle.std.proofs.Common.{take_all, true≢false}
+use Rattle.std.proofs.Common.{◌≡◌, ◌+◌, ◌<◌, ◌≤◌, ℕ, Bool, true, false, cond, List, length, take, get_or, Option, None, Some}
+use Rattle.std.proofs.Common.{refl, sym, ◌∙◌, subst, take_all, true≢false}
 use Rattle.std.proofs.lemmas.List.Elements.{All-more, All-weaker}
 use Rattle.std.proofs.lemmas.Option.{none-some}
 use Rattle.std.proofs.lemmas.Slice.Eq.{bytes_eq-Decides}
@@ -51,8 +51,8 @@ module _ (sources : Sources) where
   schedule-there (Some name) there = there
 
   -- it is there where its files are
-  pub ready_of_files : (kind : Kind) → IfSome (inputs_file kind) (λ n. IsThere sources n) → IfSome (schedule_file kind) (λ n. IsThere sources n)
-      → IsReady sources kind
+  pub ready_of_files : (kind : Kind) → IfSome (inputs_file kind) (λ n. IsThere sources n)
+      → IfSome (schedule_file kind) (λ n. IsThere sources n) → IsReady sources kind
   ready_of_files Kind.Check inputs schedule = (some-there _ _ refl, some-there _ _ refl)
   ready_of_files (Kind.Run given name further seed) inputs schedule = (inputs-there given inputs, schedule-there name schedule)
   ready_of_files (Kind.Again of from given name) inputs schedule = (inputs-there given inputs, schedule-there name schedule)
@@ -80,9 +80,11 @@ module _ (old new : Sources) (keeps : Keeps old new) where
       → AreReady old (take i tests) → IsReady new test.kind → AreReady new (take (i + 1) tests)
   ready_more tests i test within is ready one =
       All-more (λ (t : Test). IsReady new t.kind) tests i test within
-      (All-weaker (λ (t : Test). IsReady old t.kind) (λ (t : Test). IsReady new t.kind) (λ (t : Test). ready-kept t.kind) (take i tests) ready)
+      (All-weaker (λ (t : Test). IsReady old t.kind) (λ (t : Test). IsReady new t.kind) (λ (t : Test). ready-kept t.kind) (take i tests)
+      ready)
       (subst (λ (t : Test). IsReady new t.kind) is one)
 
 -- at the end it is all of them
-pub ready_all : (sources : Sources) (tests : List Test) (i : ℕ) → length tests ≤ i → AreReady sources (take i tests) → AreReady sources tests
+pub ready_all : (sources : Sources) (tests : List Test) (i : ℕ) → length tests ≤ i → AreReady sources (take i tests)
+    → AreReady sources tests
 ready_all sources tests i over ready = subst (λ (ts : List Test). AreReady sources ts) (take_all i tests over) ready

@@ -1,7 +1,7 @@
 //! The command of a test, and the files that it is handed.
 ghost use Rattle.std.specs.Prelude.{◌≡◌, ◌≢◌, ◌∷◌, ◌++◌, [], Some, None, IfOk, OnOk};
-ghost use Rattle.wf_tests.specs.Command.{IsOfATest, again_words, check_words, history_of, inputs_in, inputs_of, run_words, schedule_in, schedule_of};
-ghost use Rattle.wf_tests.specs.Command.{words_of};
+ghost use Rattle.wf_tests.specs.Command.{IsOfATest, again_words, check_words, history_of, inputs_in, inputs_of, run_words, schedule_in};
+ghost use Rattle.wf_tests.specs.Command.{schedule_of, words_of};
 ghost use Rattle.wf_tests.specs.Sources.{IsThere, source_named};
 
 use crate::sources::Sources;

@@ -1,5 +1,6 @@
 -- What is said of words that are no session: the status, and all that was taken.
-use Rattle.std.proofs.Common.{◌≡◌, ◌⊎◌, Bool, ℕ, ◌<◌, List, [], ◌++◌, true, false, nat_le, suc, zero, Option, Some, inl, inr, refl, sym, ap, subst, ◌∙◌, arith, true≢false}
+use Rattle.std.proofs.Common.{◌≡◌, ◌⊎◌, Bool, ℕ, ◌<◌, List, [], ◌++◌, true, false, nat_le, suc, zero, Option, Some, inl, inr, refl, sym}
+use Rattle.std.proofs.Common.{ap, subst, ◌∙◌, arith, true≢false}
 use Rattle.std.specs.Prelude.{◌&&◌, None, if◌then◌else◌}
 use Rattle.wf_outside.specs.Outside.{IsCalm}
 use Rattle.wf_tests.specs.Command.{IsOfATest, again_words}
