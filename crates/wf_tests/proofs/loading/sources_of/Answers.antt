@@ -11,7 +11,8 @@ loop-test-preserved g c = record {
   definition = c.in_ok-sources-2.ensures.keeps _ c.loop-test.invariant.definition;
   ready =
       ready_more c.loop-test.sources c.in_ok-sources-2.sources c.in_ok-sources-2.ensures.keeps c.as_slice-test-items.result.now
-      c.loop-test.test-index c.test-item.result c.loop-test-test.true c.test-item.is c.loop-test.invariant.ready c.in_ok-sources-2.ensures.ready;
+      c.loop-test.test-index c.test-item.result c.loop-test-test.true c.test-item.is c.loop-test.invariant.ready
+      c.in_ok-sources-2.ensures.ready;
   unfailed = search rules;
   same = search rules;
 }
