@@ -8,7 +8,7 @@ ghost use Rattle.wf_tests.specs.Names.{beside};
 ghost use Rattle.wf_tests.specs.Reading.{json_words, suite_in, suite_words};
 ghost use Rattle.wf_tests.specs.Command.{IsReady};
 ghost use Rattle.wf_tests.specs.Sources.{IsThere, Keeps, source_named};
-ghost use Rattle.wf_tests.specs.Whole.{AreReady, IsWhole};
+ghost use Rattle.wf_tests.specs.Whole.{IsWhole};
 ghost use Rattle.wf_tests.specs.declared.stop.Stop.TheVariants.{Memory};
 
 use crate::loaded::Loaded;

@@ -18,8 +18,9 @@ loop-test-preserved g c = record {
 }
 
 pub returns-clause-whole : goal.returns-clause-whole
-returns-clause-whole g c =
-    (c.loop-test.invariant.definition,
-    subst (λ (ts : List Test). AreReady c.loop-test.sources ts) c.as_slice-test-items.ensures
-    (ready_all c.loop-test.sources c.as_slice-test-items.result.now c.loop-test.test-index (omega (arith, c.loop-test-test.false))
-    c.loop-test.invariant.ready))
+returns-clause-whole g c = (
+  c.loop-test.invariant.definition,
+  subst (λ (ts : List Test). AreReady c.loop-test.sources ts) c.as_slice-test-items.ensures
+      (ready_all c.loop-test.sources c.as_slice-test-items.result.now c.loop-test.test-index (omega (arith, c.loop-test-test.false))
+      c.loop-test.invariant.ready),
+)
