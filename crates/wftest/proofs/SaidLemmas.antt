@@ -13,7 +13,7 @@ use Rattle.wf_top.specs.declared.words.Command.TheVariants.{ResubmitSet, Session
 
 -- ---- the command of a test is no session
 
-is-session : Option Command → Bool
+abbrev is-session : Option Command → Bool
 is-session (Some Session) = true
 is-session command = false
 
