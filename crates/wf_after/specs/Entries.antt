@@ -31,7 +31,7 @@ abbrev pub are_statuses : ValueTree → Bool
 are_statuses (list ts) = list_all is_status (items ts)
 are_statuses t = false
 
--- an entry of the action `own` that names no other action of its graph, or lists what is no status
+-- an entry of the action `own` that names no other action of its graph, or whose value is no list of statuses
 abbrev pub is_bad_entry : List Member → List ℕ → Member → Bool
 is_bad_entry graph own entry = is_none (place_in entry.0 graph) || (bytes_eq own entry.0 || not (are_statuses entry.1))
 

@@ -1,4 +1,4 @@
--- WHAT IS ASKED of a resubmission: what the program asks before it makes one (`wf_resubmit`), and no more.
+-- WHAT IS ASKED of the record that is resubmitted, and of the actions that it is resubmitted from (`wf_resubmit`).
 use Rattle.std.specs.Prelude.{◌≡◌, ℕ, List, [], None, true}
 use Rattle.wf_layers.specs.Address.{address}
 use Rattle.wf_def.specs.DefTree.{DefTree}

@@ -245,7 +245,7 @@ word_end (Some v) = Some (whole_of v)
 abbrev pub in_whole : Stack → Option Reading → Option Reading
 in_whole k r = if is_whole k then r else None
 
--- the template, where the text may end
+-- what the text is read as, where it may end
 abbrev pub finish_at : Mode → Stack → Option Reading
 finish_at at_start k = Some (items_of [])
 finish_at (at_sign a) k = None
@@ -276,7 +276,7 @@ abbrev pub ended : Option Reading → ℕ → Result Reading ℕ
 ended None at = Err at
 ended (Some w) at = Ok w
 
--- the tree, or how many characters were taken
+-- what the characters are read as, or how many were taken before one was refused, all where the text can't end so
 abbrev pub scan : State → ℕ → List ℕ → Result Reading ℕ
 scan st at [] = ended (finish st) at
 scan st at (c ∷ s) = went (step st c at) at (λ next. scan next (at + 1) s)

@@ -45,7 +45,8 @@ bool_of (Some (number n)) = Ok (boolean (not (int_eq n (pos 0))))
 bool_of (Some (text s)) = named_truth s
 bool_of t = Err (wrong_type Fun.Bool 0)
 
--- a truth value is itself, 0 is false and every other number true, and a text is the truth value that it names
+-- a truth value is itself, 0 is false and every other number true, and a text is the truth value that it
+-- names, if it names one; all else is of the wrong type
 abbrev pub bool_row : List ValueTree → Answer
 bool_row ts = bool_of (slice_get ts 0)
 

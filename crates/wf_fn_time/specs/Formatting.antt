@@ -19,7 +19,7 @@ day_start t = t - t % ticks_a_day
 abbrev pub hour_start : ℕ → ℕ
 hour_start t = t - t % 36000000000
 
--- the start of the first day of the month
+-- the first day of the month, and where it starts
 abbrev pub first_of_month : Day → Day
 first_of_month d = record { year = d.year; month = d.month; day = 1 }
 

@@ -12,7 +12,7 @@ abbrev pub IsPairing : Fun → Type 0
 IsPairing f = (ts : List ValueTree) (t : ValueTree) → 2 ≤ length ts → AllByRecursion Fits ts → Fits t →
     strict_row f (ts ++ t ∷ []) ≡ given (strict_row f ts) (λ u. at_place (length ts) (strict_row f (u ∷ t ∷ [])))
 
--- the functions of which that holds
+-- functions of which that holds
 abbrev pub is_pairing : Fun → Bool
 is_pairing Fun.Min = true
 is_pairing Fun.Max = true

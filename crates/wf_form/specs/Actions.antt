@@ -5,7 +5,7 @@ use Rattle.wf_form.specs.Role.{child, holder_of}
 use Rattle.wf_form.specs.declared.role.Role.{Role}
 use Rattle.wf_form.specs.declared.role.Holder.{Holder}
 
--- what is found in a member that the rules look at
+-- what is found in a member by its role, nothing where it has none
 abbrev pub in_part : {X : Type 0} → Option Role → (Role → List X) → List X
 in_part None found = []
 in_part (Some role) found = found role

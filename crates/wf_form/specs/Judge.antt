@@ -1,4 +1,4 @@
--- What breaks a rule where it stands: pointers from the value on. Each rule is a list of them, said in a file of its own.
+-- What breaks a rule where it stands: pointers from the value on. Each rule is a list of them.
 use Rattle.std.specs.Prelude.{ℕ, List, [], Bool, false, not}
 use Rattle.wf_after.specs.Waits.{bad_run_after}
 use Rattle.wf_after.specs.Pointer.{here}

@@ -42,7 +42,7 @@ held Holder.Many level key =
     if bytes_eq key (codes "cases") then Some (Role.Cases level) else
     (if bytes_eq key (codes "default") then Some (Role.Branch level) else None)
 
--- what a member stands for; the rules look at no other member
+-- what a member stands for, by what has it; None where it stands for nothing
 abbrev pub child : Role → Holder → List ℕ → Option Role
 child Role.Definition holder key = section key
 child Role.Parameters holder key = Some Role.Parameter

@@ -3,7 +3,7 @@
 //! A page is a list of pieces (`specs/Html.antt`): a tag of a fixed list opens, it closes, or something is said. The text of a tag is a
 //! literal of this crate, with all of its attributes: there is no attribute, and no tag, that takes a text from outside, and none for
 //! script. What is said is escaped, whatever it is: of an escaped text neither `<`, `>`, `"` nor `'` is left, and `&` only at the head of
-//! one of five references (`what_is_said_is_safe`); a browser that reads the references has the text again (`what_is_said_is_read_back`).
+//! one of five references; a browser that reads the references has the text again (`what_is_said_is_read_back`).
 //! `specs/Nested.antt` says when pieces close what they open, in order.
 //!
 //! Pieces aren't kept: each call writes one behind a buffer, so a page takes the memory of its text.

@@ -5,7 +5,7 @@ use Rattle.wf_layers.specs.Address.{address, Table}
 use Rattle.wf_layers.specs.Seen.{Once}
 use Rattle.wf_layers.specs.Machine.{has_ended, is_ended, all_ended}
 
--- 1 where the action hasn't ended.
+-- how many of these actions haven't ended
 abbrev pub waiting : {A : Type 0} → List Need → List ℕ → Table A → ℕ
 waiting [] i t = 0
 waiting (n ∷ ns) i t = cond (has_ended (t (address n.name i))) (waiting ns i t) (suc (waiting ns i t))

@@ -19,7 +19,7 @@ use Rattle.wf_leaves.specs.Texts.{data_in, data_of, template_at, text_in}
 abbrev pub nothing : KindTree
 nothing = compose datum.null
 
--- the retry policy that a connector's inputs have: the standard one where there is none
+-- the retry policy that a value is, the standard one where it is none
 abbrev pub or_standard : Result Policy PolicyFault → Policy
 or_standard (Ok policy) = policy
 or_standard (Err fault) = Policy.Standard

@@ -8,7 +8,7 @@ use Rattle.wf_match.specs.Told.{Told}
 use Rattle.wf_val.specs.Get.{get, is_object}
 use Rattle.wf_val.specs.ValueTree.{ValueTree, object, Member, members, pairs}
 
--- whether a member has what is expected of actions, by their addresses
+-- the members of an object; no other value has any
 abbrev pub members_of : ValueTree → List Member
 members_of (object ms) = pairs ms
 members_of t = []

@@ -11,7 +11,7 @@ use Rattle.wf_page.specs.Words.{Asked, asked_of}
 abbrev pub within : ℕ → List ℕ → Option (List ℕ)
 within limit bytes = if nat_le (length bytes) limit then Some bytes else None
 
--- what a read of a name may give: where the files tell, what they hold, else any bytes within the limit
+-- what a read of a name may give: where the files tell, what they hold, else any bytes within the limit, or None
 abbrev pub MayGive : Held → ℕ → List ℕ → Option (List ℕ) → Type 0
 MayGive None limit name file = IfSome file (λ bytes. length bytes ≤ limit)
 MayGive (Some bytes_of) limit name file = option_map (within limit) (bytes_of name) ≡ Some file

@@ -8,7 +8,7 @@ use Rattle.wf_val.specs.ValueTree.{ValueTree, list, object, ValueTrees, no_value
 pub record Form (R : Type 0) : Type 0 where
   -- whether a value may stand in the role, as far as it is judged as a whole
   pub is_right : R → ValueTree → Bool
-  -- the members that an object in the role must have
+  -- the members that a value in the role must have; what is no object lacks all
   pub needed : R → List (List ℕ)
   -- whether it may have no others than those that have a role
   pub is_closed : R → Bool

@@ -36,7 +36,7 @@ impl Written {
         ensures text { IfOk result (λ more. more.text.items ≡ self.text.items ++ run_text (told ended.now)) }
         ensures cost { IfOk result (λ more. more.cost ≡ self.cost + cost (record_tree ended.now.finished)) }
     {
-        let cost = self.cost + ended.finished.cost();
+        let cost = self.cost + ended.cost;
         let text = with_run(alloc, self.text, ended)?;
         Ok(Written { text, cost })
     }

@@ -17,6 +17,7 @@ mod attempt;
 mod cost;
 mod laws;
 mod line;
+mod plain;
 mod record;
 mod row;
 mod short;

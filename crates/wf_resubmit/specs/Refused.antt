@@ -23,7 +23,8 @@ is_loop (foreach over repetitions graph) = true
 is_loop (until test count fails graph) = true
 is_loop kind = false
 
--- the outermost loop round an action: a container stands before all that it holds in the list of all actions
+-- a loop round an action, and the first such of all actions, which is the outermost: in their list a container stands before all that it
+-- holds
 abbrev pub is_round : OrderTree → ℕ → ActionTree → Bool
 is_round o n a = is_loop (action_kind a) && contains o (action_number a) n
 

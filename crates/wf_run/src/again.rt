@@ -7,10 +7,11 @@ ghost use Rattle.wf_run.specs.Runs.{IsEnded, IsTheResubmission, IsWithin, MayBeR
 ghost use Rattle.wf_run.specs.Runs.{record_left, resumed_cost, resumed_record};
 ghost use Rattle.wf_run.specs.Seen.{told};
 
+use crate::cost::cost_within;
 use crate::driven::driven;
 use crate::made::Made;
 use crate::opened::was_read;
-use crate::run::{Ended, is_too_large};
+use crate::run::Ended;
 use crate::runnable::{Runnable, is_planned};
 use std::alloc::{AllocError, Global};
 use wf_actions::{Actions, Making};
@@ -149,11 +150,13 @@ impl<'a> Runnable<'a> {
             trace,
         } = (&*self).remake(alloc, &start, &*log, &*from, &*inputs, schedule)?;
         let finished = self.record(alloc, start, inputs, rows, &store)?;
-        if is_too_large(&finished, 0) {
-            return Err(DriveFault::TooLarge);
-        }
+        let cost = match cost_within(&finished, 0) {
+            Some(cost) => cost,
+            None => return Err(DriveFault::TooLarge),
+        };
         Ok(Ended {
             finished,
+            cost,
             steps,
             peak,
             trace,

@@ -5,9 +5,10 @@ ghost use Rattle.wf_run.specs.Made.{AreFew, IsTooMuch};
 ghost use Rattle.wf_run.specs.Runs.{IsEnded, IsTheRun, IsWithin, cost_of, meant_cost, meant_record, record_left};
 ghost use Rattle.wf_run.specs.Seen.{told};
 
+use crate::cost::cost_within;
 use crate::driven::driven;
 use crate::made::Made;
-use crate::run::{Ended, is_too_large};
+use crate::run::Ended;
 use crate::runnable::{Runnable, is_planned};
 use std::alloc::Global;
 use wf_actions::{Actions, Making};
@@ -75,11 +76,13 @@ impl<'a> Runnable<'a> {
             trace,
         } = self.make(alloc, &start, inputs, schedule, spent, traced)?;
         let finished = self.record(alloc, start, inputs, rows, &store)?;
-        if is_too_large(&finished, spent) {
-            return Err(DriveFault::TooLarge);
-        }
+        let cost = match cost_within(&finished, spent) {
+            Some(cost) => cost,
+            None => return Err(DriveFault::TooLarge),
+        };
         Ok(Ended {
             finished,
+            cost,
             steps,
             peak,
             trace,

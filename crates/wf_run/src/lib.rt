@@ -17,6 +17,7 @@
 #![tactic(auto)]
 
 mod again;
+mod cost;
 mod driven;
 mod finished;
 mod fresh;

@@ -2,7 +2,7 @@
 //!
 //! `Session` keeps one state of the event machine. It goes on until nothing may happen but attempts that have no answer, and is put aside
 //! then without its actions, since these borrow the inputs. As an answer comes it is added to the inputs, and the state goes on from where
-//! it stood: `wf_quiet` says that it may, and `wf_more` that the definition's actions are such. So a talk of many answers makes the run
+//! it stood: `wf_quiet` says that it may, and `wf_answered` that the definition's actions are such. So a talk of many answers makes the run
 //! once. Where it stands is what `wf_stands` says, whatever way it has come there.
 #![tactic(auto)]
 

@@ -17,7 +17,7 @@ use Rattle.wf_suite.specs.declared.suite.Wanted.{Wanted}
 
 -- ---- tests by name
 
--- the place of the first test of a name, counted from one
+-- the place of the first test of a name, where the first of all has this place
 abbrev pub place_from : ℕ → List ℕ → List Test → Option ℕ
 place_from place name [] = None
 place_from place name (test ∷ tests) = if bytes_eq test.name name then Some place else place_from (suc place) name tests

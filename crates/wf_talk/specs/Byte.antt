@@ -16,12 +16,14 @@ abbrev pub Gives : Option (List ℕ) → Option (List ℕ) → Option ℕ → Ty
 Gives left left' (Some b) = Consumes left left' (b ∷ [])
 Gives left left' None = Keeps left left' × IsAtEnd left'
 
--- what the sink's count did in a call: as it was where the talk goes on, and else 4 is answered where it rose, and nowhere else
+-- what the sink's count did in a call: as it was where the talk goes on; else 4 is answered only where it has risen or stands at its
+-- last value, and always where it grew
 abbrev pub SinkDid : ℕ → ℕ → Option ℕ → Type 0
 SinkDid before now None = now ≡ before
 SinkDid before now (Some status) = (status ≡ 4 → Rose before now) × (before < now → status ≡ 4)
 
--- what the source's count did: as it was where the talk goes on, and else 3 is answered only where it rose, and 3 or 4 where it did
+-- what the source's count did: as it was where the talk goes on; else 3 is answered only where it has risen or stands at its
+-- last value, and 3 or 4 where it grew
 abbrev pub SourceDid : ℕ → ℕ → Option ℕ → Type 0
 SourceDid before now None = now ≡ before
 SourceDid before now (Some status) = (status ≡ 3 → Rose before now) × (before < now → (status ≡ 3) ⊎ (status ≡ 4))

@@ -8,7 +8,8 @@ use Rattle.wf_tap.specs.declared.escapes.Place.{Place}
 abbrev pub is_control : ℕ → Bool
 is_control c = nat_lt c 32 || c == 127
 
--- XML 1.0 may not write it (production 2): it has no form there, not even an escaped one
+-- XML 1.0 may not write it (production 2), not even escaped; of what is below 32 it may write three, which have references of their own
+-- here
 abbrev pub is_forbidden : ℕ → Bool
 is_forbidden c = nat_lt c 32 || (c == 65534 || c == 65535)
 

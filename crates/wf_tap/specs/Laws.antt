@@ -14,7 +14,7 @@ abbrev pub point_lines : ℕ → List Point → List (List ℕ)
 point_lines n [] = []
 point_lines n (p ∷ ps) = point_line n p.1 ∷ point_lines (suc n) ps
 
--- no byte of a line is the end of one, or any other control character
+-- no byte of it is below 32, so none is the end of a line
 abbrev pub is_one_line : List ℕ → Bool
 is_one_line l = list_all (λ x. not (nat_lt x 32)) l
 

@@ -16,7 +16,7 @@ deep_le-node_count (Tree.Text s) = omega arith
 deep_le-node_count (Tree.List ts) = omega arith
 deep_le-node_count (Tree.Obj fs) = omega arith
 
--- no child is as deep as the list has nodes
+-- no child is deeper than the list has nodes
 pub most_le-count_of_list : (ts : List Tree) → most deep-Tree ts ≤ count_of_list (map data_tree ts)
 most_le-count_of_list [] = omega arith
 most_le-count_of_list (t ∷ ts) = omega (arith, deep_le-node_count t, most_le-count_of_list ts)

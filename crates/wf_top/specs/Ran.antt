@@ -38,11 +38,11 @@ abbrev pub GivesDefinition : Held → List (List ℕ) → Command → Result Def
 GivesDefinition held words command found =
     (command_of words ≡ Some command) × Gives held (word words 1) definition_bytes definition_form found
 
--- what INPUTS gave to `run` or `trace`
+-- what INPUTS gave, the word behind DEFINITION
 abbrev pub GivesInputs : Held → List (List ℕ) → Result InputsTree FormFault → Type 0
 GivesInputs held words found = Gives held (word words 2) inputs_bytes inputs_form found
 
--- what SCHEDULE gave to `run` or `trace`: a schedule that isn't named is the empty one
+-- what SCHEDULE gave: a schedule that isn't named is the empty one
 abbrev pub GivesNumbers : Held → Option (List ℕ) → Result (List ℕ) FormFault → Type 0
 GivesNumbers held None found = found ≡ Ok []
 GivesNumbers held (Some name) found = Gives held name schedule_bytes schedule_form found

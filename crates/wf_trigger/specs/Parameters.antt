@@ -33,7 +33,7 @@ fails Want.Allowed p None = false
 fails Want.Allowed p (Some v) = is_barred p.allowed v
 
 module _ (handed given : List Member) where
-  -- the first that fails, in the order of names
+  -- the first that fails, in the order in which they stand
   abbrev pub first_failing : Want → List ParamTree → Option (List ℕ)
   first_failing want [] = None
   first_failing want (p ∷ ps) = if fails want p (given_value handed given p) then Some p.name else first_failing want ps

@@ -19,7 +19,7 @@ deep_le-node_count (Val.Text s) = omega arith
 deep_le-node_count (Val.List vs) = omega arith
 deep_le-node_count (Val.Obj fs) = omega arith
 
--- no child is as deep as the list has nodes
+-- no child is deeper than the list has nodes
 pub most_le-count_of_list : (vs : List Val) → most deep-Val vs ≤ count_of_list (map tree vs)
 most_le-count_of_list [] = omega arith
 most_le-count_of_list (v ∷ vs) = omega (arith, deep_le-node_count v, most_le-count_of_list vs)

@@ -11,6 +11,7 @@ use crate::val::{FEW, LIGHT, Size, Val};
 use std::alloc::{AllocError, Global};
 use std::cmp::Ordering;
 use std::marker::Model;
+use std::mem::replace;
 use std::rc::Rc;
 use std::slice::from_ref;
 
@@ -132,11 +133,24 @@ impl Vals {
     {
         item.always_well_formed();
         match &mut self.items {
+            Items::Empty => {
+                self.items = Items::One(Box::new(self.alloc, item)?);
+                Ok(())
+            }
+            Items::One(first) => {
+                // all that can fail comes before the first value is moved
+                let room = Vec::with_capacity(self.alloc, 4)?;
+                let mut both = Box::new(self.alloc, room)?;
+                both.push_reserved(replace(first.as_mut(), Val::Null));
+                both.push_reserved(item);
+                self.items = Items::Many(both);
+                Ok(())
+            }
             Items::Many(items) => {
                 items.push(item)?;
                 Ok(())
             }
-            _ => {
+            Items::Shared(_) => {
                 *self = self.copy_with(self.alloc, item)?;
                 Ok(())
             }

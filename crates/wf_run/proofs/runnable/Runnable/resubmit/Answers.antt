@@ -4,9 +4,9 @@ use Rattle.wf_run.specs.Made.{IsTooMuch}
 use Rattle.wf_run.specs.Runs.{IsTheResubmission}
 use Rattle.wf_run.proofs.runnable.Runnable.resubmit.Goals as goal
 
-pub returns-then-is_too_large-clause-large : goal.returns-then-is_too_large-clause-large
-returns-then-is_too_large-clause-large c = λ other.
-    subst (λ r. IsTooMuch 0 (cost r)) (c.in_ok-finished.ensures ∙ c.in_ok-rows.ensures.meant) (c.is_too_large.ensures.large c.if-is_too_large.true)
+pub returns-in-None-clause-large : goal.returns-in-None-clause-large
+returns-in-None-clause-large c = λ other.
+    subst (λ r. IsTooMuch 0 (cost r)) (c.in_ok-finished.ensures ∙ c.in_ok-rows.ensures.meant) (c.cost_within.ensures.large c.in-None.is)
 
 pub returns-clause-told : goal.returns-clause-told
 returns-clause-told c =

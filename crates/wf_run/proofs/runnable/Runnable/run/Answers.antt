@@ -4,10 +4,10 @@ use Rattle.wf_run.specs.Made.{AreFew, IsTooMuch}
 use Rattle.wf_run.specs.Runs.{IsTheRun}
 use Rattle.wf_run.proofs.runnable.Runnable.run.Goals as goal
 
-pub returns-then-is_too_large-clause-large : goal.returns-then-is_too_large-clause-large
-returns-then-is_too_large-clause-large c = λ other.
+pub returns-in-None-clause-large : goal.returns-in-None-clause-large
+returns-in-None-clause-large c = λ other.
     subst (λ r. IsTooMuch c.args.spent (cost r)) (c.in_ok-finished.ensures ∙ c.in_ok-rows.ensures.meant)
-    (c.is_too_large.ensures.large c.if-is_too_large.true)
+    (c.cost_within.ensures.large c.in-None.is)
 
 pub returns-clause-told : goal.returns-clause-told
 returns-clause-told c =

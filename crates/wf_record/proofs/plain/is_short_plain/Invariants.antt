@@ -1,10 +1,10 @@
 use Rattle.std.proofs.Common.{◌≡◌, drop}
 use Rattle.std.specs.Prelude.{flat_map}
 use Rattle.wf_json.specs.Json.{escaped}
-use Rattle.wf_record.proofs.short.is_plain.Given as goal
+use Rattle.wf_record.proofs.plain.is_short_plain.Given as goal
 
 -- what is to be seen of the bytes that are left
 abbrev pub invariant-loop-byte : goal.invariant-loop-byte
 invariant-loop-byte l =
-    flat_map escaped (drop l.byte-index l.byte-items) ≡ drop l.byte-index l.byte-items
-    → flat_map escaped l.byte-items ≡ l.byte-items
+    flat_map escaped (drop l.byte-index l.text) ≡ drop l.byte-index l.text
+    → flat_map escaped l.text ≡ l.text
