@@ -93,9 +93,9 @@ impl Starts {
 pub(crate) fn trigger_value(alloc: Global, name: Val, outputs: Val) -> Result<Val, AllocError>
     ensures { IfOk result (λ v. tree v ≡ trigger_value (tree name) (tree outputs)) }
 {
-    let mut fields = Fields::new(alloc);
-    fields.put(Text::of(alloc, "name")?, name)?;
-    fields.put(Text::of(alloc, "outputs")?, outputs)?;
+    let mut fields = Fields::with_capacity(alloc, 2)?;
+    fields.append(Text::of(alloc, "name")?, name)?;
+    fields.append(Text::of(alloc, "outputs")?, outputs)?;
     Val::Obj(fields).shared(alloc)
 }
 
