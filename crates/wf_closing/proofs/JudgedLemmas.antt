@@ -46,6 +46,25 @@ none_marked zero n = refl
 none_marked (suc size) zero = refl
 none_marked (suc size) (suc n) = none_marked size n
 
+set_none : (size n : ℕ) → set (replicate size false) n false ≡ replicate size false
+set_none zero n = refl
+set_none (suc size) zero = refl
+set_none (suc size) (suc n) = ap (λ ms. false ∷ ms) (set_none size n)
+
+-- no end fails the graph where nothing is marked
+pub none_ends : (size : ℕ) (ends : List ℕ) → list_any (is_marked (replicate size false)) ends ≡ false
+none_ends size [] = refl
+none_ends size (n ∷ ends) = ap (λ b. b || list_any (is_marked (replicate size false)) ends) (none_marked size n) ∙ none_ends size ends
+
+-- a row that passes, whatever is handed on, leaves nothing marked
+pub none_more : (at : List ℕ) (known : Table Row) (s : StepTree) (ss : List StepTree) (size : ℕ)
+    → ((handed : Bool) → judge_row (known (address s.number at)) handed ≡ false)
+    → fails_from at known (s ∷ ss) (replicate size false) ≡ fails_from at known ss (replicate size false)
+none_more at known s ss size passes =
+    ap (λ b. fails_from at known ss (set (replicate size false) s.number b))
+    (passes (list_any (is_marked (replicate size false)) s.after))
+    ∙ ap (fails_from at known ss) (set_none size s.number)
+
 -- ---- lists
 
 each : {X : Type 0} (P : X → Type 0) → ((x : X) → P x) → (xs : List X) → AllByRecursion P xs

@@ -1,6 +1,6 @@
 //! How a graph ended.
 ghost use Rattle.std.specs.Prelude.{◌≡◌, ◌∷◌, ◌++◌, [], IfOk, OnOk, false, filter, length, map, not, option_map, replicate, set, suc, true, ℕ};
-ghost use Rattle.std.specs.Prelude.{if◌then◌else◌};
+ghost use Rattle.std.specs.Prelude.{Bool, if◌then◌else◌};
 ghost use Rattle.std.specs.List.{find, list_all, list_any};
 ghost use Rattle.wf_asks.specs.Instances.{address_of, rows_in};
 ghost use Rattle.wf_def.specs.ActionSeen.{action_tree};
@@ -204,6 +204,7 @@ impl Judged {
     }
 
     /// How the graph ended at these indexes, by the rows that are there.
+    #[tactic(auto, using(crate::proofs::JudgedLemmas::none_ends))]
     pub fn status(
         &self,
         alloc: Global,
@@ -212,6 +213,9 @@ impl Judged {
     ) -> Result<Status, AllocError>
         ensures { IfOk result (λ s. s ≡ status_by at.now (rows_in row_content rows.now.0) (judged_tree self.now)) }
     {
+        if all_pass(alloc, &self.steps, at, rows)? {
+            return Ok(Status::Succeeded);
+        }
         let fails = fails_of(alloc, &self.steps, self.size, at, rows)?;
         Ok(status_of(any_marked(&fails, &self.ends)))
     }
@@ -235,6 +239,39 @@ fn judge_row(rows: &Rows<Row>, place: &Instance, handed: bool) -> bool
         Some(found) => judge(found.row.status, handed),
         None => false,
     }
+}
+
+// Whether a row neither fails its graph nor hands the judgement on.
+fn passes(rows: &Rows<Row>, place: &Instance) -> bool
+    ensures { result ≡ true → (handed : Bool) → judge_row (rows_in row_content rows.now.0 (address_of place.now)) handed ≡ false }
+{
+    match rows.get(place) {
+        Some(found) => matches!(found.row.status, Status::Succeeded),
+        None => true,
+    }
+}
+
+// Whether all rows pass, so that none has to be marked as one that fails the graph.
+fn all_pass(
+    alloc: Global,
+    steps: &[Step],
+    at: &Indexes,
+    rows: &Rows<Row>,
+) -> Result<bool, AllocError>
+    ensures { IfOk result (λ all. all ≡ true → (size : ℕ) → fails_from at.now (rows_in row_content rows.now.0) (map step_tree steps.now)
+        (replicate size false) ≡ replicate size false) }
+{
+    let mut place = Instance {
+        action: 0,
+        at: at.copy(alloc)?,
+    };
+    for step in steps {
+        place.action = step.number;
+        if !passes(rows, &place) {
+            return Ok(false);
+        }
+    }
+    Ok(true)
 }
 
 fn any_marked(marks: &[bool], numbers: &[u32]) -> bool

@@ -20,7 +20,7 @@ ghost use Rattle.wf_doing.specs.Seen.{definition_of, seen};
 
 use crate::attempts::{ended, has_try, tries};
 use crate::own::Own;
-use crate::rows::{row, unknown_row};
+use crate::rows::{unknown_row, without_address};
 use crate::setting::{Setting, sight, tracked_of};
 use std::alloc::{AllocError, Global};
 use wf_asks::{Instance, Known};
@@ -82,7 +82,7 @@ fn with_tracked<'a>(
         (action_tree action.now) (done_tree done) attempts) }
 {
     let value = properties(alloc, setting, action, place, &done, known)?;
-    row(alloc, name_of(action), &place.at, done, value, attempts)
+    Ok(without_address(alloc, done, value, attempts))
 }
 
 fn finished<'a>(
@@ -116,7 +116,7 @@ pub fn finish<'a>(
         (inputs_tree setting.now.inputs.now).answers place.now.at (begun_tree begun.now)) }
 {
     match setting.places.action(place.action) {
-        None => unknown_row(alloc, &place.at),
+        None => unknown_row(alloc),
         Some(action) => finished(alloc, setting, action, place, begun, known),
     }
 }
@@ -182,7 +182,7 @@ pub fn close<'a>(
         (rows_in row_content known.entry.rows.now.0)) }
 {
     match setting.places.action(place.action) {
-        None => unknown_row(alloc, &place.at),
+        None => unknown_row(alloc),
         Some(action) => closed(
             alloc, setting, action, inside, place, decision, count, verdict, known,
         ),

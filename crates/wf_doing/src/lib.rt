@@ -29,7 +29,7 @@ pub use laws::{
     containers_are_judged, terminates_halt, what_is_done_is_meant, what_is_done_is_the_source,
 };
 pub use opening::{decide, start, test_until};
-pub use rows::{row, skipped};
+pub use rows::skipped;
 pub use setting::Setting;
 pub use weights::{begun_weight, decision_weight};
 pub use wf_closing::Inside;

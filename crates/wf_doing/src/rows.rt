@@ -15,8 +15,28 @@ use wf_lists::TryCopy;
 use wf_record::{Row, Status, Tries};
 use wf_val::{Address, EvalFault, Fields, Indexes, Name, Text, Val};
 
-/// The row of an action that came to this, with its tracked properties and its attempts.
-pub fn row(
+// The row of an action that came to this, with its tracked properties and its attempts, for an instance that is known where it stands: it
+// has no address, which the rows of a record get as they are listed.
+pub(crate) fn without_address(alloc: Global, done: Done, tracked: Val, attempts: Tries) -> Row
+    ensures { (row_tree result).row ≡ row_of (done_tree done) (tree tracked) attempts }
+{
+    Row {
+        address: Address {
+            name: Text::from_string(String::new(alloc)),
+            at: Indexes::new(alloc),
+        },
+        status: done.status,
+        code: done.code,
+        inputs: done.inputs,
+        outputs: done.outputs,
+        error: done.error,
+        tracked,
+        attempts,
+    }
+}
+
+// The same, at an address.
+fn row(
     alloc: Global,
     name: &Name,
     at: &Indexes,
@@ -60,18 +80,12 @@ pub(crate) fn unknown(alloc: Global) -> Result<Done, AllocError>
 }
 
 // And its row.
-pub(crate) fn unknown_row(alloc: Global, at: &Indexes) -> Result<Row, AllocError>
+pub(crate) fn unknown_row(alloc: Global) -> Result<Row, AllocError>
     ensures { IfOk result (λ r. (row_tree r).row ≡ row_of unknown (object no_members) []) }
 {
     let done = unknown(alloc)?;
-    row(
-        alloc,
-        &Text::of(alloc, "")?,
-        at,
-        done,
-        Val::Obj(Fields::new(alloc)),
-        Tries::new(alloc),
-    )
+    let tracked = Val::Obj(Fields::new(alloc));
+    Ok(without_address(alloc, done, tracked, Tries::new(alloc)))
 }
 
 /// The row of an action that doesn't run.

@@ -104,8 +104,29 @@ impl<'a> Ends<'a> {
         Ok(status)
     }
 
-    // The values of the section `outputs`, or the first fault.
+    // The values of the section `outputs`, or the first fault. Where there are none, nothing has to be seen for them.
     fn outputs(
+        &self,
+        alloc: Global,
+        start: &Start,
+        inputs: &Inputs,
+        rows: &Rows<Row>,
+        store: &Store,
+    ) -> Result<Result<Fields, EvalFault>, AllocError>
+        requires { HasEnded (def_tree self.now.checked.now.def) (fresh (start_tree start.now) (inputs_tree inputs.now))
+            (rows_seen rows.now.0) (store_in store.now.0) }
+        ensures { IfOk result (λ s. s ≡ section (told_to_outputs (def_tree self.now.checked.now.def)
+            (fresh (start_tree start.now) (inputs_tree inputs.now)) (rows_seen rows.now.0)) (def_tree self.now.checked.now.def).outputs) }
+    {
+        if self.checked.def.outputs.as_slice().is_empty() {
+            return Ok(Ok(Fields::new(alloc)));
+        }
+        let values = self.values(alloc, start, inputs, rows, store)?;
+        Ok(values)
+    }
+
+    // The same, of any section.
+    fn values(
         &self,
         alloc: Global,
         start: &Start,

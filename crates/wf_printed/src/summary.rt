@@ -1,21 +1,26 @@
 //! The line below a record's, on how its run went.
-ghost use Rattle.std.specs.Prelude.{◌≡◌, IfOk};
+ghost use Rattle.std.specs.Prelude.{◌≡◌, ◌++◌, OnOk};
 ghost use Rattle.wf_told.specs.Summary.{summary_line};
 
-use std::alloc::{AllocError, Global};
+use std::alloc::AllocError;
+use wf_told::add_number;
 
-/// The line on how a run went.
-#[tactic(auto, unfolding(wf_told::specs::Summary::summary_line))]
-pub(crate) fn summary_line(
-    alloc: Global,
+/// Writes the line on how a run went.
+#[tactic(auto, unfolding(wf_told::specs::Summary::summary_line), using(std::proofs::Common::append_assoc))]
+pub(crate) fn put_summary(
+    text: &mut Vec<u8>,
     run: &str,
     steps: u64,
     peak: u64,
-) -> Result<Vec<u8>, AllocError>
-    ensures { IfOk result (λ line. line.items ≡ summary_line run.now steps peak) }
+) -> Result<(), AllocError>
+    ensures { OnOk result (text.new.items ≡ text.old.items ++ summary_line run.now steps peak) }
 {
-    // Two numbers have twenty digits each at most.
-    let mut line = String::with_capacity(alloc, run.len().saturating_add(64))?;
-    writeln!(line, "# run {run} steps {steps} peak {peak}")?;
-    Ok(line.into_bytes())
+    text.extend_from_slice(b"# run ")?;
+    text.extend_from_slice(run.as_bytes())?;
+    text.extend_from_slice(b" steps ")?;
+    add_number(text, steps)?;
+    text.extend_from_slice(b" peak ")?;
+    add_number(text, peak)?;
+    text.push(b'\n')?;
+    Ok(())
 }

@@ -5,7 +5,7 @@ ghost use Rattle.wf_record.specs.Seen.{record_tree};
 ghost use Rattle.wf_session.specs.Seen.{told};
 ghost use Rattle.wf_told.specs.Text.{run_text};
 
-use crate::summary::summary_line;
+use crate::summary::put_summary;
 use std::alloc::{AllocError, Global};
 use wf_record::with_record_line;
 use wf_session::Ended;
@@ -50,11 +50,11 @@ pub(crate) fn with_run(alloc: Global, text: Vec<u8>, ended: &Ended) -> Result<Ve
     let mut more = text;
     more.extend_from_slice(&ended.trace)?;
     let mut more = with_record_line(alloc, more, &ended.finished)?;
-    more.extend_from_slice(&summary_line(
-        alloc,
+    put_summary(
+        &mut more,
         ended.finished.run.as_str(),
         ended.steps,
         ended.peak,
-    )?)?;
+    )?;
     Ok(more)
 }

@@ -15,8 +15,8 @@ pub(crate) fn add(line: &mut Vec<u8>, text: &str) -> Result<(), AllocError>
     Ok(())
 }
 
-// Adds a number in decimal.
-pub(crate) fn add_number(line: &mut Vec<u8>, number: u64) -> Result<(), AllocError>
+/// Adds a number in decimal.
+pub fn add_number(line: &mut Vec<u8>, number: u64) -> Result<(), AllocError>
     ensures { OnOk result (line.new.items ≡ line.old.items ++ decimal number) }
 {
     let mut buffer = Buffer::new();

@@ -14,7 +14,7 @@ use Rattle.wf_sight_laws.specs.SightSeen.{known_tree}
 use Rattle.wf_sight_laws.specs.Sight.{KnownTree, RunTree, seen_by_outputs}
 use Rattle.wf_sight_laws.specs.SightSightSeen.{run_tree, sight_drawn, sight_told}
 use Rattle.wf_catalog.specs.StartsSeen.{start_tree}
-use Rattle.wf_ended.proofs.ends.Ends.outputs.Goals as goal
+use Rattle.wf_ended.proofs.ends.Ends.values.Goals as goal
 
 pub returns : goal.returns
 returns c =
