@@ -24,6 +24,7 @@ use std::alloc::{AllocError, Global};
 use std::io;
 use wf_outside::{MemFiles, MemSink, MemSource};
 use wf_printed::Printer;
+use wf_session::Talker;
 use wf_top::serve_words;
 use wf_val::Text;
 
@@ -185,7 +186,15 @@ fn answer<R: Print + AllocGlobal>(
     let mut files = files_of(alloc, held, trouble)?;
     let mut source = source_of(alloc, input, trouble)?;
     let mut sink = sink_of(alloc, trouble)?;
-    let status = serve_words(alloc, &words, &mut files, &Printer, &mut source, &mut sink);
+    let status = serve_words(
+        alloc,
+        &words,
+        &mut files,
+        &Printer,
+        &Talker,
+        &mut source,
+        &mut sink,
+    );
     println!(rt;
         "words {line}: status {status}, failed reads {}, failed writes {}, left in the source {}",
         files.faults(),
@@ -206,7 +215,15 @@ fn answer_check<R: Print + AllocGlobal>(rt: &R, definition: &str) -> io::Result<
     files.add(Text::of(alloc, "definition")?, definition.as_bytes())?;
     let mut source = MemSource::new(alloc, b"")?;
     let mut sink = sink_of(alloc, NO_TROUBLE)?;
-    let status = serve_words(alloc, &words, &mut files, &Printer, &mut source, &mut sink);
+    let status = serve_words(
+        alloc,
+        &words,
+        &mut files,
+        &Printer,
+        &Talker,
+        &mut source,
+        &mut sink,
+    );
     match std::str::from_utf8(sink.taken()) {
         Ok(text) => println!(rt; "{status} {}", text.trim_end()),
         Err(_) => println!(rt; "{status} not UTF-8"),

@@ -5,7 +5,7 @@ use Rattle.std.proofs.lemmas.List.Sums.{sum_by-cons}
 use Rattle.wf_answers.specs.Inputs.{InputsTree}
 use Rattle.wf_def.specs.DefTree.{DefTree}
 use Rattle.wf_environment.specs.Environment.{Environment, fresh}
-use Rattle.wf_session.specs.Record.{meaning}
+use Rattle.wf_run.specs.Record.{meaning}
 use Rattle.wf_record.specs.Cost.{cost}
 use Rattle.wf_told.specs.Records.{records_of}
 use Rattle.wf_told.specs.Text.{total_cost}

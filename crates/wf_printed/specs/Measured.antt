@@ -3,7 +3,7 @@ use Rattle.std.specs.Prelude.{ℕ, List}
 use Rattle.wf_answers.specs.InputsSeen.{inputs_tree}
 use Rattle.wf_answers.specs.declared.inputs.Inputs.{Inputs}
 use Rattle.wf_reading.specs.ReadSeen.{def_tree}
-use Rattle.wf_session.specs.Checked.{Checked}
+use Rattle.wf_run.specs.Checked.{Checked}
 use Rattle.wf_told.specs.Measured.{IsMeasured, StartsAlone}
 use Rattle.wf_told.specs.declared.measure.Measure.{Measure}
 

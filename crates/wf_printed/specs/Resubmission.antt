@@ -5,7 +5,7 @@ use Rattle.wf_answers.specs.declared.inputs.Inputs.{Inputs}
 use Rattle.wf_reading.specs.ReadSeen.{def_tree}
 use Rattle.wf_record.specs.Seen.{record_tree}
 use Rattle.wf_record.specs.declared.record.Record.{Record}
-use Rattle.wf_session.specs.Checked.{Checked}
+use Rattle.wf_run.specs.Checked.{Checked}
 use Rattle.wf_told.specs.Resubmissions.{IsNotResubmitted, TellsResubmission}
 use Rattle.wf_told.specs.declared.fault.ResubmissionFault.{ResubmissionFault}
 

@@ -3,7 +3,7 @@ use Rattle.std.specs.Prelude.{◌≡◌, ◌<◌, ℕ, Bool, List, Err}
 use Rattle.wf_answers.specs.InputsSeen.{inputs_tree}
 use Rattle.wf_answers.specs.declared.inputs.Inputs.{Inputs}
 use Rattle.wf_reading.specs.ReadSeen.{def_tree}
-use Rattle.wf_session.specs.Checked.{Checked}
+use Rattle.wf_run.specs.Checked.{Checked}
 use Rattle.wf_told.specs.Records.{records_of, records_within, runs_records}
 use Rattle.wf_told.specs.Runs.{TellsRuns}
 use Rattle.wf_told.specs.Text.{total_cost}

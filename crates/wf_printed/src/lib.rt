@@ -10,13 +10,10 @@
 //!
 //! Of one run alone it tells how that went in figures, and writes nothing.
 //!
-//! It holds talks of runs whose answers come from outside (`wf_stands`), by `wf_session`.
-//!
 //! Each run begins the schedule anew. Of a run only its text is kept, and no start is made before its turn, so a split of many items takes
 //! the memory of its text and its items. The text is handed out whole: where the runs cost too much there is none.
 #![tactic(auto)]
 
-mod conversing;
 mod measuring;
 mod printer;
 mod resubmission;

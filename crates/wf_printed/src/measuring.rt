@@ -1,8 +1,8 @@
 //! How the one run went that starts with inputs.
 ghost use Rattle.std.specs.Prelude.{◌≡◌, ◌≢◌, false, IfErr, IfOk};
-ghost use Rattle.wf_session.specs.Made.{IsTooMuch};
-ghost use Rattle.wf_session.specs.Runs.{IsTheRun, IsWithin, cost_of, meant_cost};
-ghost use Rattle.wf_session.specs.Seen.{told};
+ghost use Rattle.wf_run.specs.Made.{IsTooMuch};
+ghost use Rattle.wf_run.specs.Runs.{IsTheRun, IsWithin, cost_of, meant_cost};
+ghost use Rattle.wf_run.specs.Seen.{told};
 ghost use Rattle.wf_told.specs.Measured.{Measures};
 ghost use Rattle.wf_told.specs.declared.fault.RunsFault.{RunsFault};
 ghost use Rattle.wf_printed.specs.Measured.{IsTheMeasure, OneStarts};
@@ -11,7 +11,8 @@ ghost use Rattle.wf_printed.specs.Written.{NoRunsAreTold};
 use crate::runs::ended;
 use std::alloc::Global;
 use wf_answers::Inputs;
-use wf_session::{Checked, Ended, Ends, Ready, Runnable, plan};
+use wf_planned::plan;
+use wf_run::{Checked, Ended, Ends, Ready, Runnable};
 use wf_told::{Measure, RunsFault};
 use wf_trigger::{Start, runs};
 use wf_val::Schedule;

@@ -5,7 +5,7 @@ use crate::runs::runs_text;
 use std::alloc::Global;
 use wf_answers::Inputs;
 use wf_record::Record;
-use wf_session::Checked;
+use wf_run::Checked;
 use wf_told::{Engine, Measure, ResubmissionFault, RunsFault};
 use wf_val::{Name, Schedule};
 

@@ -1,16 +1,17 @@
 //! The resubmission of a record.
 ghost use Rattle.std.specs.Prelude.{◌≡◌, ◌≢◌, IfErr, IfOk};
-ghost use Rattle.wf_session.specs.Made.{IsTooMuch};
-ghost use Rattle.wf_session.specs.Runs.{IsTheResubmission, IsWithin, MayBeResumed, cost_of, resumed_cost};
-ghost use Rattle.wf_session.specs.Seen.{told};
+ghost use Rattle.wf_run.specs.Made.{IsTooMuch};
+ghost use Rattle.wf_run.specs.Runs.{IsTheResubmission, IsWithin, MayBeResumed, cost_of, resumed_cost};
+ghost use Rattle.wf_run.specs.Seen.{told};
 ghost use Rattle.wf_printed.specs.Resubmission.{IsNotTold, IsTold};
 ghost use Rattle.wf_told.specs.declared.fault.ResubmissionFault.{ResubmissionFault};
 
 use crate::written::with_run;
 use std::alloc::Global;
 use wf_answers::Inputs;
+use wf_planned::plan;
 use wf_record::Record;
-use wf_session::{Checked, Ended, Ends, Ready, Runnable, plan};
+use wf_run::{Checked, Ended, Ends, Ready, Runnable};
 use wf_told::{ResubmissionFault, prepare};
 use wf_val::{Name, Schedule};
 

@@ -1,15 +1,16 @@
 //! The runs of a definition that start with inputs.
 ghost use Rattle.std.specs.Prelude.{◌≡◌, ◌≢◌, ◌≤◌, IfErr, IfOk};
-ghost use Rattle.wf_session.specs.Made.{IsTooMuch};
-ghost use Rattle.wf_session.specs.Runs.{IsTheRun, IsWithin, cost_of, meant_cost};
-ghost use Rattle.wf_session.specs.Seen.{told};
+ghost use Rattle.wf_run.specs.Made.{IsTooMuch};
+ghost use Rattle.wf_run.specs.Runs.{IsTheRun, IsWithin, cost_of, meant_cost};
+ghost use Rattle.wf_run.specs.Seen.{told};
 ghost use Rattle.wf_told.specs.declared.fault.RunsFault.{RunsFault};
 ghost use Rattle.wf_printed.specs.Written.{CostTooMuch, NoRunsAreTold, NoStartsAreTold, RunsAreTold, StartsAreTold, StartsAreWritten};
 
 use crate::written::Written;
 use std::alloc::Global;
 use wf_answers::Inputs;
-use wf_session::{Checked, Ended, Ends, Ready, Runnable, cost_too_much, plan};
+use wf_planned::plan;
+use wf_run::{Checked, Ended, Ends, Ready, Runnable, cost_too_much};
 use wf_told::RunsFault;
 use wf_trigger::{Start, Starts, runs};
 use wf_val::Schedule;

@@ -2,13 +2,13 @@
 ghost use Rattle.std.specs.Prelude.{◌≡◌, ◌≤◌, ◌+◌, ◌++◌, [], IfOk};
 ghost use Rattle.wf_record.specs.Cost.{cost};
 ghost use Rattle.wf_record.specs.Seen.{record_tree};
-ghost use Rattle.wf_session.specs.Seen.{told};
+ghost use Rattle.wf_run.specs.Seen.{told};
 ghost use Rattle.wf_told.specs.Text.{run_text};
 
 use crate::summary::put_summary;
 use std::alloc::{AllocError, Global};
 use wf_record::with_record_line;
-use wf_session::Ended;
+use wf_run::Ended;
 
 /// The texts of runs, one after the other, and what they cost together, which is at most 2^26.
 #[derive(Drop)]

@@ -32,3 +32,4 @@ pub use run::Ended;
 pub use runnable::{Runnable, is_planned};
 pub use wf_actions::{Actions, Making, Places, Ready, Rest, name_of};
 pub use wf_ended::Ends;
+pub use wf_pinned::Checked;

@@ -1,10 +1,3 @@
-pub use Rattle.wf_planned.specs.Record
-pub use Rattle.wf_planned.specs.Resubmitted
-pub use Rattle.wf_run.specs.Least
-pub use Rattle.wf_run.specs.Made
-pub use Rattle.wf_run.specs.Runs
-pub use Rattle.wf_run.specs.Seen
-pub use Rattle.wf_stands.specs.Checked
 pub mod Begun
 pub mod Waiting
 pub mod Settled

@@ -72,11 +72,11 @@ fn other_command<F: Files, O: Sink, E: Engine>(
 }
 
 // Does what the words of `session` ask for.
-fn talk<F: Files, I: Source, O: Sink, E: Converses>(
+fn talk<F: Files, I: Source, O: Sink, T: Converses>(
     alloc: Global,
     words: &[Text],
     files: &mut F,
-    engine: &E,
+    talker: &T,
     input: &mut I,
     out: &mut O,
 ) -> u8
@@ -94,18 +94,19 @@ fn talk<F: Files, I: Source, O: Sink, E: Converses>(
                 start,
                 inputs,
             },
-        ) => engine.converse(alloc, &checked, start, inputs, input, out),
+        ) => talker.converse(alloc, &checked, start, inputs, input, out),
         Ok(Opened::Said(said)) => tell(alloc, Ok(said), out),
         Err(stop) => tell(alloc, Err(stop), out),
     }
 }
 
 /// Does what words ask for, and answers the status that the program ends with.
-pub fn obey<F: Files, I: Source, O: Sink, E: Engine + Converses>(
+pub fn obey<F: Files, I: Source, O: Sink, E: Engine, T: Converses>(
     alloc: Global,
     words: &[Text],
     files: &mut F,
     engine: &E,
+    talker: &T,
     input: &mut I,
     out: &mut O,
 ) -> u8
@@ -117,7 +118,7 @@ pub fn obey<F: Files, I: Source, O: Sink, E: Engine + Converses>(
 {
     match parse_words(words) {
         None => close(out, 2, USAGE),
-        Some(Command::Session) => talk(alloc, words, files, engine, input, out),
+        Some(Command::Session) => talk(alloc, words, files, talker, input, out),
         Some(other) => other_command(alloc, words, other, files, engine, out),
     }
 }

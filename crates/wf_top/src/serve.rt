@@ -32,11 +32,12 @@ use wf_told::Engine;
 use wf_val::Text;
 
 /// Does what the words after the program's name ask for, and answers the status that the program ends with.
-pub fn serve_words<F: Files, I: Source, O: Sink, E: Engine + Converses>(
+pub fn serve_words<F: Files, I: Source, O: Sink, E: Engine, T: Converses>(
     alloc: Global,
     words: &[Text],
     files: &mut F,
     engine: &E,
+    talker: &T,
     input: &mut I,
     out: &mut O,
 ) -> u8
@@ -208,5 +209,5 @@ pub fn serve_words<F: Files, I: Source, O: Sink, E: Engine + Converses>(
     ensures source_failed { I.faults input.old < I.faults input.new → (result ≡ 3) ⊎ (result ≡ 4) ⊎ (result ≡ 5) }
 {
     wf_told::one_reason_against_a_resubmission();
-    obey(alloc, words, files, engine, input, out)
+    obey(alloc, words, files, engine, talker, input, out)
 }

@@ -1,8 +1,8 @@
 //! The program: runs one command over the real files and the standard streams, and ends with its status.
 //!
-//! It hands the words after its own name to `wf_top::serve_words`, and lends it the engine of `wf_printed`, which is all that it does;
-//! what a command reads, writes and answers is said there. Where the words can't be had as texts nothing is written: the status is 5 for
-//! want of memory, and 2 for any other cause, as a word that isn't UTF-8.
+//! It hands the words after its own name to `wf_top::serve_words`, and lends it the engine of `wf_printed` and the talker of `wf_session`,
+//! which is all that it does; what a command reads, writes and answers is said there. Where the words can't be had as texts nothing is
+//! written: the status is 5 for want of memory, and 2 for any other cause, as a word that isn't UTF-8.
 #![tactic(auto)]
 
 ghost use Rattle.std.specs.Prelude.{◌≤◌};
@@ -14,6 +14,7 @@ use std::rt::Files;
 use std::{env, io};
 use wf_outside::{DiskFiles, StdSink, StdSource};
 use wf_printed::Printer;
+use wf_session::Talker;
 use wf_top::serve_words;
 use wf_val::Text;
 
@@ -43,6 +44,7 @@ fn status_of<R: Env + Files + Input + Print + AllocGlobal>(rt: &R) -> u8
         &words,
         &mut files,
         &Printer,
+        &Talker,
         &mut input,
         &mut out,
     )

@@ -8,6 +8,7 @@ use std::alloc::{AllocError, Global};
 use wf_judged::Ended;
 use wf_outside::{MemFiles, MemSource};
 use wf_printed::Printer;
+use wf_session::Talker;
 use wf_tests::{Kept, Program};
 use wf_top::serve_words;
 use wf_val::Text;
@@ -37,7 +38,9 @@ impl Program for Wflow {
     {
         let mut input = MemSource::new(alloc, b"")?;
         let mut kept = Kept::new(alloc);
-        let status = serve_words(alloc, words, files, &Printer, &mut input, &mut kept);
+        let status = serve_words(
+            alloc, words, files, &Printer, &Talker, &mut input, &mut kept,
+        );
         if is_short_of_memory(status) {
             return Err(AllocError);
         }

@@ -2,8 +2,8 @@ use Rattle.std.proofs.Common.{◌≡◌, ◌<◌, [], ◌∷◌, Ok, Err, ap, ar
 use Rattle.std.proofs.lemmas.Result.{err_from_is_err_and}
 use Rattle.wf_answers.specs.InputsSeen.{inputs_tree}
 use Rattle.wf_reading.specs.ReadSeen.{def_tree}
-use Rattle.wf_session.specs.Runs.{meant_cost}
-use Rattle.wf_session.specs.Seen.{told}
+use Rattle.wf_run.specs.Runs.{meant_cost}
+use Rattle.wf_run.specs.Seen.{told}
 use Rattle.wf_told.specs.Records.{starts_of}
 use Rattle.wf_told.proofs.MeasureLemmas.{first_alone, too_large_alone}
 use Rattle.wf_trigger.specs.StartsSeen.{start_tree, starts_seen}

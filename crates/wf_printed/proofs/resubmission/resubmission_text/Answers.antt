@@ -1,7 +1,7 @@
 use Rattle.std.proofs.Common.{◌<◌, ◌++◌, ap, arith, subst, sym, ◌∙◌}
 use Rattle.std.proofs.lemmas.Result.{err_from_is_err_and}
 use Rattle.wf_answers.specs.InputsSeen.{inputs_tree}
-use Rattle.wf_session.specs.Resubmitted.{pinned}
+use Rattle.wf_run.specs.Resubmitted.{pinned}
 use Rattle.wf_reading.specs.ReadSeen.{def_tree}
 use Rattle.wf_record.specs.Cost.{cost}
 use Rattle.wf_record.specs.Seen.{record_tree}
@@ -9,7 +9,7 @@ use Rattle.wf_resubmit.specs.declared.fault.ResubmitFault.{ResubmitFault}
 use Rattle.wf_told.specs.Resubmissions.{IsNotResubmitted, IsResubmittedUnder, refused, too_large}
 use Rattle.wf_told.specs.Text.{run_text}
 use Rattle.wf_told.specs.declared.fault.ResubmissionFault.{ResubmissionFault}
-use Rattle.wf_session.specs.Seen.{told}
+use Rattle.wf_run.specs.Seen.{told}
 use Rattle.wf_printed.proofs.RefusedLemmas.{refused_told}
 use Rattle.wf_printed.proofs.resubmission.resubmission_text.Goals as goal
 

@@ -2,7 +2,7 @@ use Rattle.std.proofs.Common.{arith}
 use Rattle.std.proofs.lemmas.Result.{err_from_is_err_and}
 use Rattle.wf_answers.specs.InputsSeen.{inputs_tree}
 use Rattle.wf_reading.specs.ReadSeen.{def_tree}
-use Rattle.wf_session.specs.Seen.{told}
+use Rattle.wf_run.specs.Seen.{told}
 use Rattle.wf_trigger.specs.StartsSeen.{start_tree, starts_seen}
 use Rattle.wf_told.proofs.WrittenLemmas.{cost-within, more-written}
 use Rattle.wf_printed.proofs.runs.all_written.Goals as goal

@@ -4,7 +4,7 @@ use Rattle.wf_answers.specs.InputsSeen.{inputs_tree}
 use Rattle.wf_reading.specs.ReadSeen.{def_tree}
 use Rattle.wf_trigger.specs.StartsSeen.{starts_seen}
 use Rattle.wf_told.proofs.WrittenLemmas.{all-tell}
-use Rattle.wf_session.specs.Least.{least_cost}
+use Rattle.wf_run.specs.Least.{least_cost}
 use Rattle.wf_told.specs.Records.{records_of}
 use Rattle.wf_told.proofs.TextLemmas.{past}
 use Rattle.wf_printed.proofs.CostLemmas.{many_cost}
