@@ -11,7 +11,7 @@ use std::alloc::Global;
 use wf_answers::Inputs;
 use wf_planned::plan;
 use wf_record::Record;
-use wf_run::{Checked, Ended, Ends, Ready, Runnable};
+use wf_run::{Checked, Ended, Ends, Ready, Runnable, resubmit};
 use wf_told::{ResubmissionFault, prepare};
 use wf_val::{Name, Schedule};
 
@@ -94,6 +94,6 @@ fn resubmitted(
     ensures too_large { IfErr result (λ f. f ≢ ResubmissionFault.Memory
         → IsTooMuch 0 (resumed_cost runnable.now.checked.now log.now inputs.now from.now)) }
 {
-    let ended = runnable.resubmit(alloc, log, from, inputs, schedule)?;
+    let ended = resubmit(alloc, runnable, log, from, inputs, schedule)?;
     Ok(ended)
 }

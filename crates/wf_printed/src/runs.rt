@@ -10,7 +10,7 @@ use crate::written::Written;
 use std::alloc::Global;
 use wf_answers::Inputs;
 use wf_planned::plan;
-use wf_run::{Checked, Ended, Ends, Ready, Runnable, cost_too_much};
+use wf_run::{Checked, Ended, Ends, Ready, Runnable, cost_too_much, run};
 use wf_told::RunsFault;
 use wf_trigger::{Start, Starts, runs};
 use wf_val::Schedule;
@@ -151,6 +151,6 @@ pub(crate) fn ended(
     ensures fault { IfErr result (λ f. f ≢ RunsFault.Memory → f ≡ RunsFault.TooLarge) }
     ensures too_large { IfErr result (λ f. f ≢ RunsFault.Memory → IsTooMuch spent (meant_cost runnable.now.checked.now start inputs.now)) }
 {
-    let ended = runnable.run(alloc, start, inputs, schedule, spent, traced)?;
+    let ended = run(alloc, runnable, start, inputs, schedule, spent, traced)?;
     Ok(ended)
 }

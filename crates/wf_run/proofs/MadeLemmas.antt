@@ -1,9 +1,6 @@
 -- A run that was driven to its end, of a definition, whatever it was made from.
 use Rattle.std.proofs.Common.{◌≡◌, ◌≤◌, ℕ, Bool, false, List, refl, ap, subst, ◌∙◌}
 use Rattle.wf_layers.specs.Machine.{fresh}
-use Rattle.wf_asks.specs.Known.{store_in}
-use Rattle.wf_asks.specs.declared.known.RowAt.{RowAt}
-use Rattle.wf_asks.specs.declared.known.WriterAt.{WriterAt}
 use Rattle.wf_scheduled.specs.Turns.{Turns}
 use Rattle.wf_drive.specs.Driven.{IsDriven}
 use Rattle.wf_def.specs.DefTree.{DefTree}
@@ -11,24 +8,22 @@ use Rattle.wf_answers.specs.Inputs.{InputsTree}
 use Rattle.wf_environment.specs.Environment.{Environment}
 use Rattle.wf_record.specs.Cost.{cost}
 use Rattle.wf_record.specs.Record.{RecordTree}
-use Rattle.wf_record.specs.declared.row.Row as kept
-use Rattle.wf_actions.specs.Answering.{RowSource, table_by}
-use Rattle.wf_actions.specs.Points.{graph_of}
-use Rattle.wf_actions.specs.Record.{depth_of, record_of_table}
-use Rattle.wf_actions.specs.Record as meant
-use Rattle.wf_actions.specs.Resubmitted.{pinned, pinned_source, resubmitted}
-use Rattle.wf_actions.specs.Source as sources
+use Rattle.wf_runnable.specs.Answering.{RowSource, table_by}
+use Rattle.wf_runnable.specs.Points.{graph_of}
+use Rattle.wf_runnable.specs.Record.{record_of_table}
+use Rattle.wf_runnable.specs.Record as meant
+use Rattle.wf_runnable.specs.Resubmitted.{pinned, pinned_source, resubmitted}
+use Rattle.wf_runnable.specs.Source as sources
 use Rattle.wf_told.specs.Told as trace
-use Rattle.wf_actions.specs.Seen.{rows_seen}
 use Rattle.wf_told.specs.Resubmissions.{IsResubmittedUnder, resumed_state}
 use Rattle.wf_told.specs.Under.{IsRunUnder}
-use Rattle.wf_ended.specs.Ended.{HasEnded}
-use Rattle.wf_actions.specs.Acting.{ActFor}
-use Rattle.wf_actions.specs.Meant as acting
-use Rattle.wf_actions.specs.Order.{CostsWhatItMeans}
-use Rattle.wf_actions.specs.Meant.{definition_of, environment_of}
-use Rattle.wf_actions.specs.declared.actions.Actions.{Actions}
-use Rattle.wf_run.specs.Made.{AreLeft, IsMade, Moment, price}
+use Rattle.wf_runnable.specs.Acting.{ActFor}
+use Rattle.wf_runnable.specs.Meant as acting
+use Rattle.wf_runnable.specs.Order.{CostsWhatItMeans}
+use Rattle.wf_runnable.specs.Meant.{definition_of, environment_of}
+use Rattle.wf_runnable.specs.Actions.{Actions}
+use Rattle.wf_runnable.specs.Over.{Moment}
+use Rattle.wf_run.specs.Made.{IsMade, price}
 
 -- by actions that act for a definition in an environment, by some source
 module _ (d : DefTree) (e : Environment) (m : RowSource) (a : Actions) (act : ActFor a d e m) where
@@ -39,22 +34,6 @@ module _ (d : DefTree) (e : Environment) (m : RowSource) (a : Actions) (act : Ac
       subst (λ q. IsDriven (graph_of q) m (trace.told q m (table_by q m)) schedule first last steps most traced lines) act.definition
       (subst (λ s. IsDriven (acting.graph a) s (trace.told (definition_of a) s (table_by (definition_of a) s)) schedule first last steps most
       traced lines) act.by_source driven)
-
-  -- each row that is meant is there, and the store has the last writers
-  pub ended_so : (rows : List (RowAt kept.Row)) (store : List WriterAt) → AreLeft a rows store
-      → HasEnded d e (rows_seen rows) (store_in store)
-  ended_so rows store are =
-      subst (λ q. HasEnded q e (rows_seen rows) (store_in store)) act.definition
-      (subst (λ f. HasEnded (definition_of a) f (rows_seen rows) (store_in store)) act.environment
-      (record { answers = acting.source a; answered = act.answered; whole = are.whole; last = are.last }))
-
-  -- the table is one, so the record of its rows is that of what is meant
-  pub record_is : (rows : List (RowAt kept.Row)) (store : List WriterAt) → AreLeft a rows store
-      → record_of_table d e (rows_seen rows) ≡ record_of_table d e (table_by d m)
-  record_is rows store are =
-      ap (record_of_table d e) (λ k y. are.whole y k)
-      ∙ ap (λ q. record_of_table d e (table_by q (acting.source a))) act.definition
-      ∙ ap (λ s. record_of_table d e (table_by d s)) act.by_source
 
   -- what it costs
   pub costs_so : CostsWhatItMeans a → price a ≤ cost (record_of_table d e (table_by d m))

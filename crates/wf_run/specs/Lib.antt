@@ -1,14 +1,7 @@
-pub use Rattle.wf_actions.specs.Acting
-pub use Rattle.wf_actions.specs.declared.actions.Actions
-pub use Rattle.wf_actions.specs.Meant
-pub use Rattle.wf_actions.specs.Priced
-pub use Rattle.wf_actions.specs.declared.actions.Ready
-pub use Rattle.wf_actions.specs.Record
-pub use Rattle.wf_actions.specs.Resubmitted
-pub use Rattle.wf_actions.specs.Sums
-pub use Rattle.wf_actions.specs.Writes
 pub use Rattle.wf_least.specs.Least
-pub use Rattle.wf_pinned.specs.Checked
+pub use Rattle.wf_runnable.specs.Checked
+pub use Rattle.wf_runnable.specs.Record
+pub use Rattle.wf_runnable.specs.Resubmitted
 pub mod Seen
 pub mod Made
 pub mod Runs

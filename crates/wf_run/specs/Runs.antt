@@ -2,64 +2,24 @@
 use Rattle.std.specs.Prelude.{◌≡◌, ◌≤◌, ◌+◌, ℕ, Bool, List}
 use Rattle.wf_answers.specs.InputsSeen.{inputs_tree}
 use Rattle.wf_answers.specs.declared.inputs.Inputs.{Inputs}
-use Rattle.wf_asks.specs.Known.{store_in}
-use Rattle.wf_asks.specs.declared.known.RowAt.{RowAt}
-use Rattle.wf_asks.specs.declared.known.WriterAt.{WriterAt}
-use Rattle.wf_def.specs.DefTree.{DefTree}
-use Rattle.wf_told.specs.DoneSeen.{begun_tree}
-use Rattle.wf_actions.specs.Weights.{begun_weight, decision_weight}
-use Rattle.wf_ended.specs.Ended.{HasEnded}
-use Rattle.wf_environment.specs.Environment.{Environment, fresh}
-use Rattle.wf_layers.specs.Machine.{IsOver}
-use Rattle.wf_actions.specs.Answering.{RowSource}
-use Rattle.wf_actions.specs.Points.{graph_of}
-use Rattle.wf_actions.specs.Record.{depth_of, meaning, record_of_table}
-use Rattle.wf_actions.specs.Resubmitted.{pinned, resubmitted}
-use Rattle.wf_actions.specs.Source.{source}
-use Rattle.wf_actions.specs.Sums.{AreSumsOf}
-use Rattle.wf_actions.specs.MeteredSums.{Sums}
-use Rattle.wf_opening.specs.DecisionSeen.{decision_tree, verdict_tree}
-use Rattle.wf_actions.specs.Paying.{cost_of_row}
-use Rattle.wf_plan.specs.PlanSeen.{plan_tree}
-use Rattle.wf_plan.specs.declared.plan.Plan.{Plan}
-use Rattle.wf_reading.specs.ReadSeen.{def_tree}
+use Rattle.wf_environment.specs.Start.{Start}
+use Rattle.wf_environment.specs.StartsSeen.{start_tree}
 use Rattle.wf_record.specs.Cost.{cost}
 use Rattle.wf_record.specs.Record.{RecordTree}
 use Rattle.wf_record.specs.Seen.{record_tree}
 use Rattle.wf_record.specs.declared.record.Record.{Record}
-use Rattle.wf_record.specs.declared.row.Row.{Row}
 use Rattle.wf_resubmit.specs.Refused.{numbers_of}
-use Rattle.wf_pinned.specs.Checked.{Checked}
+use Rattle.wf_runnable.specs.Checked.{Checked}
+use Rattle.wf_runnable.specs.Over.{Moment}
+use Rattle.wf_runnable.specs.Resubmitted.{pinned, resubmitted}
+use Rattle.wf_runnable.specs.Runnable.{begun_with, definition, meant_record}
 use Rattle.wf_told.specs.Prepared.{MayBeResubmitted}
-use Rattle.wf_ended.specs.Writes.{writes}
-use Rattle.wf_actions.specs.Kept.{IsPlanned}
-use Rattle.wf_actions.specs.Rest.{IsRest}
-use Rattle.wf_tables.specs.declared.entries.CountAt.{CountAt}
-use Rattle.wf_tables.specs.declared.entries.EventAt.{EventAt}
 use Rattle.wf_told.specs.Resubmissions.{IsResubmittedUnder, resumed_state}
 use Rattle.wf_told.specs.Under.{IsRunUnder, Told}
-use Rattle.wf_trigger.specs.StartsSeen.{start_tree}
-use Rattle.wf_trigger.specs.declared.starts.Start.{Start}
-use Rattle.wf_actions.specs.Seen.{row_content, rows_seen}
-use Rattle.wf_run.specs.Made.{Lists, Moment, moment}
-
--- the definition of one that was accepted, and the environment of a run that begins so
-abbrev pub definition : Checked → DefTree
-definition checked = def_tree checked.def
-
-abbrev pub begun_with : Start → Inputs → Environment
-begun_with start inputs = fresh (start_tree start) (inputs_tree inputs)
-
--- the plan is one of the definition
-abbrev pub Plans : Plan → Checked → Type 0
-Plans plan checked = IsPlanned (graph_of (definition checked)) (plan_tree plan)
 
 -- ---- a run that isn't made from another
 
--- what the definition means, and what it costs
-abbrev pub meant_record : Checked → Start → Inputs → RecordTree
-meant_record checked start inputs = meaning (definition checked) (begun_with start inputs)
-
+-- what the record costs that the definition means
 abbrev pub meant_cost : Checked → Start → Inputs → ℕ
 meant_cost checked start inputs = cost (meant_record checked start inputs)
 
@@ -93,15 +53,7 @@ abbrev pub IsTheResubmission : Checked → Record → Inputs → List ℕ → Li
 IsTheResubmission checked log inputs from schedule t =
     IsResubmittedUnder (definition checked) (record_tree log) (inputs_tree inputs) from schedule t
 
--- ---- what is left at the end of each
-
-abbrev pub IsEnded : Checked → Start → Inputs → List (RowAt Row) → List WriterAt → Type 0
-IsEnded checked start inputs rows store =
-    HasEnded (definition checked) (begun_with start inputs) (rows_seen rows) (store_in store)
-
--- the record of a run that began so and has these rows
-abbrev pub record_left : Checked → Start → Inputs → List (RowAt Row) → RecordTree
-record_left checked start inputs rows = record_of_table (definition checked) (begun_with start inputs) (rows_seen rows)
+-- ---- what each costs
 
 -- the cost of a record that was made
 abbrev pub cost_of : Record → ℕ
@@ -110,20 +62,3 @@ cost_of log = cost (record_tree log)
 -- a run costs too little to be refused, beside what others cost
 abbrev pub IsWithin : ℕ → ℕ → Type 0
 IsWithin spent cost = spent + cost ≤ 67108864
-
--- ---- a run that was put aside
-
--- a state without its actions, its counts and ready set, and its sums
-abbrev pub Aside : Type 0
-Aside = (Lists × (List CountAt × (List CountAt × List EventAt))) × Sums
-
--- It is one of a run that began so, which may be gone on from, and costs what its sums say.
-pub record IsAside (d : DefTree) (e : Environment) (m : RowSource) (rest : Aside) : Type 0 where
-  pub kept : IsRest row_content begun_tree decision_tree verdict_tree (graph_of d) m (depth_of d) (writes d) rest.0
-  pub sums : AreSumsOf row_content begun_tree decision_tree verdict_tree (graph_of d) cost_of_row begun_weight m.items decision_weight
-      rest.0.0.0 rest.0.0.1.0 rest.0.0.1.1.0 rest.1
-
--- And nothing may happen in it any more.
-pub record IsAsideAtLast (checked : Checked) (start : Start) (inputs : Inputs) (rest : Aside) : Type 0 where
-  pub aside : IsAside (definition checked) (begun_with start inputs) (source (definition checked) (begun_with start inputs)) rest
-  pub over : IsOver (graph_of (definition checked)) (source (definition checked) (begun_with start inputs)) (moment rest.0.0)

@@ -1,25 +1,26 @@
 //! Runs that are made from older ones.
 ghost use Rattle.std.specs.Prelude.{◌≡◌, ◌≢◌, IfErr, IfOk};
-ghost use Rattle.wf_actions.specs.Acting.{ActAgain};
 ghost use Rattle.wf_drive.specs.declared.fault.DriveFault.{DriveFault};
-ghost use Rattle.wf_run.specs.Made.{IsAtFirst, IsTooMuch, moment};
-ghost use Rattle.wf_run.specs.Runs.{IsEnded, IsTheResubmission, IsWithin, MayBeResumed, Plans, StartsAgain, cost_of, first_moment};
-ghost use Rattle.wf_run.specs.Runs.{record_left, resumed_cost, resumed_record};
+ghost use Rattle.wf_run.specs.Made.{IsAtFirst, IsTooMuch};
+ghost use Rattle.wf_run.specs.Runs.{IsTheResubmission, IsWithin, MayBeResumed, StartsAgain, cost_of, first_moment, resumed_cost};
+ghost use Rattle.wf_run.specs.Runs.{resumed_record};
 ghost use Rattle.wf_run.specs.Seen.{told};
+ghost use Rattle.wf_runnable.specs.Acting.{ActAgain};
+ghost use Rattle.wf_runnable.specs.Over.{moment};
+ghost use Rattle.wf_runnable.specs.Runnable.{IsEnded, record_left};
 
 use crate::cost::cost_within;
 use crate::driven::driven;
 use crate::made::Made;
 use crate::opened::was_read;
 use crate::run::Ended;
-use crate::runnable::{Runnable, is_planned};
 use std::alloc::{AllocError, Global};
-use wf_actions::{Actions, Making};
 use wf_answers::Inputs;
 use wf_drive::DriveFault;
+use wf_environment::Start;
 use wf_record::Record;
 use wf_regained::{Regained, regain};
-use wf_trigger::Start;
+use wf_runnable::{Actions, Making, Runnable, is_planned};
 use wf_val::Schedule;
 
 // What a run starts with that is made from an older one: the name and the seed are new, the trigger and the parameters are the old ones.
@@ -92,74 +93,72 @@ fn first<'s, 'a>(
     Ok(making)
 }
 
-impl<'a> Runnable<'a> {
-    // Makes the events of a resubmission, until nothing may happen any more. With what the resubmission means as its record it is the
-    // resubmission under the schedule.
-    fn remake<'x>(
-        &'x self,
-        alloc: Global,
-        start: &'x Start,
-        log: &'x Record,
-        from: &'x Schedule,
-        inputs: &'x Inputs,
-        schedule: &Schedule,
-    ) -> Result<Made, DriveFault>
-        requires may { MayBeResumed self.now.checked.now log.now from.now }
-        requires start { StartsAgain log.now inputs.now start.now }
-        ensures run { IfOk result (λ m. IsTheResubmission self.now.checked.now log.now inputs.now from.now schedule.now (record {
-          events = m.trace.items;
-          left = resumed_record self.now.checked.now log.now inputs.now from.now;
-          steps = m.steps;
-          peak = m.peak;
-        })) }
-        ensures ended { IfOk result (λ m. IsEnded self.now.checked.now start.now inputs.now m.rows.0 m.store.0) }
-        ensures meant { IfOk result (λ m. record_left self.now.checked.now start.now inputs.now m.rows.0
-            ≡ resumed_record self.now.checked.now log.now inputs.now from.now) }
-        ensures large { IfErr result (λ f. f ≢ DriveFault.Memory
-            → IsTooMuch 0 (resumed_cost self.now.checked.now log.now inputs.now from.now)) }
-    {
-        wf_actions::runs_cost_no_more_than_their_records();
-        let actions = actions(self, start, log, from, inputs);
-        let making = first(alloc, &*self, &actions, start, log, from, inputs)?;
-        let made = driven(alloc, making, schedule, 0, false)?;
-        Ok(made)
-    }
+// Makes the events of a resubmission, until nothing may happen any more. With what the resubmission means as its record it is the
+// resubmission under the schedule.
+fn remake<'x>(
+    alloc: Global,
+    runnable: &'x Runnable<'_>,
+    start: &'x Start,
+    log: &'x Record,
+    from: &'x Schedule,
+    inputs: &'x Inputs,
+    schedule: &Schedule,
+) -> Result<Made, DriveFault>
+    requires may { MayBeResumed runnable.now.checked.now log.now from.now }
+    requires start { StartsAgain log.now inputs.now start.now }
+    ensures run { IfOk result (λ m. IsTheResubmission runnable.now.checked.now log.now inputs.now from.now schedule.now (record {
+      events = m.trace.items;
+      left = resumed_record runnable.now.checked.now log.now inputs.now from.now;
+      steps = m.steps;
+      peak = m.peak;
+    })) }
+    ensures ended { IfOk result (λ m. IsEnded runnable.now.checked.now start.now inputs.now m.rows.0 m.store.0) }
+    ensures meant { IfOk result (λ m. record_left runnable.now.checked.now start.now inputs.now m.rows.0
+        ≡ resumed_record runnable.now.checked.now log.now inputs.now from.now) }
+    ensures large { IfErr result (λ f. f ≢ DriveFault.Memory
+        → IsTooMuch 0 (resumed_cost runnable.now.checked.now log.now inputs.now from.now)) }
+{
+    wf_runnable::runs_cost_no_more_than_their_records();
+    let actions = actions(runnable, start, log, from, inputs);
+    let making = first(alloc, &*runnable, &actions, start, log, from, inputs)?;
+    let made = driven(alloc, making, schedule, 0, false)?;
+    Ok(made)
+}
 
-    /// Resubmits the record of an older run from the actions of these numbers, under a schedule: the new record is what the resubmission
-    /// means, whatever the schedule. Where it costs too much, none is given. Steps and peak are those of the events that are made now.
-    pub fn resubmit(
-        &self,
-        alloc: Global,
-        log: &Record,
-        from: &Schedule,
-        inputs: &Inputs,
-        schedule: &Schedule,
-    ) -> Result<Ended, DriveFault>
-        requires may { MayBeResumed self.now.checked.now log.now from.now }
-        ensures told { IfOk result (λ e. IsTheResubmission self.now.checked.now log.now inputs.now from.now schedule.now (told e)) }
-        ensures small { IfOk result (λ e. IsWithin 0 (cost_of e.finished)) }
-        ensures large { IfErr result (λ f. f ≢ DriveFault.Memory
-            → IsTooMuch 0 (resumed_cost self.now.checked.now log.now inputs.now from.now)) }
-    {
-        let start = started(alloc, log, inputs)?;
-        let Made {
-            rows,
-            store,
-            steps,
-            peak,
-            trace,
-        } = (&*self).remake(alloc, &start, &*log, &*from, &*inputs, schedule)?;
-        let finished = self.record(alloc, start, inputs, rows, &store)?;
-        let cost = match cost_within(&finished, 0) {
-            Some(cost) => cost,
-            None => return Err(DriveFault::TooLarge),
-        };
-        Ok(Ended {
-            finished,
-            cost,
-            steps,
-            peak,
-            trace,
-        })
-    }
+/// Resubmits the record of an older run from the actions of these numbers, under a schedule: the new record is what the resubmission
+/// means, whatever the schedule. Where it costs too much, none is given. Steps and peak are those of the events that are made now.
+pub fn resubmit(
+    alloc: Global,
+    runnable: &Runnable<'_>,
+    log: &Record,
+    from: &Schedule,
+    inputs: &Inputs,
+    schedule: &Schedule,
+) -> Result<Ended, DriveFault>
+    requires may { MayBeResumed runnable.now.checked.now log.now from.now }
+    ensures told { IfOk result (λ e. IsTheResubmission runnable.now.checked.now log.now inputs.now from.now schedule.now (told e)) }
+    ensures small { IfOk result (λ e. IsWithin 0 (cost_of e.finished)) }
+    ensures large { IfErr result (λ f. f ≢ DriveFault.Memory
+        → IsTooMuch 0 (resumed_cost runnable.now.checked.now log.now inputs.now from.now)) }
+{
+    let start = started(alloc, log, inputs)?;
+    let Made {
+        rows,
+        store,
+        steps,
+        peak,
+        trace,
+    } = remake(alloc, &*runnable, &start, &*log, &*from, &*inputs, schedule)?;
+    let finished = runnable.record(alloc, start, inputs, rows, &store)?;
+    let cost = match cost_within(&finished, 0) {
+        Some(cost) => cost,
+        None => return Err(DriveFault::TooLarge),
+    };
+    Ok(Ended {
+        finished,
+        cost,
+        steps,
+        peak,
+        trace,
+    })
 }

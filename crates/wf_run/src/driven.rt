@@ -1,12 +1,13 @@
 //! A run that is driven to its end.
 ghost use Rattle.std.specs.Prelude.{◌≢◌, ◌≤◌, IfErr, IfOk};
 ghost use Rattle.wf_drive.specs.declared.fault.DriveFault.{DriveFault};
-ghost use Rattle.wf_run.specs.Made.{AreFew, AreLeft, IsAtFirst, IsMade, IsTooMuch, moment, price};
+ghost use Rattle.wf_run.specs.Made.{AreFew, IsAtFirst, IsMade, IsTooMuch, price};
+ghost use Rattle.wf_runnable.specs.Over.{AreLeft, moment};
 
-use crate::made::{Made, given_up};
+use crate::made::Made;
 use std::alloc::Global;
-use wf_actions::{Actions, Making};
 use wf_drive::{DriveFault, Driven, drive};
+use wf_runnable::{Actions, Making, given_up};
 use wf_val::Schedule;
 
 /// Makes a run's events from its first state on, until nothing may happen any more, where other runs have cost `spent`. Its rows are then

@@ -2,12 +2,12 @@
 ghost use Rattle.std.specs.Prelude.{◌≡◌, ◌≤◌, ◌*◌, nat_lt};
 ghost use Rattle.wf_environment.specs.Environment.{Environment};
 ghost use Rattle.wf_least.specs.Least.{least_cost};
-ghost use Rattle.wf_actions.specs.Record.{meaning};
 ghost use Rattle.wf_record.specs.Cost.{cost};
-ghost use Rattle.wf_run.specs.Runs.{definition};
+ghost use Rattle.wf_runnable.specs.Record.{meaning};
+ghost use Rattle.wf_runnable.specs.Runnable.{definition};
 
 use crate::opened::was_read;
-use wf_pinned::Checked;
+use wf_runnable::Checked;
 
 /// The greatest cost of all runs of one command together, in pieces of 64.
 const PIECES: u64 = 1_048_576;

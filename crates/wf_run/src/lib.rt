@@ -1,8 +1,8 @@
 //! Runs under a schedule: which of the events that may happen comes next, again and again, until none may.
 //!
-//! `Runnable` is an accepted definition that was made ready for its runs; `run` makes one: it drives the event machine on under the
-//! schedule, counts its events and how many leaves were running at a time at most, keeps a line for each event where that is asked for, and
-//! makes the record that the run leaves. It gives up where the run costs too much, and says so exactly then.
+//! `run` makes one of a definition that was made ready for its runs (`wf_runnable`): it drives the event machine on under the schedule,
+//! counts its events and how many leaves were running at a time at most, keeps a line for each event where that is asked for, and has the
+//! record made that the run leaves. It gives up where the run costs too much, and says so exactly then.
 //!
 //! `resubmit` makes one from the record of an older run, in the same way: it begins with the rows that are kept, and with what is closed
 //! again.
@@ -19,17 +19,14 @@
 mod again;
 mod cost;
 mod driven;
-mod finished;
 mod fresh;
 mod least;
 mod made;
 mod opened;
 mod run;
-mod runnable;
 
+pub use again::resubmit;
+pub use fresh::run;
 pub use least::cost_too_much;
 pub use run::Ended;
-pub use runnable::{Runnable, is_planned};
-pub use wf_actions::{Actions, Making, Places, Ready, Rest, name_of};
-pub use wf_ended::Ends;
-pub use wf_pinned::Checked;
+pub use wf_runnable::{Checked, Ends, Ready, Runnable};

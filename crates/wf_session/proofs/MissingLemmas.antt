@@ -9,8 +9,8 @@ use Rattle.wf_layers.specs.Machine.{has_ended}
 use Rattle.wf_planned.specs.Look.{instance}
 use Rattle.wf_reading.specs.ReadSeen.{def_tree}
 use Rattle.wf_val.specs.declared.address.Address as values
-use Rattle.wf_run.specs.Actions.{Actions}
-use Rattle.wf_run.specs.Meant.{definition_of}
+use Rattle.wf_runnable.specs.Actions.{Actions}
+use Rattle.wf_runnable.specs.Meant.{definition_of}
 use Rattle.wf_session.specs.Begun.{answered_in, going}
 
 module _ (a : Actions) (address : values.Address) (x : Address) (is : address ≡ instance (def_tree a.ready.now.places) x) where

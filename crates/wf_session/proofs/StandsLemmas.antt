@@ -32,7 +32,7 @@ use Rattle.wf_quiet.proofs.Wanted.{over}
 use Rattle.wf_reading.specs.ReadSeen.{def_tree}
 use Rattle.wf_record.specs.declared.row.Row.{Row}
 use Rattle.wf_stands.specs.Checked.{Checked}
-use Rattle.wf_run.specs.Runs.{Aside, IsAside, IsAsideAtLast}
+use Rattle.wf_runnable.specs.Aside.{Aside, IsAside, IsAsideAtLast}
 use Rattle.wf_stands.specs.Moment.{Costs, source_of}
 use Rattle.wf_stands.specs.Stands as stands
 use Rattle.wf_tables.specs.Tables.{leaf_tree}

@@ -26,18 +26,18 @@ use Rattle.wf_quiet.proofs.More.{run_goes_on}
 use Rattle.wf_quiet.proofs.Ready.{counts_stay, left_stays, ready_stays}
 use Rattle.wf_quiet.proofs.Staying.{waits_on}
 use Rattle.wf_quiet.proofs.Stored.{told_by_rows}
-use Rattle.wf_run.specs.Writes.{writes}
+use Rattle.wf_runnable.specs.Writes.{writes}
 use Rattle.wf_stands.specs.Moment.{source_of}
 use Rattle.wf_tables.specs.Tables.{count_in, events_in, left_in}
 use Rattle.wf_stands.specs.Checked.{Checked}
 use Rattle.wf_trigger.specs.Starts.{StartTree}
 use Rattle.wf_trigger.specs.StartsSeen.{start_tree}
 use Rattle.wf_trigger.specs.declared.starts.Start.{Start}
-use Rattle.wf_run.specs.Acting.{ActFor, ActForItself, begun_with, ready_definition}
-use Rattle.wf_run.specs.Meant.{definition_of, environment_of, source}
-use Rattle.wf_run.specs.Actions.{Actions}
-use Rattle.wf_run.specs.Ready.{Ready}
-use Rattle.wf_run.specs.Runs.{Aside, IsAside}
+use Rattle.wf_runnable.specs.Acting.{ActFor, ActForItself, begun_with, ready_definition}
+use Rattle.wf_runnable.specs.Meant.{definition_of, environment_of, source}
+use Rattle.wf_runnable.specs.Actions.{Actions}
+use Rattle.wf_runnable.specs.Ready.{Ready}
+use Rattle.wf_runnable.specs.Aside.{Aside, IsAside}
 use Rattle.wf_session.specs.Begun.{AreListed, Going, IsStill, Lists, going, graph, moment, price}
 use Rattle.wf_session.specs.Stood.{MayGoOn, Stands, run_of, run_with}
 use Rattle.wf_waits.specs.Kept.{Kept, waiting_key}

@@ -10,7 +10,7 @@ use Rattle.wf_layers.specs.Address.{Address}
 use Rattle.wf_layers.specs.Machine.{has_ended}
 use Rattle.wf_lists.specs.KeyOrder.{IsInKeyOrder}
 use Rattle.wf_planned.specs.Look.{instance}
-use Rattle.wf_run.specs.Runs.{Aside}
+use Rattle.wf_runnable.specs.Aside.{Aside}
 use Rattle.wf_talk.specs.Keys.{is_among}
 use Rattle.wf_talk.specs.Seen.{want_cmp}
 use Rattle.wf_trigger.specs.Starts.{StartTree}

@@ -13,7 +13,7 @@ use Rattle.wf_stands.specs.Weights.{begun_weight, decision_weight}
 use Rattle.wf_environment.specs.Environment.{Environment}
 use Rattle.wf_layers.specs.Definition.{Graph}
 use Rattle.wf_layers.specs.Machine.{Event, fresh, has_ended}
-use Rattle.wf_run.specs.Priced.{lists_cost}
+use Rattle.wf_runnable.specs.Priced.{lists_cost}
 use Rattle.wf_planned.specs.Answering.{RowSource}
 use Rattle.wf_planned.specs.Points.{graph_of}
 use Rattle.wf_planned.specs.Record.{depth_of}
@@ -28,8 +28,8 @@ use Rattle.wf_stands.specs.Moment.{Moment}
 use Rattle.wf_planned.specs.Shown.{shown}
 use Rattle.wf_tables.specs.declared.entries.LeafAt.{LeafAt}
 use Rattle.wf_stands.specs.Seen.{row_content}
-use Rattle.wf_run.specs.Meant.{definition_of, environment_of, source}
-use Rattle.wf_run.specs.Actions.{Actions}
+use Rattle.wf_runnable.specs.Meant.{definition_of, environment_of, source}
+use Rattle.wf_runnable.specs.Actions.{Actions}
 
 -- what a run goes by: a definition, an environment, and the source of its rows
 pub record Going : Type 0 where

@@ -14,18 +14,18 @@ use Rattle.wf_kept.specs.Counted.{AreCounts}
 use Rattle.wf_kept.specs.Event.{AreLeft}
 use Rattle.wf_kept.specs.Ready.{IsReady}
 use Rattle.wf_layers.specs.Variables.{IsLastWritten}
-use Rattle.wf_run.specs.Sums.{AreSumsOf}
+use Rattle.wf_runnable.specs.Sums.{AreSumsOf}
 use Rattle.wf_opening.specs.DecisionSeen.{decision_tree, verdict_tree}
 use Rattle.wf_reading.specs.ReadSeen.{def_tree}
 use Rattle.wf_stands.specs.Checked.{Checked}
-use Rattle.wf_run.specs.Writes.{writes}
+use Rattle.wf_runnable.specs.Writes.{writes}
 use Rattle.wf_stands.specs.Moment.{source_of}
 use Rattle.wf_tables.specs.Tables.{count_in, events_in, left_in}
 use Rattle.wf_trigger.specs.Starts.{StartTree}
 use Rattle.wf_trigger.specs.StartsSeen.{start_tree}
 use Rattle.wf_trigger.specs.declared.starts.Start.{Start}
 use Rattle.wf_stands.specs.Seen.{row_content}
-use Rattle.wf_run.specs.Runs.{Aside, IsAside}
+use Rattle.wf_runnable.specs.Aside.{Aside, IsAside}
 use Rattle.wf_session.specs.Begun.{AreListed, Comes, Going, IsStill, graph, moment, price}
 use Rattle.wf_waits.specs.Kept.{keys_of}
 use Rattle.wf_waits.specs.declared.waiting.Waiting.{Waiting}

@@ -10,7 +10,7 @@ use std::alloc::Global;
 use wf_answers::Inputs;
 use wf_outside::{Sink, Source};
 use wf_planned::plan;
-use wf_run::{Ends, Ready, Runnable};
+use wf_runnable::{Ends, Ready, Runnable};
 use wf_stands::Checked;
 use wf_talk::{StandFault, hold, refuse};
 use wf_trigger::Start;

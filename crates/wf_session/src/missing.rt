@@ -7,14 +7,14 @@ ghost use Rattle.wf_quiet.specs.Quiet.{HasAnswer};
 ghost use Rattle.wf_reading.specs.ReadSeen.{def_tree};
 ghost use Rattle.wf_planned.specs.Kept.{IsEnabled};
 ghost use Rattle.wf_tables.specs.Tables.{event_tree};
-ghost use Rattle.wf_run.specs.Meant.{source};
+ghost use Rattle.wf_runnable.specs.Meant.{source};
 ghost use Rattle.wf_session.specs.Begun.{answered_in, going, graph, moment};
 ghost use Rattle.wf_session.specs.Waiting.{IsMissing};
 
 use std::alloc::{AllocError, Global};
 use wf_asks::{Acts, Instance};
 use wf_lists::TryCopy;
-use wf_run::{Actions, Making, Places};
+use wf_runnable::{Actions, Making, Places};
 use wf_stands::answer_at;
 use wf_tables::{EventAt, EventKind};
 use wf_talk::Want;
@@ -25,7 +25,7 @@ fn name_at(alloc: Global, places: &Places<'_>, number: u32) -> Result<Name, Allo
     ensures { IfOk result (λ n. n ≡ name_of (def_tree places.now) number) }
 {
     match places.action(number) {
-        Some(action) => wf_run::name_of(action).copy(alloc),
+        Some(action) => wf_runnable::name_of(action).copy(alloc),
         None => Text::of(alloc, ""),
     }
 }

@@ -14,7 +14,7 @@ use wf_asks::Acts;
 use wf_done::Begun;
 use wf_opening::{Decision, Verdict};
 use wf_record::Row;
-use wf_run::{Actions, Making, Rest, Runnable, is_planned};
+use wf_runnable::{Actions, Making, Rest, Runnable, is_planned};
 use wf_talk::StandFault;
 use wf_trigger::Start;
 use wf_waits::Waits;
@@ -34,7 +34,7 @@ impl<'a> Model for Session<'a> {
     ghost use Rattle.std.specs.Prelude.{IfSome, List, Option};
     ghost use Rattle.wf_answers.specs.declared.inputs.Inputs.{Inputs};
     ghost use Rattle.wf_stands.specs.Checked.{Checked};
-    ghost use Rattle.wf_run.specs.Runs.{Aside};
+    ghost use Rattle.wf_runnable.specs.Aside.{Aside};
     ghost use Rattle.wf_session.specs.Stood.{Stands, run_with};
     ghost use Rattle.wf_waits.specs.declared.waiting.Waiting.{Waiting};
     ghost use Rattle.wf_trigger.specs.declared.starts.Start.{Start};

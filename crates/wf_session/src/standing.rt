@@ -13,7 +13,7 @@ use crate::session::{Session, begun, gone_on};
 use std::alloc::{AllocError, Global};
 use wf_answers::{Answer, Inputs};
 use wf_record::{Record, record_line};
-use wf_run::Runnable;
+use wf_runnable::Runnable;
 use wf_talk::{Stand, StandFault, Want};
 use wf_trigger::Start;
 use wf_val::Address;

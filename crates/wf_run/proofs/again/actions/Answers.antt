@@ -2,16 +2,16 @@ use Rattle.std.proofs.Common.{sym, subst}
 use Rattle.wf_answers.specs.InputsSeen.{inputs_tree}
 use Rattle.wf_environment.specs.Environment.{fresh}
 use Rattle.wf_layers.specs.Resubmission.{IsOldTable}
-use Rattle.wf_actions.specs.Points.{graph_of}
-use Rattle.wf_actions.specs.Resubmitted.{pinned_source, recalled, resubmitted, rows_by}
-use Rattle.wf_actions.specs.Source.{source}
+use Rattle.wf_runnable.specs.Points.{graph_of}
+use Rattle.wf_runnable.specs.Resubmitted.{pinned_source, recalled, resubmitted, rows_by}
+use Rattle.wf_runnable.specs.Source.{source}
 use Rattle.wf_pinned.specs.Answered.{IsAnswered}
 use Rattle.wf_pinned.specs.Old.{MayGoOn, recloses, redoes}
 use Rattle.wf_record.specs.Record.{RecordTree}
 use Rattle.wf_record.specs.Seen.{record_tree}
-use Rattle.wf_trigger.specs.Starts.{StartTree}
-use Rattle.wf_trigger.specs.StartsSeen.{start_tree}
-use Rattle.wf_run.specs.Runs.{definition}
+use Rattle.wf_environment.specs.Starts.{StartTree}
+use Rattle.wf_environment.specs.StartsSeen.{start_tree}
+use Rattle.wf_runnable.specs.Runnable.{definition}
 use Rattle.wf_run.proofs.again.actions.Goals as goal
 
 pub resumed-requires : goal.resumed-requires

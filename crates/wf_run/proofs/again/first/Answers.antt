@@ -5,21 +5,21 @@ use Rattle.wf_environment.specs.Environment.{Environment}
 use Rattle.wf_kept.specs.Reached.{IsAsResumed, IsResumption, resumption}
 use Rattle.wf_layers.specs.Resubmission.{IsOldTable}
 use Rattle.wf_layers.specs.Variables.{IsLastWritten}
-use Rattle.wf_actions.specs.Points.{graph_of}
-use Rattle.wf_actions.specs.Record.{depth_of}
-use Rattle.wf_actions.specs.Resubmitted.{pinned_source, recalled, resubmitted, rows_by}
-use Rattle.wf_actions.specs.Source as sources
+use Rattle.wf_runnable.specs.Points.{graph_of}
+use Rattle.wf_runnable.specs.Record.{depth_of}
+use Rattle.wf_runnable.specs.Resubmitted.{pinned_source, recalled, resubmitted, rows_by}
+use Rattle.wf_runnable.specs.Source as sources
 use Rattle.wf_pinned.specs.Old.{recloses, redoes}
 use Rattle.wf_plan.specs.PlanSeen.{plan_tree}
 use Rattle.wf_record.specs.Record.{RecordTree}
 use Rattle.wf_record.specs.Seen.{record_tree}
 use Rattle.wf_resubmit.specs.Chosen.{MayBeRedone}
-use Rattle.wf_ended.specs.Writes as laws
-use Rattle.wf_actions.specs.Kept.{IsPlanned}
-use Rattle.wf_actions.specs.Seen.{rows_seen}
-use Rattle.wf_actions.specs.Meant.{source}
-use Rattle.wf_run.specs.Made.{Moment, moment}
-use Rattle.wf_run.specs.Runs.{definition}
+use Rattle.wf_runnable.specs.Writes as laws
+use Rattle.wf_runnable.specs.Kept.{IsPlanned}
+use Rattle.wf_runnable.specs.Seen.{rows_seen}
+use Rattle.wf_runnable.specs.Meant.{source}
+use Rattle.wf_runnable.specs.Over.{Moment, moment}
+use Rattle.wf_runnable.specs.Runnable.{definition}
 use Rattle.wf_run.proofs.again.first.Goals as goal
 
 pub regain-requires-clause-placed : goal.regain-requires-clause-placed

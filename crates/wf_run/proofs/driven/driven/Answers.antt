@@ -1,5 +1,5 @@
 use Rattle.std.proofs.Common.{sym, subst}
-use Rattle.wf_run.specs.Made.{AreLeft, IsAtLast, moment}
+use Rattle.wf_runnable.specs.Over.{AreLeft, IsAtLast, moment}
 use Rattle.wf_run.proofs.driven.driven.Goals as goal
 
 pub given_up-rows-requires : goal.given_up-rows-requires

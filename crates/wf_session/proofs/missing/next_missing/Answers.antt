@@ -5,8 +5,8 @@ use Rattle.wf_asks.specs.Instances.{address_of}
 use Rattle.wf_done.specs.DoneSeen.{begun_tree}
 use Rattle.wf_layers.specs.Machine as machine
 use Rattle.wf_tables.specs.Tables.{leaf_tree}
-use Rattle.wf_run.specs.Meant.{source}
-use Rattle.wf_run.specs.Actions.{Actions}
+use Rattle.wf_runnable.specs.Meant.{source}
+use Rattle.wf_runnable.specs.Actions.{Actions}
 use Rattle.wf_session.specs.Begun.{answered_in, going, moment}
 use Rattle.wf_session.specs.Waiting.{key_at}
 use Rattle.wf_session.proofs.MissingLemmas.{in_definition, looked_up}

@@ -1,10 +1,10 @@
 use Rattle.std.proofs.Common.{◌≡◌, [], ap, subst, ◌∙◌}
 use Rattle.std.proofs.lemmas.Result.{err_from_is_err_and}
-use Rattle.wf_run.specs.Meant.{definition_of, environment_of, source}
+use Rattle.wf_runnable.specs.Meant.{definition_of, environment_of, source}
 use Rattle.wf_asks.specs.Known.{store_in, writer}
 use Rattle.wf_layers.specs.Variables.{IsLastWritten}
-use Rattle.wf_run.specs.Runs.{IsAside}
-use Rattle.wf_run.specs.Writes.{writes}
+use Rattle.wf_runnable.specs.Aside.{IsAside}
+use Rattle.wf_runnable.specs.Writes.{writes}
 use Rattle.wf_session.specs.Begun.{IsDear, Going, going, graph, moment}
 use Rattle.wf_session.specs.Stood.{Stands, run_with}
 use Rattle.wf_session.proofs.StoodLemmas.{put_aside, same_run}

@@ -1,6 +1,6 @@
 use Rattle.std.proofs.Common.{subst}
 use Rattle.wf_kept.specs.Reached.{IsReached}
-use Rattle.wf_run.specs.Meant.{depth, source}
+use Rattle.wf_runnable.specs.Meant.{depth, source}
 use Rattle.wf_session.specs.Begun.{going, graph, moment}
 use Rattle.wf_session.proofs.NextLemmas.{may_happen}
 use Rattle.wf_session.proofs.ScanLemmas.{all_held, held_at_first, looked_on, looked_same}

@@ -3,7 +3,7 @@ use Rattle.wf_asks.specs.Instances.{address_of}
 use Rattle.wf_asks.specs.declared.instance.Instance.{Instance}
 use Rattle.wf_kept.specs.Reached.{IsReached}
 use Rattle.wf_tables.specs.Tables.{event_tree}
-use Rattle.wf_run.specs.Meant.{depth, source}
+use Rattle.wf_runnable.specs.Meant.{depth, source}
 use Rattle.wf_waits.specs.Kept.{Kept}
 use Rattle.wf_session.specs.Begun.{going, graph, moment}
 use Rattle.wf_session.specs.Settled.{HasLooked, IsHeld, WillHappen}

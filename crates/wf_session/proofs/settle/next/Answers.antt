@@ -2,7 +2,7 @@ use Rattle.std.proofs.Common.{subst}
 use Rattle.wf_kept.specs.Reached.{IsReached}
 use Rattle.wf_kept.specs.Ready.{IsReady}
 use Rattle.wf_tables.specs.Tables.{events_in}
-use Rattle.wf_run.specs.Meant.{depth, source}
+use Rattle.wf_runnable.specs.Meant.{depth, source}
 use Rattle.wf_session.specs.Begun.{going, graph, moment}
 use Rattle.wf_session.proofs.NextLemmas.{all_are_kept, quiet}
 use Rattle.wf_session.proofs.settle.next.Goals as goal

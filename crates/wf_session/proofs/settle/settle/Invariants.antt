@@ -2,7 +2,7 @@ use Rattle.std.proofs.Common.{◌≡◌, List, []}
 use Rattle.wf_answers.specs.AnswerTree.{Key}
 use Rattle.wf_layers.specs.Bound.{left}
 use Rattle.wf_layers.specs.Meaning.{meaning}
-use Rattle.wf_run.specs.Meant.{depth, graph, source}
+use Rattle.wf_runnable.specs.Meant.{depth, graph, source}
 use Rattle.wf_session.specs.Begun.{Comes, going, has_answer, moment}
 use Rattle.wf_waits.specs.Kept.{AreNew}
 use Rattle.wf_session.specs.Waiting.{AreWaiting}

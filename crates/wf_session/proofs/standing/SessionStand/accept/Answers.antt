@@ -8,7 +8,7 @@ use Rattle.wf_answers.specs.Inputs.{InputsTree}
 use Rattle.wf_answers.specs.InputsSeen.{inputs_tree}
 use Rattle.wf_lists.specs.KeyOrder.{without_key}
 use Rattle.wf_reading.specs.ReadSeen.{def_tree}
-use Rattle.wf_run.specs.Runs.{Aside}
+use Rattle.wf_runnable.specs.Aside.{Aside}
 use Rattle.wf_stands.specs.Stands as stands
 use Rattle.wf_talk.specs.Keys.{fresh, is_among}
 use Rattle.wf_talk.specs.Standing.{TooLarge}

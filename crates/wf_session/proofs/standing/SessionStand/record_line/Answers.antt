@@ -8,7 +8,7 @@ use Rattle.wf_reading.specs.ReadSeen.{def_tree}
 use Rattle.wf_record.specs.Cost.{cost}
 use Rattle.wf_record.specs.Record.{record_line}
 use Rattle.wf_record.specs.Seen.{record_tree}
-use Rattle.wf_run.specs.Runs.{Aside}
+use Rattle.wf_runnable.specs.Aside.{Aside}
 use Rattle.wf_stands.specs.Stands as stands
 use Rattle.wf_trigger.specs.Starts.{StartTree}
 use Rattle.wf_trigger.specs.StartsSeen.{start_tree}

@@ -2,18 +2,20 @@ use Rattle.std.proofs.Common.{arith, ap, false, sym, subst, ◌∙◌}
 use Rattle.std.proofs.lemmas.Result.{err_from_is_err_and}
 use Rattle.wf_answers.specs.InputsSeen.{inputs_tree}
 use Rattle.wf_environment.specs.Environment.{Environment, fresh}
-use Rattle.wf_actions.specs.Answering.{table_by}
-use Rattle.wf_actions.specs.Record.{record_of_table}
-use Rattle.wf_actions.specs.Resubmitted.{pinned_source}
+use Rattle.wf_runnable.specs.Answering.{table_by}
+use Rattle.wf_runnable.specs.Record.{record_of_table}
+use Rattle.wf_runnable.specs.Resubmitted.{pinned_source}
 use Rattle.wf_record.specs.Cost.{cost}
 use Rattle.wf_record.specs.Record.{RecordTree}
 use Rattle.wf_record.specs.Seen.{record_tree}
-use Rattle.wf_trigger.specs.Starts.{StartTree}
-use Rattle.wf_actions.specs.Acting.{ActFor}
-use Rattle.wf_run.specs.Made.{AreLeft, IsAtFirst, IsMade, IsTooMuch, moment, price}
-use Rattle.wf_run.specs.Runs.{begun_with, definition}
-use Rattle.wf_run.proofs.MadeLemmas.{costs_so, ended_so, pinned_is, record_is, resubmission_is}
-use Rattle.wf_run.proofs.runnable.Runnable.remake.Goals as goal
+use Rattle.wf_environment.specs.Starts.{StartTree}
+use Rattle.wf_runnable.specs.Acting.{ActFor}
+use Rattle.wf_runnable.specs.Over.{AreLeft, moment}
+use Rattle.wf_run.specs.Made.{IsAtFirst, IsMade, IsTooMuch, price}
+use Rattle.wf_runnable.specs.Runnable.{begun_with, definition}
+use Rattle.wf_run.proofs.MadeLemmas.{costs_so, pinned_is, resubmission_is}
+use Rattle.wf_runnable.proofs.EndedLemmas.{ended_so, record_is}
+use Rattle.wf_run.proofs.again.remake.Goals as goal
 
 pub driven-requires-clause-first : goal.driven-requires-clause-first
 driven-requires-clause-first c =
@@ -21,7 +23,7 @@ driven-requires-clause-first c =
 
 pub returns-clause-run : goal.returns-clause-run
 returns-clause-run c =
-    let s = c.args.self.now in
+    let s = c.args.runnable.now in
     let d = definition s.checked.now in
     let r : RecordTree = record_tree c.args.log.now in
     let i = inputs_tree c.args.inputs.now in
@@ -38,7 +40,7 @@ returns-clause-run c =
 
 pub returns-clause-ended : goal.returns-clause-ended
 returns-clause-ended c =
-    let s = c.args.self.now in
+    let s = c.args.runnable.now in
     let d = definition s.checked.now in
     let r : RecordTree = record_tree c.args.log.now in
     let i = inputs_tree c.args.inputs.now in
@@ -53,7 +55,7 @@ returns-clause-ended c =
 
 pub returns-clause-meant : goal.returns-clause-meant
 returns-clause-meant c =
-    let s = c.args.self.now in
+    let s = c.args.runnable.now in
     let d = definition s.checked.now in
     let r : RecordTree = record_tree c.args.log.now in
     let i = inputs_tree c.args.inputs.now in
@@ -69,7 +71,7 @@ returns-clause-meant c =
 
 pub returns-in_err-made-clause-large : goal.returns-in_err-made-clause-large
 returns-in_err-made-clause-large c =
-    let s = c.args.self.now in
+    let s = c.args.runnable.now in
     let d = definition s.checked.now in
     let r : RecordTree = record_tree c.args.log.now in
     let i = inputs_tree c.args.inputs.now in

@@ -16,11 +16,11 @@ use Rattle.wf_actions.specs.Points.{graph_of}
 use Rattle.wf_plan.specs.PlanSeen.{plan_tree}
 use Rattle.wf_reading.specs.ReadSeen.{def_tree}
 use Rattle.wf_actions.specs.Kept.{IsPlanned}
-use Rattle.wf_run.specs.declared.runnable.Runnable.{Runnable}
-use Rattle.wf_run.proofs.runnable.is_planned.Statement.{statement}
-use Rattle.wf_run.proofs.runnable.is_planned.Lts as lts
-use Rattle.wf_run.proofs.runnable.is_planned.Reads as reads
-use Rattle.wf_run.proofs.runnable.is_planned.Tie as tie
+use Rattle.wf_runnable.specs.declared.runnable.Runnable.{Runnable}
+use Rattle.wf_runnable.proofs.runnable.is_planned.Statement.{statement}
+use Rattle.wf_runnable.proofs.runnable.is_planned.Lts as lts
+use Rattle.wf_runnable.proofs.runnable.is_planned.Reads as reads
+use Rattle.wf_runnable.proofs.runnable.is_planned.Tie as tie
 
 abbrev Planned : Runnable → Type 0
 Planned r = IsPlanned (graph_of (def_tree r.checked.now.def)) (plan_tree r.plan.now)

@@ -1,9 +1,9 @@
 use Rattle.std.proofs.Common.{◌≡◌, sym, subst, ◌∙◌}
-use Rattle.wf_trigger.specs.StartsSeen.{start_tree}
+use Rattle.wf_environment.specs.StartsSeen.{start_tree}
 use Rattle.wf_ended.specs.Left.{recorded}
 use Rattle.wf_ended.specs.LeftSeen.{left_tree}
-use Rattle.wf_run.specs.Runs.{IsEnded, definition, record_left}
-use Rattle.wf_run.proofs.runnable.Runnable.record.Goals as goal
+use Rattle.wf_runnable.specs.Runnable.{IsEnded, definition, record_left}
+use Rattle.wf_runnable.proofs.runnable.Runnable.record.Goals as goal
 
 pub left-requires : goal.left-requires
 left-requires c =

@@ -2,7 +2,7 @@ use Rattle.std.proofs.Common.{sym, subst, ◌∙◌}
 use Rattle.wf_record.specs.Cost.{cost}
 use Rattle.wf_run.specs.Made.{IsTooMuch}
 use Rattle.wf_run.specs.Runs.{IsTheResubmission}
-use Rattle.wf_run.proofs.runnable.Runnable.resubmit.Goals as goal
+use Rattle.wf_run.proofs.again.resubmit.Goals as goal
 
 pub returns-in-None-clause-large : goal.returns-in-None-clause-large
 returns-in-None-clause-large c = λ other.
@@ -11,6 +11,6 @@ returns-in-None-clause-large c = λ other.
 pub returns-clause-told : goal.returns-clause-told
 returns-clause-told c =
     let m = c.in_ok-rows.field-0 in
-    subst (λ r. IsTheResubmission c.args.self.now.checked.now c.args.log.now c.args.inputs.now c.args.from.now c.args.schedule.now
+    subst (λ r. IsTheResubmission c.args.runnable.now.checked.now c.args.log.now c.args.inputs.now c.args.from.now c.args.schedule.now
     (record { events = m.trace.items; left = r; steps = m.steps; peak = m.peak }))
     (sym (c.in_ok-finished.ensures ∙ c.in_ok-rows.ensures.meant)) c.in_ok-rows.ensures.run

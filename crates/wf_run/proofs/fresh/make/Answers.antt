@@ -1,20 +1,22 @@
 use Rattle.std.proofs.Common.{arith, sym, subst, ◌∙◌}
 use Rattle.std.proofs.lemmas.Result.{err_from_is_err_and}
 use Rattle.wf_environment.specs.Environment.{Environment}
-use Rattle.wf_actions.specs.Points.{graph_of}
-use Rattle.wf_actions.specs.Source as sources
+use Rattle.wf_runnable.specs.Points.{graph_of}
+use Rattle.wf_runnable.specs.Source as sources
 use Rattle.wf_plan.specs.PlanSeen.{plan_tree}
 use Rattle.wf_record.specs.Cost.{cost}
-use Rattle.wf_actions.specs.Kept.{IsPlanned}
-use Rattle.wf_actions.specs.Acting.{ActFor}
-use Rattle.wf_run.specs.Made.{AreFew, AreLeft, IsAtFirst, IsMade, IsTooMuch, moment, price}
-use Rattle.wf_run.specs.Runs.{begun_with, definition}
-use Rattle.wf_run.proofs.MadeLemmas.{costs_so, ended_so, record_is, run_is}
-use Rattle.wf_run.proofs.runnable.Runnable.make.Goals as goal
+use Rattle.wf_runnable.specs.Kept.{IsPlanned}
+use Rattle.wf_runnable.specs.Acting.{ActFor}
+use Rattle.wf_run.specs.Made.{AreFew, IsAtFirst, IsMade, IsTooMuch, price}
+use Rattle.wf_runnable.specs.Over.{AreLeft, moment}
+use Rattle.wf_runnable.specs.Runnable.{begun_with, definition}
+use Rattle.wf_run.proofs.MadeLemmas.{costs_so, run_is}
+use Rattle.wf_runnable.proofs.EndedLemmas.{ended_so, record_is}
+use Rattle.wf_run.proofs.fresh.make.Goals as goal
 
 pub fresh-requires-clause-planned : goal.fresh-requires-clause-planned
 fresh-requires-clause-planned c =
-    let s = c.args.self.now in
+    let s = c.args.runnable.now in
     subst (λ d. IsPlanned (graph_of d) (plan_tree s.plan.now)) (sym c.of-actions.ensures.acts.definition)
     (subst (λ k. IsPlanned (graph_of (definition k)) (plan_tree s.plan.now)) (sym s.readied) c.is_planned.ensures)
 
@@ -27,7 +29,7 @@ driven-requires-clause-first c =
 
 pub returns-clause-run : goal.returns-clause-run
 returns-clause-run c =
-    let s = c.args.self.now in
+    let s = c.args.runnable.now in
     let d = definition s.checked.now in
     let e : Environment = begun_with c.args.start.now c.args.inputs.now in
     let a = c.of-actions.result in
@@ -41,7 +43,7 @@ returns-clause-run c =
 
 pub returns-clause-ended : goal.returns-clause-ended
 returns-clause-ended c =
-    let s = c.args.self.now in
+    let s = c.args.runnable.now in
     let d = definition s.checked.now in
     let e : Environment = begun_with c.args.start.now c.args.inputs.now in
     let a = c.of-actions.result in
@@ -53,7 +55,7 @@ returns-clause-ended c =
 
 pub returns-clause-meant : goal.returns-clause-meant
 returns-clause-meant c =
-    let s = c.args.self.now in
+    let s = c.args.runnable.now in
     let d = definition s.checked.now in
     let e : Environment = begun_with c.args.start.now c.args.inputs.now in
     let a = c.of-actions.result in
@@ -66,7 +68,7 @@ returns-clause-meant c =
 
 pub returns-clause-few : goal.returns-clause-few
 returns-clause-few c =
-    let s = c.args.self.now in
+    let s = c.args.runnable.now in
     let d = definition s.checked.now in
     let e : Environment = begun_with c.args.start.now c.args.inputs.now in
     let a = c.of-actions.result in
@@ -79,7 +81,7 @@ returns-clause-few c =
 
 pub returns-in_err-made-clause-large : goal.returns-in_err-made-clause-large
 returns-in_err-made-clause-large c =
-    let s = c.args.self.now in
+    let s = c.args.runnable.now in
     let d = definition s.checked.now in
     let e : Environment = begun_with c.args.start.now c.args.inputs.now in
     let a = c.of-actions.result in

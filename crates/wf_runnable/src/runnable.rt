@@ -1,17 +1,17 @@
 //! A definition that was made ready for its runs.
 ghost use Rattle.std.specs.Prelude.{◌≡◌, IfOk};
 ghost use Rattle.wf_record.specs.Seen.{record_tree};
-ghost use Rattle.wf_run.specs.Runs.{IsEnded, Plans, record_left};
+ghost use Rattle.wf_runnable.specs.Runnable.{IsEnded, Plans, record_left};
 
 use std::alloc::{AllocError, Global};
 use wf_actions::Ready;
 use wf_answers::Inputs;
 use wf_asks::{Rows, Store};
 use wf_ended::Ends;
-use wf_pinned::Checked;
+use wf_environment::Start;
 use wf_plan::Plan;
 use wf_record::{Record, Row};
-use wf_trigger::Start;
+use wf_rules::Checked;
 
 /// An accepted definition, by what its runs ask of it again and again.
 #[derive(Drop)]
@@ -48,7 +48,7 @@ impl<'a> Runnable<'a> {
     }
 
     /// The record of a run that has these rows and last writers, once nothing may happen any more.
-    pub(crate) fn record(
+    pub fn record(
         &self,
         alloc: Global,
         start: Start,

@@ -1,6 +1,6 @@
 use Rattle.std.proofs.Common.{sym, subst, ◌∙◌}
 use Rattle.wf_actions.specs.Weights.{begun_weight, decision_weight}
-use Rattle.wf_told.specs.DoneSeen.{begun_tree}
+use Rattle.wf_done.specs.DoneSeen.{begun_tree}
 use Rattle.wf_environment.specs.Environment.{Environment}
 use Rattle.wf_layers.specs.Machine.{IsOver}
 use Rattle.wf_actions.specs.Answering.{RowSource}
@@ -12,10 +12,10 @@ use Rattle.wf_actions.specs.Paying.{cost_of_row}
 use Rattle.wf_actions.specs.Seen.{row_content}
 use Rattle.wf_actions.specs.Acting.{ActFor}
 use Rattle.wf_actions.specs.Meant.{source}
-use Rattle.wf_run.specs.Made.{AreLeft, IsAtLast, moment}
-use Rattle.wf_run.specs.Runs.{begun_with, definition}
-use Rattle.wf_run.proofs.MadeLemmas.{ended_so, record_is}
-use Rattle.wf_run.proofs.runnable.Runnable.finished.Goals as goal
+use Rattle.wf_runnable.specs.Over.{AreLeft, IsAtLast, moment}
+use Rattle.wf_runnable.specs.Runnable.{begun_with, definition}
+use Rattle.wf_runnable.proofs.EndedLemmas.{ended_so, record_is}
+use Rattle.wf_runnable.proofs.runnable.Runnable.finished.Goals as goal
 
 pub again-requires-clause-sums : goal.again-requires-clause-sums
 again-requires-clause-sums c =

@@ -2,8 +2,8 @@ use Rattle.std.proofs.Common.{◌≡◌, sym, subst}
 use Rattle.wf_layers.specs.Meaning.{meaning}
 use Rattle.wf_actions.specs.Seen.{rows_seen}
 use Rattle.wf_actions.specs.Meant.{depth, graph, source}
-use Rattle.wf_run.specs.Made.{IsAtLast}
-use Rattle.wf_run.proofs.made.given_up.Goals as goal
+use Rattle.wf_runnable.specs.Over.{IsAtLast}
+use Rattle.wf_runnable.proofs.over.given_up.Goals as goal
 
 pub is_whole-requires : goal.is_whole-requires
 is_whole-requires c = subst (λ h. IsAtLast h.0 h.1) (sym c.state-kept.ensures) c.requires

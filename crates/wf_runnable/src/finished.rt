@@ -1,17 +1,18 @@
 //! The record of a run that was put aside, once nothing may happen in it any more.
 ghost use Rattle.std.specs.Prelude.{◌≡◌, IfOk};
 ghost use Rattle.wf_record.specs.Seen.{record_tree};
-ghost use Rattle.wf_run.specs.Runs.{IsAsideAtLast, meant_record};
+ghost use Rattle.wf_runnable.specs.Aside.{IsAsideAtLast};
+ghost use Rattle.wf_runnable.specs.Runnable.{meant_record};
 
-use crate::made::given_up;
+use crate::over::given_up;
 use crate::runnable::{Runnable, is_planned};
 use std::alloc::{AllocError, Global};
 use wf_actions::{Actions, Making, Rest};
 use wf_answers::Inputs;
+use wf_done::Begun;
+use wf_environment::Start;
 use wf_opening::{Decision, Verdict};
 use wf_record::{Record, Row};
-use wf_told::Begun;
-use wf_trigger::Start;
 
 impl<'a> Runnable<'a> {
     /// The record of a run that was put aside, once nothing may happen in it any more: it is the definition's meaning.

@@ -1,0 +1,2 @@
+pub use Rattle.wf_ended.proofs.InsideLemmas
+pub mod EndedLemmas
