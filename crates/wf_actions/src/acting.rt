@@ -22,7 +22,7 @@ ghost use Rattle.wf_actions.specs.Asked.{finish_of, halt_of, start_of, test_of, 
 ghost use Rattle.wf_actions.specs.Meant.{definition_of, environment_of, inside_by, source, writes};
 
 use crate::actions::Actions;
-use crate::opened::{are_answered, was_read};
+use crate::opened::are_answered;
 use std::alloc::{AllocError, Global};
 use wf_asks::{Instance, Known};
 use wf_catalog::{Begun, Places};
@@ -56,7 +56,7 @@ pub(crate) fn start(
     ensures { IfOk result (λ b. begun_tree b ≡ start_of actions.now place.now known.entry.rows.now.0) }
 {
     are_answered(actions);
-    was_read(&actions.ready.checked.def);
+    actions.ready.checked.def.always_read();
     actions.ready.checked.always_checked();
     wf_sight_laws::what_is_done_in_a_sight_is_meant();
     wf_paying::start(alloc, &setting(actions), place, known)
@@ -83,7 +83,7 @@ pub(crate) fn finish(
     ensures { IfOk result (λ r. row_content r ≡ finish_of actions.now place.now (begun_tree begun.now) known.entry.rows.now.0) }
 {
     are_answered(actions);
-    was_read(&actions.ready.checked.def);
+    actions.ready.checked.def.always_read();
     actions.ready.checked.always_checked();
     wf_sight_laws::what_is_done_in_a_sight_is_meant();
     wf_paying::what_is_done_is_the_source();
@@ -124,7 +124,7 @@ pub(crate) fn decide(
     ensures { IfOk result (λ d. decision_tree d ≡ decision_of actions.now place.now known.entry.rows.now.0) }
 {
     are_answered(actions);
-    was_read(&actions.ready.checked.def);
+    actions.ready.checked.def.always_read();
     actions.ready.checked.always_checked();
     wf_catalog::numbers_stand_once();
     wf_sight_laws::what_is_done_in_a_sight_is_meant();
@@ -143,7 +143,7 @@ pub(crate) fn test(
     ensures { IfOk result (λ v. verdict_tree v ≡ test_of actions.now place.now index known.entry.rows.now.0) }
 {
     are_answered(actions);
-    was_read(&actions.ready.checked.def);
+    actions.ready.checked.def.always_read();
     actions.ready.checked.always_checked();
     wf_catalog::numbers_stand_once();
     wf_sight_laws::what_is_done_in_a_sight_is_meant();
@@ -187,7 +187,7 @@ pub(crate) fn close(
         (option_map (λ v. verdict_tree v.now) test.entry) known.entry.rows.now.0) }
 {
     are_answered(actions);
-    was_read(&actions.ready.checked.def);
+    actions.ready.checked.def.always_read();
     actions.ready.checked.always_checked();
     wf_catalog::numbers_stand_once();
     wf_sight_laws::what_is_done_in_a_sight_is_meant();

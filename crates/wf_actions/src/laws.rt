@@ -3,7 +3,7 @@ ghost use Rattle.wf_actions.specs.Order.{CostsWhatItMeans, KeepsOrder};
 ghost use Rattle.wf_actions.specs.declared.actions.Actions.{Actions};
 
 use crate::actions::Actions;
-use crate::opened::{are_answered, was_read};
+use crate::opened::are_answered;
 
 /// Their loops can go, and no leaf makes more attempts than a number can count. The writers of each variable are in one order. What a row
 /// costs grows with the attempts and iterations that it tells.
@@ -11,7 +11,7 @@ pub(crate) fn keep_order(actions: &Actions<'_>)
     ensures { KeepsOrder actions.now }
 {
     are_answered(actions);
-    was_read(&actions.ready.checked.def);
+    actions.ready.checked.def.always_read();
     actions.ready.checked.always_checked();
     let _count = actions.inputs.answers.len();
     wf_catalog::loops_may_turn();

@@ -1,18 +1,8 @@
-//! That a definition was read, and that the actions of a run answer.
+//! That the actions of a run answer.
 ghost use Rattle.wf_sight_laws.specs.Answered.{IsAnswered};
-ghost use Rattle.wf_catalog.specs.Read.{IsRead};
-ghost use Rattle.wf_catalog.specs.ReadSeen.{def_tree};
 ghost use Rattle.wf_actions.specs.Meant.{definition_of, environment_of, source};
 
 use crate::actions::Actions;
-use wf_catalog::Def;
-
-/// Tells a caller that the definition was read, and does nothing.
-pub(crate) fn was_read(def: &Def)
-    ensures { IsRead (def_tree def.now) }
-{
-    let _ = &def.top;
-}
 
 /// Tells a caller that the rows of the run come from the answers of its actions, and does nothing.
 pub(crate) fn are_answered(actions: &Actions<'_>)

@@ -2,7 +2,6 @@
 ghost use Rattle.wf_actions.specs.Acting.{ActAgain, ActForItself, AnswersAgain};
 
 use crate::actions::{Actions, Old, Ready};
-use crate::opened::was_read;
 use crate::pays::first_cost;
 use wf_answers::Inputs;
 use wf_catalog::Start;
@@ -14,7 +13,7 @@ impl<'a> Actions<'a> {
     pub fn of(ready: &'a Ready<'a>, start: &'a Start, inputs: &'a Inputs) -> Actions<'a>
         ensures { ActForItself ready.now start.now inputs.now result }
     {
-        was_read(&ready.checked.def);
+        ready.checked.def.always_read();
         ready.checked.always_checked();
         wf_sight_laws::a_definition_is_an_instance();
         wf_sight_laws::a_definition_is_answered();

@@ -11,7 +11,7 @@ ghost use Rattle.wf_sight_laws.specs.Seen.{row_content};
 ghost use Rattle.wf_actions.specs.Meant.{depth, fee, graph, rows_meant, source};
 
 use crate::actions::Actions;
-use crate::opened::{are_answered, was_read};
+use crate::opened::are_answered;
 use wf_catalog::Start;
 use wf_paying::Pays;
 
@@ -33,7 +33,7 @@ fn are_paid(actions: &Actions<'_>)
         (source actions.now) cost_of_row begun_weight decision_weight (rows_meant actions.now) }
 {
     are_answered(actions);
-    was_read(&actions.ready.checked.def);
+    actions.ready.checked.def.always_read();
     actions.ready.checked.always_checked();
     wf_paying::runs_cost_what_rows_are_meant();
 }

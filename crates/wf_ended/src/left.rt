@@ -27,7 +27,6 @@ ghost use Rattle.wf_ended.specs.LeftSeen.{ending_tree, left_tree};
 use crate::ending::{Ending, by_graph, by_terminate};
 use crate::ends::Ends;
 use crate::first::first_succeeded;
-use crate::opened::was_read;
 use crate::outputs::values_in;
 use crate::rows::rows_of;
 use std::alloc::{AllocError, Global};
@@ -95,7 +94,7 @@ impl<'a> Ends<'a> {
     fn status(&self, alloc: Global, rows: &Rows<Row>) -> Result<Status, AllocError>
         ensures { IfOk result (λ s. s ≡ graph_status (actions_in (def_tree self.now.checked.now.def).top) [] (rows_seen rows.now.0)) }
     {
-        was_read(&self.checked.def);
+        self.checked.def.always_read();
         wf_closing::steps_give_the_status();
         wf_catalog::numbers_stand_once();
         wf_catalog::entries_stay_in_their_graph();
@@ -139,7 +138,7 @@ impl<'a> Ends<'a> {
         ensures { IfOk result (λ s. s ≡ section (told_to_outputs (def_tree self.now.checked.now.def)
             (fresh (start_tree start.now) (inputs_tree inputs.now)) (rows_seen rows.now.0)) (def_tree self.now.checked.now.def).outputs) }
     {
-        was_read(&self.checked.def);
+        self.checked.def.always_read();
         self.checked.always_checked();
         wf_sight_laws::outputs_see_the_last_writers();
         let opens = Opens::new(alloc);
@@ -234,7 +233,7 @@ impl<'a> Ends<'a> {
         ensures rows { IfOk result (λ there. map row_tree there ≡ rows_of (def_tree self.now.checked.now.def) (rows_seen rows.0)) }
         ensures cost { IfOk result (λ there. sum_by row_cost (map row_tree there) ≡ sum_by cost_of rows.0) }
     {
-        was_read(&self.checked.def);
+        self.checked.def.always_read();
         wf_sight_laws::listed_rows_stand_for_the_table();
         wf_catalog::numbers_are_places();
         wf_catalog::numbers_are_had();

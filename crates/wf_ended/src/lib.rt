@@ -17,7 +17,6 @@ mod ending;
 mod ends;
 mod first;
 mod left;
-mod opened;
 mod outputs;
 mod rows;
 

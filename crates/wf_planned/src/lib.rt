@@ -8,7 +8,6 @@
 #![tactic(auto)]
 
 mod laws;
-mod opened;
 mod planning;
 
 pub use laws::{actions_are_named_once, entries_stand_in_order, plans_are_of_definitions};

@@ -6,7 +6,6 @@ ghost use Rattle.wf_reading.specs.ReadSeen.{def_tree};
 ghost use Rattle.wf_steps.specs.Kept.{IsPlanned};
 
 use crate::laws::plans_are_of_definitions;
-use crate::opened::was_read;
 use std::alloc::{AllocError, Global};
 use wf_plan::Plan;
 use wf_reading::Def;
@@ -15,7 +14,7 @@ use wf_reading::Def;
 pub fn plan(alloc: Global, def: &Def) -> Result<Plan, AllocError>
     ensures { IfOk result (λ p. IsPlanned (graph_of (def_tree def.now)) (plan_tree p)) }
 {
-    was_read(def);
+    def.always_read();
     plans_are_of_definitions();
     Plan::of(alloc, &def.top)
 }

@@ -129,7 +129,7 @@ pub fn read_def(alloc: Global, file: &Val) -> Result<Def, RuleFault>
 impl Def {
     /// Tells a caller that the definition was read, from which the laws of this crate go on, and does nothing.
     pub fn always_read(&self)
-        ensures { ∥ IsRead (def_tree self.now) ∥₁ }
+        ensures { IsRead (def_tree self.now) }
     {
         let _ = &self.top;
     }

@@ -14,7 +14,6 @@
 mod kept;
 mod last;
 mod later;
-mod opened;
 mod regained;
 mod reopened;
 

@@ -28,7 +28,6 @@ ghost use Rattle.wf_regained.specs.Last.{AreInLine};
 
 use crate::kept::{kept_numbers, kept_rows};
 use crate::last::last_writers;
-use crate::opened::was_read;
 use crate::reopened::reopened;
 use std::alloc::{AllocError, Global};
 use wf_asks::{Opens, Rows, Store};
@@ -63,7 +62,7 @@ fn rows_kept(
     ensures { IfOk result (λ rows. (x : Address) → rows_seen rows.0 x
         ≡ (first_state (def_tree checked.now.def) (record_tree log.now) from.now).rows x) }
 {
-    was_read(&checked.def);
+    checked.def.always_read();
     checked.always_checked();
     wf_redo::a_set_is_redone();
     wf_sight_laws::depths_are_how_many_are_before();
@@ -94,7 +93,7 @@ fn opens_again(
     ensures { IfOk result (λ opens. (x : Address) → opens_in decision_tree verdict_tree opens.0 x
         ≡ (first_state (def_tree checked.now.def) (record_tree log.now) from.now).opens x) }
 {
-    was_read(&checked.def);
+    checked.def.always_read();
     checked.always_checked();
     wf_redo::a_set_is_redone();
     wf_sight_laws::depths_are_how_many_are_before();
@@ -121,7 +120,7 @@ fn store_of(
         → IsLastWritten (graph_of (def_tree checked.now.def)) m (writer (writes (def_tree checked.now.def)) v) (rows_seen rows.now.0)
         (store_in store.0 v)) }
 {
-    was_read(&checked.def);
+    checked.def.always_read();
     wf_seen_laws::what_is_seen_is_earlier();
     wf_sight_laws::depths_are_how_many_are_before();
     wf_order::order_is_exact();
@@ -157,7 +156,7 @@ pub fn regain(
         → IsLastWritten (graph_of (def_tree checked.now.def)) m (writer (writes (def_tree checked.now.def)) v) (rows_seen g.rows.0)
         (store_in g.store.0 v)) }
 {
-    was_read(&checked.def);
+    checked.def.always_read();
     checked.always_checked();
     wf_sight_laws::a_definition_is_answered();
     wf_sight_laws::numbered_writers_are_in_one_order();

@@ -12,7 +12,6 @@ ghost use Rattle.wf_runnable.specs.Runnable.{IsEnded, record_left};
 use crate::cost::cost_within;
 use crate::driven::driven;
 use crate::made::Made;
-use crate::opened::was_read;
 use crate::run::Ended;
 use std::alloc::{AllocError, Global};
 use wf_answers::Inputs;
@@ -47,7 +46,7 @@ fn actions<'s>(
     requires start { StartsAgain log.now inputs.now start.now }
     ensures { ActAgain runnable.now.ready.now start.now inputs.now log.now from.now result }
 {
-    was_read(&runnable.checked.def);
+    runnable.checked.def.always_read();
     runnable.checked.always_checked();
     wf_pinned::a_resubmission_is_answered();
     wf_told::record_is_an_old_table();
@@ -75,7 +74,7 @@ fn first<'s, 'a>(
 {
     let _ = start;
     is_planned(runnable);
-    was_read(&runnable.checked.def);
+    runnable.checked.def.always_read();
     runnable.checked.always_checked();
     wf_regained::a_definition_is_an_instance();
     wf_told::what_is_chosen_stands_in_no_loop();

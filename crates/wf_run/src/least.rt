@@ -6,7 +6,6 @@ ghost use Rattle.wf_record.specs.Cost.{cost};
 ghost use Rattle.wf_runnable.specs.Record.{meaning};
 ghost use Rattle.wf_runnable.specs.Runnable.{definition};
 
-use crate::opened::was_read;
 use wf_runnable::Checked;
 
 /// The greatest cost of all runs of one command together, in pieces of 64.
@@ -17,7 +16,7 @@ pub fn cost_too_much(checked: &Checked, count: u64) -> bool
     ensures exact { result ≡ nat_lt 67108864 (least_cost (definition checked.now) * count) }
     ensures each { (e : Environment) → least_cost (definition checked.now) ≤ cost (meaning (definition checked.now) e) }
 {
-    was_read(&checked.def);
+    checked.def.always_read();
     checked.always_checked();
     wf_least::a_run_costs_at_least_so_much();
     let pieces = 1 + checked.def.top.actions.len();

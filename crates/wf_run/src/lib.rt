@@ -22,7 +22,6 @@ mod driven;
 mod fresh;
 mod least;
 mod made;
-mod opened;
 mod run;
 
 pub use again::resubmit;

@@ -3,9 +3,6 @@ use Rattle.std.proofs.Common.{◌≡◌, ℕ, Bool, true, false, ◌||◌, cond,
 use Rattle.std.proofs.Common.{option_map, refl, sym, ap, ◌∙◌}
 use Rattle.std.proofs.Common.{subst, true≢false}
 use Rattle.std.proofs.Common.{Less}
-use Rattle.std.proofs.Math.Bool.{Bool-set}
-use Rattle.std.specs.Coded.{×_prop}
-use mathlib.Core.HLevel.{Π_prop}
 use Rattle.std.specs.Prelude.{bytes_eq}
 use Rattle.std.specs.List.{AllByRecursion, find, list_any}
 use Rattle.std.proofs.lemmas.Slice.Eq.{bytes_eq-Decides}
@@ -30,7 +27,7 @@ use Rattle.wf_catalog.specs.Says.{is_skipped}
 use Rattle.wf_fits.specs.Reading.{reading}
 use Rattle.wf_fits.specs.Fits.{fits_in}
 use Rattle.wf_shaped.specs.Failing.{IsLeastFailing, missing_at_top_in, told_in}
-use Rattle.wf_shaped.specs.Least.{IsLeastAt, least_from}
+use Rattle.wf_shaped.specs.Least.{least_from}
 use Rattle.wf_shaped.proofs.ExactLemmas.{AreKnown, failing_told, told_fails}
 use Rattle.wf_shaped.proofs.LeastLemmas.{is_least, least_joined}
 
@@ -77,10 +74,6 @@ are_known d once names numbers kinds = record {
 }
 
 -- ---- the least that fails
-
-pub least-prop : (holds : Address → Bool) (o : Option Address) → IsProp (IsLeastAt holds o)
-least-prop holds None = Π_prop (λ y. Bool-set (holds y) false)
-least-prop holds (Some a) = ×_prop (Bool-set (holds a) true) (Π_prop (λ y. Π_prop (λ less. Bool-set (holds y) false)))
 
 all_seen : (k : Address) (rows : List Row) → AllByRecursion (λ (r : Row). address_cmp k r.address ≡ Less) rows
     → AllByRecursion (λ (r : RowTree). address_cmp k (address_of r) ≡ Less) (map row_tree rows)

@@ -43,9 +43,9 @@ returns c =
     ∙ closes_as (laws.seen d e x known) (told_at d e x known.rows) (numbered place.action d.top) place.at decision n verdict known.rows
     (λ a view found.
     let kind = layered_kind (action_kind a) in
-    let asked = c.requires.informed kind (kinds d (c.numbers_stand_once.ensures d c.was_read.ensures) place.action a found) in
-    c.what_is_done_in_a_sight_is_meant.ensures.tracks d c.was_read.ensures c.always_checked.ensures.holds e (source actions) c.are_answered.ensures.answers x kind
-    known a view found asked.1)
+    let asked = c.requires.informed kind (kinds d (c.numbers_stand_once.ensures d c.always_read.ensures) place.action a found) in
+    c.what_is_done_in_a_sight_is_meant.ensures.tracks d c.always_read.ensures c.always_checked.ensures.holds e (source actions)
+    c.are_answered.ensures.answers x kind known a view found asked.1)
     ∙ c.what_is_done_is_the_source.ensures.close d e x decision n verdict known.rows
     ∙ sym (ap (λ f. f x decision n verdict known.rows) c.are_answered.ensures.answers.close))
     c.close.ensures

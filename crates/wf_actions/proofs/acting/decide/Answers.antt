@@ -34,8 +34,8 @@ returns c =
     ∙ decides_by (laws.seen d e x known) (told_at d e x known.rows) (numbered place.action d.top)
     (λ a found.
     let kind = layered_kind (action_kind a) in
-    let asked = c.requires.informed kind (kinds d (c.numbers_stand_once.ensures d c.was_read.ensures) place.action a found) in
-    c.what_is_done_in_a_sight_is_meant.ensures.decides d c.was_read.ensures c.always_checked.ensures.holds e (source actions) c.are_answered.ensures x
-    kind known a found asked.1 asked.2)
+    let asked = c.requires.informed kind (kinds d (c.numbers_stand_once.ensures d c.always_read.ensures) place.action a found) in
+    c.what_is_done_in_a_sight_is_meant.ensures.decides d c.always_read.ensures c.always_checked.ensures.holds e (source actions)
+    c.are_answered.ensures x kind known a found asked.1 asked.2)
     ∙ sym (c.are_answered.ensures.answers.decide x known.rows c.requires.anew))
     c.decide.ensures

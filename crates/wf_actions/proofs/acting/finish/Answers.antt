@@ -37,8 +37,9 @@ returns c =
     b)
     c.setting.ensures.environment
     ∙ finishes_as (laws.seen d e x known) (told_at d e x known.rows) (numbered place.action d.top) e.inputs.answers place.at b
-    (λ a view found. c.what_is_done_in_a_sight_is_meant.ensures.tracks d c.was_read.ensures c.always_checked.ensures.holds e (source actions) c.are_answered.ensures.answers x Leaf
-    known a view found c.requires.informed)
+    (λ a view found.
+    c.what_is_done_in_a_sight_is_meant.ensures.tracks d c.always_read.ensures c.always_checked.ensures.holds e (source actions)
+    c.are_answered.ensures.answers x Leaf known a view found c.requires.informed)
     ∙ c.what_is_done_is_the_source.ensures.finish d (start_tree actions.start.now) (inputs_tree actions.inputs.now) x b known.rows
     ∙ sym (ap (λ f. f x b known.rows) c.are_answered.ensures.answers.finish))
     c.finish.ensures

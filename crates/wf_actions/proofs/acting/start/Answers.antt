@@ -29,8 +29,8 @@ returns c =
     ∙ ap (λ (g : Environment). begun_by (numbered place.action d.top) (seen_at d (run_of g (first_facts g)) x known))
     c.setting.ensures.environment
     ∙ starts_by d e x known.rows (laws.seen d e x known) (numbered place.action d.top)
-    (λ a found. c.what_is_done_in_a_sight_is_meant.ensures.starts d c.was_read.ensures c.always_checked.ensures.holds e (source actions) c.are_answered.ensures x
-    known a found
-    c.requires.informed c.requires.last)
+    (λ a found.
+    c.what_is_done_in_a_sight_is_meant.ensures.starts d c.always_read.ensures c.always_checked.ensures.holds e (source actions)
+    c.are_answered.ensures x known a found c.requires.informed c.requires.last)
     ∙ sym (ap (λ f. f x known.rows) c.are_answered.ensures.answers.start))
     c.start.ensures

@@ -36,9 +36,9 @@ returns c =
     ∙ tests_as (laws.seen_tested d e x c.args.index known) (told_in_test d e x c.args.index known.rows) (numbered place.action d.top)
     (λ a found test count fails graph is.
     let asked = c.requires.informed count (layered graph)
-    (kinds d (c.numbers_stand_once.ensures d c.was_read.ensures) place.action a found ∙ ap (λ k. Some (layered_kind k)) is) in
-    c.what_is_done_in_a_sight_is_meant.ensures.tests d c.was_read.ensures c.always_checked.ensures.holds e (source actions) c.are_answered.ensures x count
-    (layered graph) c.args.index known a found asked.0 asked.1
+    (kinds d (c.numbers_stand_once.ensures d c.always_read.ensures) place.action a found ∙ ap (λ k. Some (layered_kind k)) is) in
+    c.what_is_done_in_a_sight_is_meant.ensures.tests d c.always_read.ensures c.always_checked.ensures.holds e (source actions)
+    c.are_answered.ensures x count (layered graph) c.args.index known a found asked.0 asked.1
     ∙ ap (λ o. test_of d e o x c.args.index known.rows) found)
     ∙ c.what_is_done_is_the_source.ensures.test d e x c.args.index known.rows
     ∙ sym (ap (λ f. f x c.args.index known.rows) c.are_answered.ensures.answers.test))

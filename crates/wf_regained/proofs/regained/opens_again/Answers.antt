@@ -22,7 +22,7 @@ returns c x =
     let g = graph_of d in
     let r = record_tree c.args.log.now in
     let from = c.args.from.now in
-    let read = c.was_read.ensures in
+    let read = c.always_read.ensures in
     let once = c.numbers_stand_once.ensures d read in
     let same : SameSets d from (redo_any (order_in d) from) (again_any (order_in d) from) = λ y there.
     c.a_set_is_redone.ensures.as_resubmitted (length (graph_names d.top)) g (depth_of d) from (c.numbers_are_below.ensures d read) once

@@ -22,8 +22,8 @@ store_of-requires-clause-in_line c =
     let rows = rows_by d (record_tree c.args.log.now).rows in
     let chosen = is_chosen c.as_slice.result.now in
     kept_line d e rows (c.requires.shape e)
-    (λ v. c.numbered_writers_are_in_one_order.ensures.writers d c.was_read.ensures c.always_checked.ensures.holds e (source d e)
-    (c.a_definition_is_answered.ensures d c.was_read.ensures c.always_checked.ensures.holds e).answers rows c.requires.whole.instances v)
+    (λ v. c.numbered_writers_are_in_one_order.ensures.writers d c.always_read.ensures c.always_checked.ensures.holds e (source d e)
+    (c.a_definition_is_answered.ensures d c.always_read.ensures c.always_checked.ensures.holds e).answers rows c.requires.whole.instances v)
     (kept (redone (graph_of d) (depth_of d) chosen) (closed_again (graph_of d) (depth_of d) chosen)) (rows_seen c.in_ok-rows.rows.0)
     (λ x. c.in_ok-rows.ensures x)
 

@@ -30,18 +30,19 @@ regain-requires-clause-redone c =
     let d = definition c.args.runnable.now.checked.now in
     let p = c.requires.may in
     subst (λ f. MayBeRedone (graph_of d) f) (sym p.from_is)
-    (c.what_is_chosen_stands_in_no_loop.ensures d c.was_read.ensures (record_tree c.args.log.now) p.names p.may)
+    (c.what_is_chosen_stands_in_no_loop.ensures d c.always_read.ensures (record_tree c.args.log.now) p.names p.may)
 
 pub regain-requires-clause-shape : goal.regain-requires-clause-shape
 regain-requires-clause-shape c =
     let p = c.requires.may in
-    c.record_has_the_right_shape.ensures (definition c.args.runnable.now.checked.now) c.was_read.ensures (record_tree c.args.log.now) p.names
-    p.may
+    c.record_has_the_right_shape.ensures (definition c.args.runnable.now.checked.now) c.always_read.ensures (record_tree c.args.log.now)
+    p.names p.may
 
 pub regain-requires-clause-whole : goal.regain-requires-clause-whole
 regain-requires-clause-whole c =
     let p = c.requires.may in
-    c.kept_rows_are_whole.ensures (definition c.args.runnable.now.checked.now) c.was_read.ensures (record_tree c.args.log.now) p.names p.may
+    c.kept_rows_are_whole.ensures (definition c.args.runnable.now.checked.now) c.always_read.ensures (record_tree c.args.log.now)
+    p.names p.may
 
 pub resumed-requires-clause-planned : goal.resumed-requires-clause-planned
 resumed-requires-clause-planned c =
@@ -67,10 +68,10 @@ resumed-requires-clause-resumed c =
       running = λ x. refl;
       opens = c.in_ok-rows.ensures.opens;
     } in
-    let own = c.a_definition_is_an_instance.ensures d c.was_read.ensures c.always_checked.ensures.holds e in
+    let own = c.a_definition_is_an_instance.ensures d c.always_read.ensures c.always_checked.ensures.holds e in
     let old : IsOldTable (graph_of d) (sources.source d e) (redoes d from) (recloses d from) (rows_by d r.rows) (recalled d r.rows) =
     subst (λ f. IsOldTable (graph_of d) (sources.source d e) (redoes d f) (recloses d f) (rows_by d r.rows) (recalled d r.rows))
-    (sym p.from_is) (c.record_is_an_old_table.ensures d c.was_read.ensures r p.names p.may e) in
+    (sym p.from_is) (c.record_is_an_old_table.ensures d c.always_read.ensures r p.names p.may e) in
     let on : IsResumption (graph_of d) (depth_of d) (pinned_source d r i from) first =
     resumption (sources.source d e) (sources.source d e) (redoes d from) (recloses d from) (rows_by d r.rows) (recalled d r.rows) own.falls
     own.closed own.local old is in

@@ -12,4 +12,4 @@ returns-clause-exact c =
 
 pub returns-clause-each : goal.returns-clause-each
 returns-clause-each c =
-    c.a_run_costs_at_least_so_much.ensures (definition c.args.checked.now) c.was_read.ensures c.always_checked.ensures.holds
+    c.a_run_costs_at_least_so_much.ensures (definition c.args.checked.now) c.always_read.ensures c.always_checked.ensures.holds

@@ -7,7 +7,10 @@ pub invariant_of-result : goal.invariant_of-result
 invariant_of-result c =
     let d = ready_definition c.args.ready.now in
     let e : Environment = begun_with c.args.start.now c.args.inputs.now in
-    record { answered = ∣ c.a_definition_is_answered.ensures d c.was_read.ensures c.always_checked.ensures.holds e ∣₁; weighed = c.first_cost.ensures }
+    record {
+      answered = ∣ c.a_definition_is_answered.ensures d c.always_read.ensures c.always_checked.ensures.holds e ∣₁;
+      weighed = c.first_cost.ensures;
+    }
 
 pub returns : goal.returns
 returns c =
@@ -18,7 +21,7 @@ returns c =
         definition = refl;
         environment = refl;
         by_source = refl;
-        answered = c.a_definition_is_answered.ensures d c.was_read.ensures c.always_checked.ensures.holds e;
+        answered = c.a_definition_is_answered.ensures d c.always_read.ensures c.always_checked.ensures.holds e;
       };
-      instance = c.a_definition_is_an_instance.ensures d c.was_read.ensures c.always_checked.ensures.holds e;
+      instance = c.a_definition_is_an_instance.ensures d c.always_read.ensures c.always_checked.ensures.holds e;
     }

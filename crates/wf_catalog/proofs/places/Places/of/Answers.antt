@@ -1,6 +1,4 @@
 use Rattle.std.proofs.Common.{List, map, option_map, ap, ◌∙◌}
-use Rattle.std.proofs.Math.Logic.{∥∥₁_elim}
-use Rattle.std.specs.Coded.{Coded-set, coded_list, coded_ℕ}
 use Rattle.std.specs.List.{find}
 use Rattle.wf_def.specs.ActionSeen.{action_tree}
 use Rattle.wf_meant.specs.Points.{has_action_name}
@@ -30,5 +28,4 @@ invariant_of-result c =
     (ap (map (λ p. action_tree p.action.now)) c.deref.ensures.value ∙ actions_walked xs))
     (λ n. loops_by (number_in numbers) (find (is_at n) ws)
     ∙ (ap (λ (vs : List Walked). loops_or_none (loops_found n vs)) c.in_ok-actions.ensures
-    ∙ ∥∥₁_elim c.always_read.ensures (Coded-set (coded_list coded_ℕ) _ _)
-    (λ read. walk_loops n d.top (c.numbers_stand_once.ensures d read))))
+    ∙ walk_loops n d.top (c.numbers_stand_once.ensures d c.always_read.ensures)))

@@ -18,7 +18,7 @@ pub rows_of-requires : goal.rows_of-requires
 rows_of-requires c =
     let ends = c.args.self.now in
     let d = def_tree ends.checked.now.def in
-    let read = c.was_read.ensures in
+    let read = c.always_read.ensures in
     let rows : List (RowAt Row) = c.args.rows.0 in
     let names = names_ascend d.top (c.numbers_are_places.ensures d read) in
     let order = c.len-count.ensures.in_order in
@@ -36,7 +36,7 @@ returns-clause-rows c =
     ∙ ap (λ (xs : List (RowAt Row)). map (as_row (def_tree ends.places.now)) xs) c.in_ok-items.ensures
     ∙ ap (λ (q : Def). map (as_row (def_tree q)) rows) ends.placed
     ∙ rows_are d rows c.len-count.ensures.in_order
-    (c.listed_rows_stand_for_the_table.ensures d c.was_read.ensures (rows_seen rows) c.requires)
+    (c.listed_rows_stand_for_the_table.ensures d c.always_read.ensures (rows_seen rows) c.requires)
 
 pub returns-clause-cost : goal.returns-clause-cost
 returns-clause-cost c =

@@ -9,7 +9,7 @@ pub returns : goal.returns
 returns c =
     let ends = c.args.self.now in
     let d = def_tree ends.checked.now.def in
-    let read = c.was_read.ensures in
+    let read = c.always_read.ensures in
     let depths = c.actions_have_depths.ensures d read in
     c.in_ok-status.ensures
     ∙ top_status depths.0 (λ graph apart fall at known. c.steps_give_the_status.ensures graph depths.0 apart fall at known) d.top

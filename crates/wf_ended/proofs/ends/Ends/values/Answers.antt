@@ -27,7 +27,7 @@ returns c =
     c.in_ok-sight.ensures.told
     ∙ ap (λ (q : DefTree). seen_by_outputs q (run_tree c.run.result) known) (ap def_tree ends.placed)
     ∙ ap (λ (r : RunTree). seen_by_outputs d r known) c.run.ensures
-    ∙ c.outputs_see_the_last_writers.ensures d c.was_read.ensures c.always_checked.ensures.holds e c.requires.answers
+    ∙ c.outputs_see_the_last_writers.ensures d c.always_read.ensures c.always_checked.ensures.holds e c.requires.answers
     c.requires.answered known c.requires.whole c.requires.last in
     c.in_ok-values.ensures
     ∙ ap (λ (os : List Output). (members_after (output_runs (sight_told c.in_ok-sight.sight) (map output_tree os)) []

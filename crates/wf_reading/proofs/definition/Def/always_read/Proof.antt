@@ -13,10 +13,10 @@ use contract.Fact.{fact}
 use contract.Monad.{fact_mono}
 use Rattle.wf_reading.specs.Read.{IsRead}
 use Rattle.wf_reading.specs.ReadSeen.{def_tree}
-use Rattle.wf_run.proofs.opened.was_read.Statement.{statement}
-use Rattle.wf_run.proofs.opened.was_read.Lts as lts
-use Rattle.wf_run.proofs.opened.was_read.Reads as reads
-use Rattle.wf_run.proofs.opened.was_read.Tie as tie
+use Rattle.wf_reading.proofs.definition.Def.always_read.Statement.{statement}
+use Rattle.wf_reading.proofs.definition.Def.always_read.Lts as lts
+use Rattle.wf_reading.proofs.definition.Def.always_read.Reads as reads
+use Rattle.wf_reading.proofs.definition.Def.always_read.Tie as tie
 
 module _ {M : Type 1} (𝓤 : Ura M) (𝓛 : Logic {M = M} 𝓤) (𝓣 : Tables {M = M} 𝓤 𝓛.H) (y : Bound 𝓛 (sig_of 1 lts.ps lts.r) × Unit {0}) where
   abbrev at_entry : Type 1
@@ -33,6 +33,6 @@ module _ {M : Type 1} (𝓤 : Ura M) (𝓛 : Logic {M = M} 𝓤) (𝓣 : Tables 
       (fact_mono 𝓤 (Unit {0}) (IsRead (def_tree y.0.3.0.now)) (λ _. read)))
       (lts.spec (λ κs a. IsRead (def_tree a.0.now)) reads.Post (λ c. c.requires) 𝓤 𝓛 𝓣 y)
 
-pub was_read_spec : {M : Type 1} → statement M
-was_read_spec {M} =
+pub always_read_spec : {M : Type 1} → statement M
+always_read_spec {M} =
     tie.close (λ 𝓤 𝓛 𝓣 y. ∥∥₁_elim y.0.3.0.now.read (Entails-prop {M = M} 𝓤.op _ _) (opened 𝓤 𝓛 𝓣 y))
