@@ -1,11 +1,16 @@
-//! The lines of a file that is read line by line, such as a schedule or a history.
+//! The lines of a file that is read line by line, such as a schedule or a history; and the numbers in lines that are written.
 //!
 //! A line feed ends a line, and that of the last line may be left out; a file of no bytes has no lines. A carriage return at the end of a
 //! line doesn't count (`without_return`). `split_line` gives the first line as a part of the bytes, so that no line is copied.
+//!
+//! `put_number` writes a number straight behind the bytes of a line: a text of its own for each number would be an allocation more.
 #![tactic(auto)]
 
-ghost use Rattle.std.specs.Prelude.{◌≡◌, ◌≤◌, ◌<◌, ◌+◌, [], ◌∷◌, ◌++◌, drop, length};
+ghost use Rattle.std.specs.Prelude.{◌≡◌, ◌≤◌, ◌<◌, ◌+◌, [], ◌∷◌, ◌++◌, drop, length, OnOk};
 ghost use Rattle.wf_lines.specs.Lines.{line_length, lines_of, without_return};
+
+use itoa::{Buffer, Integer};
+use std::alloc::AllocError;
 
 /// The first line, and what comes behind it.
 pub fn split_line<'a>(bytes: &'a [u8]) -> (&'a [u8], &'a [u8])
@@ -62,4 +67,12 @@ fn rest_behind<'a>(bytes: &'a [u8], count: usize) -> &'a [u8]
     } else {
         &bytes[count..]
     }
+}
+
+/// Writes a number in decimal behind what there is.
+pub fn put_number<N: Integer>(bytes: &mut Vec<u8>, number: N) -> Result<(), AllocError>
+    ensures { OnOk result (bytes.new.items ≡ bytes.old.items ++ N.text number) }
+{
+    let mut buffer = Buffer::new();
+    bytes.extend_from_slice(buffer.format(number).as_bytes())
 }

@@ -3,7 +3,7 @@ ghost use Rattle.std.specs.Prelude.{◌≡◌, ◌++◌, OnOk};
 ghost use Rattle.wf_told.specs.Summary.{summary_line};
 
 use std::alloc::AllocError;
-use wf_told::add_number;
+use wf_lines::put_number;
 
 /// Writes the line on how a run went.
 #[tactic(auto, unfolding(wf_told::specs::Summary::summary_line), using(std::proofs::Common::append_assoc))]
@@ -18,9 +18,9 @@ pub(crate) fn put_summary(
     text.extend_from_slice(b"# run ")?;
     text.extend_from_slice(run.as_bytes())?;
     text.extend_from_slice(b" steps ")?;
-    add_number(text, steps)?;
+    put_number(text, steps)?;
     text.extend_from_slice(b" peak ")?;
-    add_number(text, peak)?;
+    put_number(text, peak)?;
     text.push(b'\n')?;
     Ok(())
 }

@@ -6,8 +6,8 @@ ghost use Rattle.wf_val.specs.Seen.{tree};
 ghost use Rattle.wf_val.specs.ValueTree as value;
 
 use crate::plain::is_plain;
-use itoa::Buffer;
 use std::alloc::AllocError;
+use wf_lines::put_number;
 use wf_val::{Fields, Val, Vals};
 
 /// Writes the JSON text of a value behind what there is.
@@ -82,11 +82,4 @@ pub(crate) fn put_plain(bytes: &mut Vec<u8>, text: &[u8]) -> Result<(), AllocErr
     bytes.extend_from_slice(text)?;
     bytes.push(b'"')?;
     Ok(())
-}
-
-fn put_number(bytes: &mut Vec<u8>, number: i64) -> Result<(), AllocError>
-    ensures { OnOk result (bytes.new.items ≡ bytes.old.items ++ json (value.number number)) }
-{
-    let mut buffer = Buffer::new();
-    bytes.extend_from_slice(buffer.format(number).as_bytes())
 }

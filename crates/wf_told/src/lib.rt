@@ -29,4 +29,4 @@ pub use wf_prepare::{
     kept_rows_are_whole, kept_rows_give_what_they_write, prepare, record_has_the_right_shape,
     record_is_an_old_table, what_is_chosen_stands_in_no_loop,
 };
-pub use wf_trace::{Begun, add_number};
+pub use wf_trace::Begun;

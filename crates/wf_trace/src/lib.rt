@@ -21,7 +21,7 @@ mod start;
 
 pub use end::{close_line, end_line};
 pub use laws::what_inputs_came_to_is_told;
-pub use line::{add_number, skip_line};
+pub use line::skip_line;
 pub use number::{begin_line, test_line, try_line};
 pub use open::open_line;
 pub use start::start_line;

@@ -1,10 +1,10 @@
 //! The front of a line.
-ghost use Rattle.std.specs.Prelude.{◌≡◌, ◌∷◌, ◌++◌, [], codes, decimal, flat_map, IfOk, OnOk};
+ghost use Rattle.std.specs.Prelude.{◌≡◌, ◌∷◌, ◌++◌, [], codes, flat_map, IfOk, OnOk};
 ghost use Rattle.wf_val.specs.Address.{address_text, index_text};
 ghost use Rattle.wf_trace.specs.Told.{line_at};
 
-use itoa::Buffer;
 use std::alloc::{AllocError, Global};
+use wf_lines::put_number;
 use wf_val::{Indexes, Name};
 
 // Adds a text as it is.
@@ -15,21 +15,13 @@ pub(crate) fn add(line: &mut Vec<u8>, text: &str) -> Result<(), AllocError>
     Ok(())
 }
 
-/// Adds a number in decimal.
-pub fn add_number(line: &mut Vec<u8>, number: u64) -> Result<(), AllocError>
-    ensures { OnOk result (line.new.items ≡ line.old.items ++ decimal number) }
-{
-    let mut buffer = Buffer::new();
-    add(line, buffer.format(number))
-}
-
 // Adds the numbers of iterations, each behind a slash.
 fn add_indexes(line: &mut Vec<u8>, at: &Indexes) -> Result<(), AllocError>
     ensures { OnOk result (line.new.items ≡ line.old.items ++ flat_map index_text at.now) }
 {
     for index in at.as_slice() {
         line.extend_from_slice(b"/")?;
-        add_number(line, *index)?;
+        put_number(line, *index)?;
     }
     Ok(())
 }

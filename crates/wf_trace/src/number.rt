@@ -5,8 +5,9 @@ ghost use Rattle.wf_trace.specs.Texts.{try_text, verdict_text};
 ghost use Rattle.wf_trace.specs.Told.{attempt_text, line_at, of_attempt, test_text};
 
 use crate::fault::add_fault;
-use crate::line::{add, add_number, front};
+use crate::line::{add, front};
 use std::alloc::{AllocError, Global};
+use wf_lines::put_number;
 use wf_opening::Verdict;
 use wf_record::Try;
 use wf_val::{Indexes, Name};
@@ -16,7 +17,7 @@ fn add_try(line: &mut Vec<u8>, attempt: Try) -> Result<(), AllocError>
     ensures { OnOk result (line.new.items ≡ line.old.items ++ try_text attempt) }
 {
     match attempt {
-        Try::Code(code) => add_number(line, code as u64),
+        Try::Code(code) => put_number(line, code as u64),
         Try::NoConnection => add(line, "noConnection"),
         Try::TimedOut => add(line, "timedOut"),
         Try::NoAnswer => add(line, "noAnswer"),
@@ -30,7 +31,7 @@ fn add_attempt(line: &mut Vec<u8>, number: u64, attempt: Try) -> Result<(), Allo
     ensures { OnOk result (line.new.items ≡ line.old.items ++ 32 ∷ attempt_text number attempt) }
 {
     line.push(b' ')?;
-    add_number(line, number)?;
+    put_number(line, number)?;
     line.push(b' ')?;
     add_try(line, attempt)
 }
@@ -77,7 +78,7 @@ pub fn begin_line(
 {
     let mut line = front(alloc, "Begin", name, at)?;
     line.push(b' ')?;
-    add_number(&mut line, index)?;
+    put_number(&mut line, index)?;
     Ok(line)
 }
 
@@ -102,7 +103,7 @@ fn add_test(
 ) -> Result<(), AllocError>
     ensures { OnOk result (line.new.items ≡ line.old.items ++ test_text index (verdict_tree verdict.now)) }
 {
-    add_number(line, index)?;
+    put_number(line, index)?;
     line.push(b' ')?;
     add_verdict(alloc, line, verdict)
 }

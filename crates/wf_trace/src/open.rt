@@ -8,10 +8,11 @@ ghost use Rattle.wf_trace.specs.Texts.{case_at, case_text, cases_of, open_text};
 ghost use Rattle.wf_trace.specs.Told.{line_at};
 
 use crate::fault::add_fault;
-use crate::line::{add, add_number, front};
+use crate::line::{add, front};
 use std::alloc::{AllocError, Global};
 use wf_def::{Case, Cases, Kind};
 use wf_json::quote_to;
+use wf_lines::put_number;
 use wf_opening::Decision;
 use wf_val::{EvalFault, Indexes, Name};
 
@@ -68,7 +69,7 @@ fn add_spaced_number(line: &mut Vec<u8>, number: u64) -> Result<(), AllocError>
     ensures { OnOk result (line.new.items ≡ line.old.items ++ 32 ∷ decimal number) }
 {
     line.push(b' ')?;
-    add_number(line, number)
+    put_number(line, number)
 }
 
 #[tactic(auto, using(std::proofs::Common::append_assoc))]
