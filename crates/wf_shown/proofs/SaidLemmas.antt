@@ -12,13 +12,14 @@ use Rattle.wf_json.specs.Json.{json}
 use Rattle.wf_record.specs.Record.{RowTree, status_name}
 use Rattle.wf_record.specs.declared.attempt.Try.{Try}
 use Rattle.wf_record.specs.declared.status.Status.{Status}
+use Rattle.wf_val.specs.Address.{indexes_text}
 use Rattle.wf_val.specs.ValueTree.{ValueTree, null}
 use Rattle.wf_shown.specs.Changes.{attempts_text, change_mark, change_of}
 use Rattle.wf_shown.specs.Counts.{count_of, counts, has_status}
 use Rattle.wf_shown.specs.Facts.{fact, fact_of_members, fact_text, is_bare}
 use Rattle.wf_shown.specs.Looks.{look_of, mark}
 use Rattle.wf_shown.specs.Once.{places}
-use Rattle.wf_shown.specs.Rows.{all_counted, all_shown, attempts_fact, most_shown, place_text, row_facts, row_head, row_pieces}
+use Rattle.wf_shown.specs.Rows.{all_counted, all_shown, attempts_fact, most_shown, row_facts, row_head, row_pieces}
 use Rattle.wf_shown.specs.Rows.{rows_pieces, several, several_head}
 use Rattle.wf_shown.specs.declared.change.Change.{Change}
 
@@ -82,7 +83,7 @@ counts_say is only rs =
 
 -- where a row stands
 abbrev pub place_in : (Tag → Bool) → RowTree → Texts
-place_in is r = cond (is Tag.Place) (place_text r.address.at ∷ []) []
+place_in is r = cond (is Tag.Place) (indexes_text r.address.at ∷ []) []
 
 -- what is said first stands alone
 first_alone : (is : Tag → Bool) (ps : List Piece) (a : Texts) → Says is ps (a ++ []) → Says is ps a
@@ -92,7 +93,7 @@ head_says : (is : Tag → Bool) → OnlyHeads is → (c : Option Change) (r : Ro
 head_says is only c r =
     first_alone is _ (place_in is r) (
     opens is Tag.Summary _ _ (only Tag.Summary refl) (
-    ends_after is Tag.Summary _ _ [] (place_in is r) [] (says_text is Tag.Place (place_text r.address.at)) (
+    ends_after is Tag.Summary _ _ [] (place_in is r) [] (says_text is Tag.Place (indexes_text r.address.at)) (
     ends_after is Tag.Summary _ _ [] [] [] (mark_says is only r.row.status (status_name r.row.status)) (
     ends_after is Tag.Summary (said (codes " ") ∷ with_text Tag.Code r.row.code) _ [] [] []
     (says_said is _ _ [] (says_quietly is Tag.Code r.row.code (only Tag.Code refl))) (
@@ -173,7 +174,7 @@ only_names t other = refl
 
 pub each_place : (rs : List RowTree) → flat_map (place_in is_place) rs ≡ places rs
 each_place [] = refl
-each_place (r ∷ rs) = ap (λ x. place_text r.address.at ∷ x) (each_place rs)
+each_place (r ∷ rs) = ap (λ x. indexes_text r.address.at ∷ x) (each_place rs)
 
 pub no_place : (rs : List RowTree) → flat_map (place_in is_name) rs ≡ []
 no_place [] = refl

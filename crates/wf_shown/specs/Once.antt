@@ -3,12 +3,13 @@ use Rattle.std.specs.Prelude.{ℕ, ◌+◌, List, count_by, length, map}
 use Rattle.std.specs.List.{sum_by}
 use Rattle.wf_record.specs.Record.{RowTree}
 use Rattle.wf_record.specs.declared.status.Status.{Status}
+use Rattle.wf_val.specs.Address.{indexes_text}
 use Rattle.wf_shown.specs.Counts.{has_status}
-use Rattle.wf_shown.specs.Rows.{is_of, place_text, rows_of}
+use Rattle.wf_shown.specs.Rows.{is_of, rows_of}
 
 -- where rows stand, in words
 abbrev pub places : List RowTree → List (List ℕ)
-places rs = map (λ r. place_text r.address.at) rs
+places rs = map (λ r. indexes_text r.address.at) rs
 
 -- how many rows are counted, whatever status they have
 abbrev pub counted_in_all : List RowTree → ℕ

@@ -7,7 +7,7 @@ use Rattle.wf_html.specs.declared.tag.Look.{Look}
 use Rattle.wf_html.specs.declared.tag.Tag.{Tag}
 use Rattle.wf_record.specs.Record.{RowTree, status_name}
 use Rattle.wf_record.specs.declared.attempt.Try.{Try}
-use Rattle.wf_val.specs.Address.{index_text}
+use Rattle.wf_val.specs.Address.{indexes_text}
 use Rattle.wf_val.specs.NameOrder.{bytes_cmp}
 use Rattle.wf_shown.specs.Changes.{attempts_text, change_mark, change_of}
 use Rattle.wf_shown.specs.Counts.{counts}
@@ -30,14 +30,10 @@ abbrev pub attempts_fact : List Try → List Piece
 attempts_fact [] = []
 attempts_fact (t ∷ ts) = fact_text (codes "attempts") (attempts_text (t ∷ ts))
 
--- the numbers of the iterations that a row is of, each behind a slash
-abbrev pub place_text : List ℕ → List ℕ
-place_text at' = flat_map index_text at'
-
--- what is seen of a row while it is folded
+-- what is seen of a row while it is folded: of its address the numbers alone, as it stands below its action's name
 abbrev pub row_head : Option Change → RowTree → List Piece
 row_head c r =
-    opened Tag.Summary ∷ with_text Tag.Place (place_text r.address.at) ++ (mark r.row.status (status_name r.row.status)
+    opened Tag.Summary ∷ with_text Tag.Place (indexes_text r.address.at) ++ (mark r.row.status (status_name r.row.status)
     ++ (said (codes " ") ∷ with_text Tag.Code r.row.code ++ (change_mark c ++ closed Tag.Summary ∷ [])))
 
 -- and what is behind that

@@ -1,8 +1,9 @@
 //! One row.
-ghost use Rattle.std.specs.Prelude.{◌≡◌, ◌++◌, IfOk, string_bytes};
+ghost use Rattle.std.specs.Prelude.{◌≡◌, IfOk, string_bytes};
 ghost use Rattle.wf_html.specs.Html.{written};
 ghost use Rattle.wf_record.specs.Seen.{row_tree};
-ghost use Rattle.wf_shown.specs.Rows.{attempts_fact, place_text, row_facts, row_head, row_pieces};
+ghost use Rattle.wf_val.specs.Address.{indexes_text};
+ghost use Rattle.wf_shown.specs.Rows.{attempts_fact, row_facts, row_head, row_pieces};
 
 use crate::attempts::attempts_text;
 use crate::change::{Change, change_mark};
@@ -11,17 +12,14 @@ use crate::look::mark;
 use std::alloc::{AllocError, Global};
 use wf_html::{Tag, close, open, say, say_in};
 use wf_record::{Row, Tries};
-use wf_val::Indexes;
+use wf_val::{Indexes, push_indexes};
 
 // The numbers of the iterations that a row is of.
-#[tactic(auto, using(std::proofs::Common::append_assoc))]
-fn place_text(alloc: Global, at: &Indexes) -> Result<String, AllocError>
-    ensures { IfOk result (λ text. string_bytes text ≡ place_text at.now) }
+fn indexes_text(alloc: Global, at: &Indexes) -> Result<String, AllocError>
+    ensures { IfOk result (λ text. string_bytes text ≡ indexes_text at.now) }
 {
     let mut text = String::new(alloc);
-    for index in at.as_slice() {
-        write!(text, "/{index}")?;
-    }
+    push_indexes(&mut text, at.as_slice())?;
     Ok(text)
 }
 
@@ -47,7 +45,7 @@ fn row_head(
 ) -> Result<Vec<u8>, AllocError>
     ensures { IfOk result (λ b. b.items ≡ written bytes.items (row_head change (row_tree row.now))) }
 {
-    let place = place_text(alloc, &row.address.at)?;
+    let place = indexes_text(alloc, &row.address.at)?;
     let bytes = open(bytes, Tag::Summary)?;
     let bytes = say_in(bytes, Tag::Place, place.as_str())?;
     let bytes = mark(bytes, row.status, row.status.name())?;

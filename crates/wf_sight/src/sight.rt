@@ -19,10 +19,10 @@ use std::alloc::{AllocError, Global};
 use wf_fn_time::Ticks;
 use wf_lists::TryCopy;
 use wf_record::{Row, Status};
-use wf_val::{Address, Indexes, Name, Text, Val};
+use wf_val::{Indexes, Name, Text, Val, address_text};
 use wf_views::{
-    Decision, Instance, Known, Look, Places, Rows, Start, Store, Verdict, indexes, indexes_then,
-    name_of, result_from, row_of, value_given, view_from, word_of,
+    Decision, Instance, Known, Look, Places, Rows, Start, Store, Verdict, indexes_then, name_of,
+    result_from, row_of, value_given, view_from, word_of,
 };
 
 /// What a run goes by: how it was started, and what the action is told of the run itself. Where a part of a run is done anew, its actions
@@ -65,14 +65,10 @@ fn place_text(
     ensures { IfOk result (λ t. t ≡ address_text (instance (def_tree places.now) (address action at.now))) }
 {
     let name = match places.action(action) {
-        Some(action) => name_of(action).copy(alloc)?,
-        None => Text::of(alloc, "")?,
+        Some(action) => name_of(action).as_str(),
+        None => "",
     };
-    let address = Address {
-        name,
-        at: indexes(alloc, at)?,
-    };
-    address.text(alloc)
+    address_text(alloc, name, at)
 }
 
 // The value that a row gives a variable.

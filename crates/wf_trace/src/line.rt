@@ -1,28 +1,16 @@
 //! The front of a line.
-ghost use Rattle.std.specs.Prelude.{◌≡◌, ◌∷◌, ◌++◌, [], codes, flat_map, IfOk, OnOk};
-ghost use Rattle.wf_val.specs.Address.{address_text, index_text};
+ghost use Rattle.std.specs.Prelude.{◌≡◌, ◌∷◌, ◌++◌, [], codes, IfOk, OnOk};
+ghost use Rattle.wf_val.specs.Address.{address_text};
 ghost use Rattle.wf_trace.specs.Told.{line_at};
 
 use std::alloc::{AllocError, Global};
-use wf_lines::put_number;
-use wf_val::{Indexes, Name};
+use wf_val::{Indexes, Name, push_indexes};
 
 // Adds a text as it is.
 pub(crate) fn add(line: &mut Vec<u8>, text: &str) -> Result<(), AllocError>
     ensures { OnOk result (line.new.items ≡ line.old.items ++ text.now) }
 {
     line.extend_from_slice(text.as_bytes())?;
-    Ok(())
-}
-
-// Adds the numbers of iterations, each behind a slash.
-fn add_indexes(line: &mut Vec<u8>, at: &Indexes) -> Result<(), AllocError>
-    ensures { OnOk result (line.new.items ≡ line.old.items ++ flat_map index_text at.now) }
-{
-    for index in at.as_slice() {
-        line.extend_from_slice(b"/")?;
-        put_number(line, *index)?;
-    }
     Ok(())
 }
 
@@ -37,12 +25,12 @@ pub(crate) fn front(
     ensures { IfOk result (λ line. line.items ≡ kind.now ++ 32 ∷ address_text (record { name = name.now; at = at.now })) }
 {
     // Most lines are shorter.
-    let mut line = Vec::with_capacity(alloc, 64)?;
-    line.extend_from_slice(kind.as_bytes())?;
-    line.push(b' ')?;
-    line.extend_from_slice(name.as_str().as_bytes())?;
-    add_indexes(&mut line, at)?;
-    Ok(line)
+    let mut line = String::with_capacity(alloc, 64)?;
+    line.push_str(kind)?;
+    line.push_str(" ")?;
+    line.push_str(name.as_str())?;
+    push_indexes(&mut line, at.as_slice())?;
+    Ok(line.into_bytes())
 }
 
 /// An action was passed over.
