@@ -4,6 +4,7 @@ ghost use Rattle.wf_trigger.specs.Starts.{numbered, start_of_item, start_whole, 
 ghost use Rattle.wf_trigger.specs.StartsSeen.{shared_of, start_tree, starts_seen};
 ghost use Rattle.wf_val.specs.Seen.{tree};
 
+use itoa::Buffer;
 use std::alloc::{AllocError, Global};
 use wf_val::{Fields, Name, Text, Val, Vals};
 
@@ -115,7 +116,10 @@ fn with_body(alloc: Global, outputs: &Val, item: &Val) -> Result<Val, AllocError
 fn numbered(alloc: Global, text: &str, k: u64) -> Result<Text, AllocError>
     ensures { IfOk result (λ t. t ≡ numbered text.now k) }
 {
+    let mut buffer = Buffer::new();
     let mut numbered = String::with_capacity(alloc, text.len().saturating_add(21))?;
-    write!(numbered, "{text}-{k}")?;
+    numbered.push_str(text)?;
+    numbered.push('-')?;
+    numbered.push_str(buffer.format(k))?;
     Ok(Text::from_string(numbered))
 }
