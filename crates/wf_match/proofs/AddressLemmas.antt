@@ -3,13 +3,13 @@ use Rattle.std.proofs.Common.{◌≡◌, ℕ, List, [], ◌∷◌, ◌++◌, map
 use Rattle.std.specs.Prelude.{codes, decimal}
 use Rattle.wf_json.specs.Json.{text as text_of}
 use Rattle.wf_match.specs.Rows.{address_of}
-use Rattle.wf_val.specs.Address.{address_text, index_text}
+use Rattle.wf_val.specs.Address.{address_text, indexes_text}
 use Rattle.wf_val.specs.Get.{get}
 use Rattle.wf_val.specs.ValueTree.{ValueTree, list, number, text, trees, items}
 use Rattle.wf_val.specs.declared.address.Address.{Address}
 
 numbers_written : (at' : List ℕ)
-    → flat_map (λ n. 47 ∷ text_of n) (items (trees (map (λ n. number (pos n)) at'))) ≡ flat_map index_text at'
+    → flat_map (λ n. 47 ∷ text_of n) (items (trees (map (λ n. number (pos n)) at'))) ≡ indexes_text at'
 numbers_written [] = refl
 numbers_written (n ∷ at') = ap (λ s. (47 ∷ decimal n) ++ s) (numbers_written at')
 
