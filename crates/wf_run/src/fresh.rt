@@ -8,8 +8,8 @@ ghost use Rattle.wf_runnable.specs.Runnable.{IsEnded, meant_record, record_left}
 
 use crate::cost::cost_within;
 use crate::driven::driven;
+use crate::ended::Ended;
 use crate::made::Made;
-use crate::run::Ended;
 use std::alloc::Global;
 use wf_answers::Inputs;
 use wf_drive::DriveFault;

@@ -19,13 +19,13 @@
 mod again;
 mod cost;
 mod driven;
+mod ended;
 mod fresh;
 mod least;
 mod made;
-mod run;
 
 pub use again::resubmit;
+pub use ended::Ended;
 pub use fresh::run;
 pub use least::cost_too_much;
-pub use run::Ended;
 pub use wf_runnable::{Checked, Ends, Ready, Runnable};
