@@ -1,4 +1,3 @@
 mod ClosingRows
 pub mod CloseLemmas
-pub mod InsideLemmas
 pub mod JudgedLemmas

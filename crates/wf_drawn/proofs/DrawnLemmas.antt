@@ -1,7 +1,7 @@
 -- A further level behind those that are drawn.
 use Rattle.std.proofs.Common.{◌≡◌, ℕ, suc, ◌+◌, Bool, true, nat_eq, cond, List, [], ◌∷◌, ◌++◌, Option, None, Some, option_map, Bor, refl, sym, ap, ◌∙◌, add-one}
 use Rattle.std.proofs.lemmas.Bool.{eq-eqb}
-use Rattle.wf_def.specs.ActionTree.{ActionTree, action, actions_in, action_trees, ActionTrees, KindTree}
+use Rattle.wf_def.specs.ActionTree.{action, ActionTrees, KindTree}
 use Rattle.wf_def.specs.declared.after.After.{After}
 use Rattle.wf_html.proofs.PieceLemmas.{written_append}
 use Rattle.wf_html.specs.Html.{Piece, opened, closed, with_text, written}
@@ -43,11 +43,6 @@ step b b1 ps rest e = written_append b ps rest ∙ ap (λ x. written x rest) (sy
 pub step_inside : (b b1 b2 : List ℕ) (t : Tag) (ps : List Piece) → b1 ≡ written b (opened t ∷ []) → b2 ≡ written b1 ps
     → written b (inside t ps) ≡ written b2 (closed t ∷ [])
 step_inside b b1 b2 t ps e1 e2 = step b b1 (opened t ∷ []) (ps ++ closed t ∷ []) e1 ∙ step b1 b2 ps (closed t ∷ []) e2
-
--- the actions of a graph are those that it was made of
-pub actions_in_trees : (as' : List ActionTree) → actions_in (action_trees as') ≡ as'
-actions_in_trees [] = refl
-actions_in_trees (a ∷ as') = ap (λ xs. a ∷ xs) (actions_in_trees as')
 
 pub two_inside : (b b1 b2 b3 : List ℕ) (t : Tag) (ps qs : List Piece) → b1 ≡ written b (opened t ∷ []) → b2 ≡ written b1 ps
     → b3 ≡ written b2 qs → written b (inside t (ps ++ qs)) ≡ written b3 (closed t ∷ [])

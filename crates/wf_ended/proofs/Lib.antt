@@ -1,4 +1,3 @@
-pub use Rattle.wf_closing.proofs.InsideLemmas
 pub mod ListedLemmas
 pub mod TableLemmas
 pub mod NameLemmas

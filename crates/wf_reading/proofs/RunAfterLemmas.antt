@@ -19,7 +19,8 @@ use Rattle.wf_form.specs.Whole.{Whole, whole_of}
 use Rattle.wf_form.specs.declared.role.Role.{Role}
 use Rattle.wf_form.specs.declared.role.Holder.{Holder}
 use Rattle.wf_form.specs.declared.rule.Rule.{Rule}
-use Rattle.wf_def.specs.ActionTree.{ActionTree, action_after, action_name, no_actions, action_trees, actions_in}
+use Rattle.wf_def.proofs.ListLemmas.{actions_in_trees}
+use Rattle.wf_def.specs.ActionTree.{ActionTree, action_after, action_name, no_actions}
 use Rattle.wf_reading.specs.Afters.{after_of, entries}
 use Rattle.wf_reading.specs.Graphs.{actions_of, graph_of}
 use Rattle.wf_reading.specs.Meant.{top_at}
@@ -109,16 +110,12 @@ module _ (number_of : List ℕ → ℕ) (prefix : List ℕ) where
     actions-read whole ms all.1,
   )
 
-  actions-back : (as' : List ActionTree) → actions_in (action_trees as') ≡ as'
-  actions-back [] = refl
-  actions-back (a ∷ as') = ap (λ (xs : List ActionTree). a ∷ xs) (actions-back as')
-
   -- a graph whose actions don't offend has depths
   pub graph-depths : (exact : PathsAreExact) (ms : MemberTrees) → IsInNameOrder name_of (pairs ms) → bad_run_after (pairs ms) ≡ [] → HasDepths (graph_of number_of prefix (object ms))
   graph-depths exact ms order fine = record {
     depth = depth_of (pairs ms);
     falls = subst (λ (xs : List ActionTree). AllByRecursion (λ a. AllByRecursion (λ e. (is_named e.name xs ≡ true) × (depth_of (pairs ms) e.name < depth_of (pairs ms) (action_name a))) (action_after a)) xs)
-        (sym (actions-back (actions_of number_of prefix ms))) (actions-read ms ms (all-fall exact (pairs ms) order fine));
+        (sym (actions_in_trees (actions_of number_of prefix ms))) (actions-read ms ms (all-fall exact (pairs ms) order fine));
   }
 
 no_depths : HasDepths no_actions

@@ -1,12 +1,13 @@
 -- The actions at the top of a definition stand in the order of their names, as the members do that they were read from.
-use Rattle.std.proofs.Common.{◌≡◌, ℕ, List, [], ◌∷◌, Option, Some, None, Less, refl, sym, ap, subst}
+use Rattle.std.proofs.Common.{◌≡◌, ℕ, List, [], ◌∷◌, Option, Some, None, Less, refl, sym, subst}
 use Rattle.std.specs.Prelude.{codes}
 use Rattle.std.specs.List.{AllByRecursion}
 use Rattle.wf_val.specs.Get.{get, name_of, value_of}
 use Rattle.wf_val.specs.NameOrder.{bytes_cmp, IsInNameOrder}
 use Rattle.wf_val.specs.ValueTree.{ValueTree, null, boolean, number, text, list, object, MemberTrees, no_members, member_then, pairs}
 use Rattle.wf_val.specs.WellFormed.{IsWellFormed, AllMembersWellFormed}
-use Rattle.wf_def.specs.ActionTree.{ActionTree, action_name, action_trees, actions_in}
+use Rattle.wf_def.proofs.ListLemmas.{actions_in_trees}
+use Rattle.wf_def.specs.ActionTree.{action_name, actions_in}
 use Rattle.wf_reading.specs.Graphs.{actions_of, graph_of}
 use Rattle.wf_reading.specs.Meant.{top_at}
 use Rattle.wf_reading.proofs.RunAfterLemmas.{value-well_formed}
@@ -22,10 +23,6 @@ module _ (number_of : List ℕ → ℕ) where
   order-read prefix no_members order = tt
   order-read prefix (member_then k t ms) order = (above-read prefix k ms order.0, order-read prefix ms order.1)
 
-  actions-back : (as' : List ActionTree) → actions_in (action_trees as') ≡ as'
-  actions-back [] = refl
-  actions-back (a ∷ as') = ap (λ (xs : List ActionTree). a ∷ xs) (actions-back as')
-
   graph-order : (prefix : List ℕ) (t : ValueTree) → IsWellFormed t → IsInNameOrder action_name (actions_in (graph_of number_of prefix t))
   graph-order prefix null w = tt
   graph-order prefix (boolean b) w = tt
@@ -33,7 +30,7 @@ module _ (number_of : List ℕ → ℕ) where
   graph-order prefix (text s) w = tt
   graph-order prefix (list ts) w = tt
   graph-order prefix (object ms) w =
-      subst (IsInNameOrder action_name) (sym (actions-back (actions_of number_of prefix ms))) (order-read prefix ms w.0)
+      subst (IsInNameOrder action_name) (sym (actions_in_trees (actions_of number_of prefix ms))) (order-read prefix ms w.0)
 
   found-order : (ms : MemberTrees) → AllMembersWellFormed ms → (o : Option ValueTree) → value_of (codes "actions") (pairs ms) ≡ o
       → IsInNameOrder action_name (actions_in (top_at number_of o))

@@ -1,2 +1,1 @@
-pub use Rattle.wf_ended.proofs.InsideLemmas
 pub mod EndedLemmas

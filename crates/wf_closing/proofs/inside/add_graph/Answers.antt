@@ -4,7 +4,7 @@ use Rattle.wf_def.specs.ActionSeen.{graph_tree}
 use Rattle.wf_def.specs.ActionTree.{actions_in}
 use Rattle.wf_closing.specs.Steps.{JudgedTree, judged_of}
 use Rattle.wf_closing.specs.StepsSeen.{judged_tree}
-use Rattle.wf_closing.proofs.InsideLemmas.{tops_listed}
+use Rattle.wf_def.proofs.ListLemmas.{tops_listed}
 use Rattle.wf_closing.proofs.inside.add_graph.Goals as goal
 
 pub returns : goal.returns

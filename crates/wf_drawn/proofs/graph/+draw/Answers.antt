@@ -12,7 +12,8 @@ use Rattle.wf_html.specs.Html.{Piece, opened, closed, written}
 use Rattle.wf_html.specs.declared.tag.Tag.{Tag}
 use Rattle.wf_record.specs.Seen.{row_tree}
 use Rattle.wf_val.specs.Seen.{tree}
-use Rattle.wf_drawn.proofs.DrawnLemmas.{actions_in_trees, drawn_action, level_more, step, step_inside, two_inside}
+use Rattle.wf_def.proofs.ListLemmas.{actions_in_trees}
+use Rattle.wf_drawn.proofs.DrawnLemmas.{drawn_action, level_more, step, step_inside, two_inside}
 use Rattle.wf_drawn.proofs.KindLemmas.{action_tree-is, foreach_seen, if_seen, scope_seen, switch_else_seen, switch_seen}
 use Rattle.wf_drawn.specs.Levels.{depth, level_at}
 use Rattle.wf_drawn.specs.Drawn.{case_word, cases_pieces, each_level, graph_pieces, held, in_levels, kind_pieces, level_piece, level_pieces}

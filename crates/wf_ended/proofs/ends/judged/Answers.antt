@@ -1,6 +1,6 @@
 use Rattle.std.proofs.Common.{ap, sym, ◌∙◌}
 use Rattle.wf_closing.specs.Steps.{judged_of}
-use Rattle.wf_closing.proofs.InsideLemmas.{tops_listed}
+use Rattle.wf_def.proofs.ListLemmas.{tops_listed}
 use Rattle.wf_ended.proofs.ends.judged.Goals as goal
 
 pub returns : goal.returns

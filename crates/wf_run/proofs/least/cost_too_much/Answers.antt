@@ -1,5 +1,5 @@
 use Rattle.std.proofs.Common.{ℕ, ◌+◌, ◌*◌, ◌∙◌, ap, sym, length, nat_lt}
-use Rattle.wf_runnable.proofs.InsideLemmas.{tops_listed}
+use Rattle.wf_def.proofs.ListLemmas.{tops_listed}
 use Rattle.wf_runnable.specs.Runnable.{definition}
 use Rattle.wf_run.proofs.LeastLemmas.{in_pieces}
 use Rattle.wf_run.proofs.least.cost_too_much.Goals as goal
