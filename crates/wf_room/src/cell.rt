@@ -49,6 +49,15 @@ impl<T> Cell<T> {
         Box::replace(&mut self.content, content)
     }
 
+    /// Puts an item in the place of what is held, which is dropped. It moves the item alone.
+    pub(crate) fn fill(&mut self, item: T)
+    where
+        T: Drop,
+        ensures { self.new ≡ Some item }
+    {
+        *self.content = Some(item);
+    }
+
     /// What is held; the cell is given up.
     pub(crate) fn into_content(self) -> Option<T>
         ensures { result ≡ self }

@@ -71,6 +71,17 @@ impl<T> Cells<T> {
         self.chunks[chunk].replace(inside, content)
     }
 
+    /// Puts an item into the cell at a place; what stood there is dropped.
+    pub(crate) fn fill(&mut self, place: usize, item: T)
+    where
+        T: Drop,
+        requires { place < length self.old }
+        ensures { self.new ≡ slice_set self.old place (Some item) }
+    {
+        let (chunk, inside) = spot(place);
+        self.chunks[chunk].fill(inside, item);
+    }
+
     /// Adds an empty cell behind the others.
     pub(crate) fn add(&mut self) -> Result<(), AllocError>
     where

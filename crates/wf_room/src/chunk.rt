@@ -60,6 +60,17 @@ impl<T> Chunk<T> {
         self.cells[place].replace(content)
     }
 
+    /// Puts an item into the cell at a place; what stood there is dropped.
+    pub(crate) fn fill(&mut self, place: usize, item: T)
+    where
+        T: Drop,
+        requires { place < length self.old.0 }
+        ensures cells { self.new.0 ≡ slice_set self.old.0 place (Some item) }
+        ensures room { self.new.1 ≡ self.old.1 }
+    {
+        self.cells[place].fill(item);
+    }
+
     /// Adds an empty cell behind the others.
     pub(crate) fn add(&mut self, alloc: Global) -> Result<(), AllocError>
     where

@@ -80,7 +80,7 @@ impl<T> Still<T> {
         ensures items { self.new.0 ≡ insert self.old.0 place item }
         ensures room { self.old.1 ≡ self.new.1 + 1 }
     {
-        let _ = self.cells.replace(self.count, Some(item));
+        self.cells.fill(self.count, item);
         self.cells.shift(self.count, place);
         let _cells = self.cells.len();
         self.count += 1;
