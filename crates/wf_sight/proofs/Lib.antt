@@ -5,4 +5,5 @@ pub mod ItemLemmas
 pub mod TellLemmas
 pub mod ToldLemmas
 pub mod FoundLemmas
+mod PlaceLemmas
 mod SightRows

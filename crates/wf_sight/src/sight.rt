@@ -11,7 +11,7 @@ ghost use Rattle.wf_views.specs.MeantVariables.{given_by};
 ghost use Rattle.wf_views.specs.Seen.{row_content, rows_seen};
 ghost use Rattle.wf_sight.specs.Seen.{known_tree};
 ghost use Rattle.wf_sight.specs.Sight.{seen_at, seen_by_outputs, seen_from, seen_in_test};
-ghost use Rattle.wf_sight.specs.SightSeen.{run_tree, sight_drawn, sight_told};
+ghost use Rattle.wf_sight.specs.SightSeen.{place_tree, run_tree, sight_drawn, sight_told};
 ghost use Rattle.wf_sight.specs.Variables.{variable_in};
 
 use crate::items::{Held, index_of, item_of, items_of, nearest};
@@ -35,6 +35,13 @@ pub struct Run<'a> {
     pub moment: Ticks,
 }
 
+// The text of an instance: outside of loops it is the action's name, which isn't copied.
+#[derive(Drop)]
+enum PlaceText<'a> {
+    Name(&'a Name),
+    Made(Text),
+}
+
 /// What is seen at a point.
 #[derive(Drop)]
 pub struct Sight<'a> {
@@ -51,24 +58,42 @@ pub struct Sight<'a> {
     // their items
     items: Vec<Held<'a>>,
     // of which words are made
-    place: Text,
+    place: PlaceText<'a>,
     drawn: u64,
 }
 
-// The text of an instance.
-fn place_text(
+fn place_text<'a>(
     alloc: Global,
-    places: &Places<'_>,
+    places: &'a Places<'a>,
     action: u32,
     at: &[u64],
-) -> Result<Text, AllocError>
-    ensures { IfOk result (λ t. t ≡ address_text (instance (def_tree places.now) (address action at.now))) }
+) -> Result<PlaceText<'a>, AllocError>
+    ensures { IfOk result (λ t. place_tree t ≡ address_text (instance (def_tree places.now) (address action at.now))) }
 {
-    let name = match places.action(action) {
-        Some(action) => name_of(action).as_str(),
-        None => "",
-    };
-    address_text(alloc, name, at)
+    match places.action(action) {
+        Some(action) => named_text(alloc, name_of(action), at),
+        None => Ok(PlaceText::Made(address_text(alloc, "", at)?)),
+    }
+}
+
+#[tactic(auto, using(crate::proofs::PlaceLemmas::outside_of_loops))]
+fn named_text<'a>(alloc: Global, name: &'a Name, at: &[u64]) -> Result<PlaceText<'a>, AllocError>
+    ensures { IfOk result (λ t. place_tree t ≡ address_text (record { name = name.now; at = at.now })) }
+{
+    if at.is_empty() {
+        Ok(PlaceText::Name(name))
+    } else {
+        Ok(PlaceText::Made(address_text(alloc, name.as_str(), at)?))
+    }
+}
+
+fn text_in<'p>(place: &'p PlaceText<'_>) -> &'p Text
+    ensures { result.now ≡ place_tree place.now }
+{
+    match place {
+        PlaceText::Name(name) => name,
+        PlaceText::Made(text) => text,
+    }
 }
 
 // The value that a row gives a variable.
@@ -109,13 +134,13 @@ impl<'a> Sight<'a> {
         alloc: Global,
         places: &'a Places<'a>,
         run: &Run<'a>,
-        place: Text,
+        place: PlaceText<'a>,
         loops: Vec<u32>,
         at: Indexes,
         known: Known<'a, Row, Decision, Verdict>,
     ) -> Result<Sight<'a>, AllocError>
-        ensures told { IfOk result (λ s. sight_told s ≡ seen_from (def_tree places.now) (run_tree run.now) place loops.items at
-            (known_tree known.entry.rows.now.0 known.entry.opens.now.0 known.entry.store.now.0)) }
+        ensures told { IfOk result (λ s. sight_told s ≡ seen_from (def_tree places.now) (run_tree run.now) (place_tree place.entry)
+            loops.items at (known_tree known.entry.rows.now.0 known.entry.opens.now.0 known.entry.store.now.0)) }
         ensures drawn { IfOk result (λ s. sight_drawn s ≡ 0) }
     {
         let items = items_of(alloc, places, known.opens, &loops, at.as_slice())?;
@@ -184,7 +209,7 @@ impl<'a> Sight<'a> {
             (known_tree known.entry.rows.now.0 known.entry.opens.now.0 known.entry.store.now.0)) }
         ensures drawn { IfOk result (λ s. sight_drawn s ≡ 0) }
     {
-        let text = Text::of(alloc, "@outputs")?;
+        let text = PlaceText::Made(Text::of(alloc, "@outputs")?);
         Sight::from(
             alloc,
             places,
@@ -263,7 +288,7 @@ impl<'a> Look for Sight<'a> {
     }
 
     fn word(&mut self) -> [u8; 32] {
-        let word = word_of(self.seed, &self.place, self.drawn);
+        let word = word_of(self.seed, text_in(&self.place), self.drawn);
         self.drawn = self.drawn.saturating_add(1);
         word
     }
