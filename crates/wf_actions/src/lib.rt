@@ -25,4 +25,4 @@ mod tells;
 pub use actions::{Actions, Ready};
 pub use laws::runs_cost_no_more_than_their_records;
 pub use wf_catalog::{Places, a_record_is_of_the_table, name_of};
-pub use wf_paying::{Making, Rest};
+pub use wf_paying::{Making, Rest, Spare};

@@ -16,11 +16,9 @@ use crate::machine::Machine;
 use std::alloc::{AllocError, Global};
 use wf_val::Schedule;
 
-/// How a run went: what has made it, how many events it had, how many leaves were running at a time at most, and its lines where they
-/// are kept.
+/// How a run went: how many events it had, how many leaves were running at a time at most, and its lines where they are kept.
 #[derive(Drop)]
-pub struct Driven<M: Drop> {
-    pub machine: M,
+pub struct Driven {
     pub steps: u64,
     pub peak: u64,
     pub trace: Vec<u8>,
@@ -95,43 +93,39 @@ fn note<M: Machine>(
 }
 
 /// Runs on until nothing may happen any more, where other runs have cost `spent`, and keeps the lines where they are asked for. A run costs
-/// what the rows cost that its definition means, whatever the schedule; where that is too much with what others cost, none is given.
-pub fn drive<M: Machine + Drop>(
+/// what the rows cost that its definition means, whatever the schedule; where that is too much with what others cost, it is left on its
+/// way.
+pub fn drive<M: Machine>(
     alloc: Global,
-    machine: M,
+    machine: &mut M,
     schedule: &Schedule,
     spent: u64,
     traced: bool,
-) -> Result<Driven<M>, DriveFault>
-    requires first { IsFirst (M.graph (M.origin machine)) (M.source (M.origin machine)) (M.depth (M.origin machine)) (M.state machine) }
+) -> Result<Driven, DriveFault>
+    requires first { IsFirst (M.graph (M.origin machine.old)) (M.source (M.origin machine.old)) (M.depth (M.origin machine.old))
+        (M.state machine.old) }
     requires spent { spent ≤ most_cost }
-    ensures driven { IfOk result (λ r. IsDriven (M.graph (M.origin machine)) (M.source (M.origin machine))
-        (M.told (M.origin machine)) schedule.now (M.state machine) (M.state r.machine) r.steps r.peak traced r.trace.items) }
-    ensures same { IfOk result (λ r. M.origin r.machine ≡ M.origin machine) }
-    ensures few { IfOk result (λ r. 64 + 32 * r.steps ≤ M.meant_cost (M.origin machine)) }
-    ensures small { IfOk result (λ r. spent + M.meant_cost (M.origin machine) ≤ most_cost) }
-    ensures large { IfErr result (λ f. f ≢ DriveFault.Memory → most_cost < spent + M.meant_cost (M.origin machine)) }
+    ensures driven { IfOk result (λ r. IsDriven (M.graph (M.origin machine.old)) (M.source (M.origin machine.old))
+        (M.told (M.origin machine.old)) schedule.now (M.state machine.old) (M.state machine.new) r.steps r.peak traced r.trace.items) }
+    ensures same { OnOk result (M.origin machine.new ≡ M.origin machine.old) }
+    ensures few { IfOk result (λ r. 64 + 32 * r.steps ≤ M.meant_cost (M.origin machine.old)) }
+    ensures small { OnOk result (spent + M.meant_cost (M.origin machine.old) ≤ most_cost) }
+    ensures large { IfErr result (λ f. f ≢ DriveFault.Memory → most_cost < spent + M.meant_cost (M.origin machine.old)) }
 {
-    let mut machine = machine;
     let mut steps: u64 = 0;
     let mut peak: u64 = 0;
     let mut trace = Vec::new(alloc);
     while !machine.is_over() {
         machine.is_reached();
         machine.is_priced();
-        let event = turn(alloc, &mut machine, schedule, steps, spent)?;
+        let event = turn(alloc, machine, schedule, steps, spent)?;
         peak = peak.max(machine.running());
         steps += 1;
-        note(alloc, &mut trace, &machine, &event, steps, traced)?;
+        note(alloc, &mut trace, &*machine, &event, steps, traced)?;
     }
-    if is_too_large(&machine, spent) {
+    if is_too_large(&*machine, spent) {
         return Err(DriveFault::TooLarge);
     }
     machine.is_priced();
-    Ok(Driven {
-        machine,
-        steps,
-        peak,
-        trace,
-    })
+    Ok(Driven { steps, peak, trace })
 }

@@ -14,4 +14,4 @@ mod tells;
 pub use making::Making;
 pub use pays::Pays;
 pub use tells::Tells;
-pub use wf_metered::MeteredRest as Rest;
+pub use wf_metered::{MeteredRest as Rest, Spare};

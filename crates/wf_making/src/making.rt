@@ -22,7 +22,7 @@ use std::alloc::{AllocError, Global};
 use std::marker::Model;
 use wf_asks::{Acts, Opens, Rows, Store};
 use wf_drive::Machine;
-use wf_metered::{EventAt, Metered, MeteredRest as Rest, Plan, State as Kept};
+use wf_metered::{EventAt, Metered, MeteredRest as Rest, Plan, Spare, State as Kept};
 use wf_room::Roomy;
 
 /// A state of a run with its cost, to be driven on.
@@ -45,7 +45,12 @@ impl<'a, A: Acts> Model for Making<'a, A> {
 
 impl<'a, A: Acts> Making<'a, A> {
     /// A run that begins.
-    pub fn fresh(alloc: Global, acts: &'a A, plan: &'a Plan) -> Result<Making<'a, A>, AllocError>
+    pub fn fresh(
+        alloc: Global,
+        acts: &'a A,
+        plan: &'a Plan,
+        spare: &mut Spare<A::Begun, A::Decision, A::Verdict>,
+    ) -> Result<Making<'a, A>, AllocError>
         requires planned { IsPlanned (A.graph acts.now) (plan_tree plan.now) }
         requires instance { IsInstance (A.graph acts.now) (A.source acts.now) (A.depth acts.now) }
         ensures acts { IfOk result (λ s. s.0 ≡ acts.now) }
@@ -53,7 +58,7 @@ impl<'a, A: Acts> Making<'a, A> {
         ensures first { IfOk result (λ s. IsFirst (A.graph acts.now) (A.source acts.now) (A.depth acts.now)
             (shown A.row_tree A.begun_tree A.decision_tree A.verdict_tree s.1)) }
     {
-        let metered = Metered::fresh(alloc, acts, plan)?;
+        let metered = Metered::fresh(alloc, acts, plan, spare)?;
         Ok(Making { metered })
     }
 
@@ -104,12 +109,15 @@ impl<'a, A: Acts> Making<'a, A> {
         self.metered.cost()
     }
 
-    /// The rows and the last writers, and the run is given up.
-    pub fn into_parts(self) -> (Rows<A::Row>, Store)
+    /// The rows and the last writers. The run is given up, and leaves its other lists.
+    pub fn into_parts(
+        self,
+        spare: &mut Spare<A::Begun, A::Decision, A::Verdict>,
+    ) -> (Rows<A::Row>, Store)
         ensures rows { result.0.0 ≡ self.entry.1.0 }
         ensures store { result.1.0 ≡ self.entry.1.1.1.1 }
     {
-        self.metered.into_parts()
+        self.metered.into_parts(spare)
     }
 
     /// The run is put aside, without the actions and the plan that it borrows.

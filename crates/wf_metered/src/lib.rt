@@ -12,4 +12,4 @@ mod sums;
 pub use metered::Metered;
 pub use rest::MeteredRest;
 pub use wf_meter::{EventAt, LeafAt, Plan};
-pub use wf_steps::State;
+pub use wf_steps::{Spare, State};

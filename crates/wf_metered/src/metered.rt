@@ -18,7 +18,7 @@ use std::alloc::{AllocError, Global};
 use std::marker::Model;
 use wf_asks::{Acts, Opens, Rows, Store};
 use wf_meter::{EventAt, Plan, decisions_total, rows_total, total, turns_total};
-use wf_steps::State;
+use wf_steps::{Spare, State};
 
 /// A state, and what it costs.
 #[derive(Drop)]
@@ -50,14 +50,19 @@ impl<'a, A: Acts> Model for Metered<'a, A> {
 
 impl<'a, A: Acts> Metered<'a, A> {
     /// The state of a run that begins.
-    pub fn fresh(alloc: Global, acts: &'a A, plan: &'a Plan) -> Result<Metered<'a, A>, AllocError>
+    pub fn fresh(
+        alloc: Global,
+        acts: &'a A,
+        plan: &'a Plan,
+        spare: &mut Spare<A::Begun, A::Decision, A::Verdict>,
+    ) -> Result<Metered<'a, A>, AllocError>
         requires planned { IsPlanned (A.graph acts.now) (plan_tree plan.now) }
         requires instance { IsInstance (A.graph acts.now) (A.source acts.now) (A.depth acts.now) }
         ensures acts { IfOk result (λ s. s.0 ≡ acts.now) }
         ensures first { IfOk result (λ s. shown A.row_tree A.begun_tree A.decision_tree A.verdict_tree s.1 ≡ fresh) }
         ensures lists { IfOk result (λ s. s.1 ≡ ([], ([], ([], [])))) }
     {
-        let state = State::fresh(alloc, acts, plan)?;
+        let state = State::fresh(alloc, acts, plan, spare)?;
         let sums = Sums {
             rows: 0,
             running: 0,
@@ -101,12 +106,15 @@ impl<'a, A: Acts> Metered<'a, A> {
         &self.state
     }
 
-    /// The rows and the last writers, and the state is given up.
-    pub fn into_parts(self) -> (Rows<A::Row>, Store)
+    /// The rows and the last writers. The state is given up, and leaves its other lists.
+    pub fn into_parts(
+        self,
+        spare: &mut Spare<A::Begun, A::Decision, A::Verdict>,
+    ) -> (Rows<A::Row>, Store)
         ensures rows { result.0.0 ≡ self.entry.1.0 }
         ensures store { result.1.0 ≡ self.entry.1.1.1.1 }
     {
-        self.state.into_parts()
+        self.state.into_parts(spare)
     }
 
     /// What the state costs: its rows, running leaves and open containers; cut to the greatest u64.

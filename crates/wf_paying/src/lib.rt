@@ -43,7 +43,7 @@ pub use wf_doing::{
     halts, makes_another, skipped, start, terminates, terminates_halt, test_until,
     what_is_done_is_the_source,
 };
-pub use wf_making::{Making, Pays, Rest, Tells};
+pub use wf_making::{Making, Pays, Rest, Spare, Tells};
 pub use wf_meant_laws::{a_definition_is_an_instance, meant_rows_are_whole};
 pub use wf_turns::{a_row_costs_its_turns, attempts_are_answered, rows_tell_their_turns};
 

@@ -12,7 +12,7 @@ use crate::runs::ended;
 use std::alloc::Global;
 use wf_answers::Inputs;
 use wf_planned::plan;
-use wf_run::{Checked, Ended, Ends, Ready, Runnable};
+use wf_run::{Checked, Ended, Ends, Lists, Ready, Runnable};
 use wf_told::{Measure, RunsFault};
 use wf_trigger::{Start, runs};
 use wf_val::Schedule;
@@ -87,6 +87,15 @@ fn planned(
     let ends = Ends::of(alloc, ready.checked, &ready.places)?;
     let plan = plan(alloc, &ready.checked.def)?;
     let runnable = Runnable::of(ready, &ends, &plan);
-    let ended = ended(alloc, &runnable, inputs, schedule, false, start, 0)?;
+    let ended = ended(
+        alloc,
+        &runnable,
+        inputs,
+        schedule,
+        false,
+        start,
+        0,
+        &mut Lists::new(alloc),
+    )?;
     Ok(ended)
 }

@@ -10,7 +10,7 @@ use crate::written::Written;
 use std::alloc::Global;
 use wf_answers::Inputs;
 use wf_planned::plan;
-use wf_run::{Checked, Ended, Ends, Ready, Runnable, cost_too_much, run};
+use wf_run::{Checked, Ended, Ends, Lists, Ready, Runnable, cost_too_much, run};
 use wf_told::RunsFault;
 use wf_trigger::{Start, Starts, runs};
 use wf_val::Schedule;
@@ -119,6 +119,7 @@ fn all_written(
         → CostTooMuch runnable.now.checked.now inputs.now starts.now) }
 {
     let mut written = Written::new(alloc);
+    let mut lists = Lists::new(alloc);
     for k in 0..starts.len() {
         let start = starts.start(alloc, k)?;
         let ended = ended(
@@ -129,13 +130,14 @@ fn all_written(
             traced,
             start,
             written.cost,
+            &mut lists,
         )?;
         written = written.with(alloc, &ended)?;
     }
     Ok(written)
 }
 
-/// The run of a start, where the runs before it cost `spent`.
+/// The run of a start, where the runs before it cost `spent`, and left these lists.
 pub(crate) fn ended(
     alloc: Global,
     runnable: &Runnable,
@@ -144,6 +146,7 @@ pub(crate) fn ended(
     traced: bool,
     start: Start,
     spent: u64,
+    lists: &mut Lists,
 ) -> Result<Ended, RunsFault>
     requires { spent ≤ 67108864 }
     ensures told { IfOk result (λ e. IsTheRun runnable.now.checked.now start inputs.now schedule.now traced (told e)) }
@@ -151,6 +154,8 @@ pub(crate) fn ended(
     ensures fault { IfErr result (λ f. f ≢ RunsFault.Memory → f ≡ RunsFault.TooLarge) }
     ensures too_large { IfErr result (λ f. f ≢ RunsFault.Memory → IsTooMuch spent (meant_cost runnable.now.checked.now start inputs.now)) }
 {
-    let ended = run(alloc, runnable, start, inputs, schedule, spent, traced)?;
+    let ended = run(
+        alloc, runnable, start, inputs, schedule, spent, traced, lists,
+    )?;
     Ok(ended)
 }

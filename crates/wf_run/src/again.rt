@@ -19,7 +19,7 @@ use wf_drive::DriveFault;
 use wf_environment::Start;
 use wf_record::Record;
 use wf_regained::{Regained, regain};
-use wf_runnable::{Actions, Making, Runnable, is_planned};
+use wf_runnable::{Actions, Lists, Making, Runnable, is_planned};
 use wf_val::Schedule;
 
 // What a run starts with that is made from an older one: the name and the seed are new, the trigger and the parameters are the old ones.
@@ -120,7 +120,7 @@ fn remake<'x>(
     wf_runnable::runs_cost_no_more_than_their_records();
     let actions = actions(runnable, start, log, from, inputs);
     let making = first(alloc, &*runnable, &actions, start, log, from, inputs)?;
-    let made = driven(alloc, making, schedule, 0, false)?;
+    let made = driven(alloc, making, schedule, 0, false, &mut Lists::new(alloc))?;
     Ok(made)
 }
 

@@ -14,7 +14,7 @@ use std::alloc::Global;
 use wf_answers::Inputs;
 use wf_drive::DriveFault;
 use wf_environment::Start;
-use wf_runnable::{Actions, Making, Runnable, is_planned};
+use wf_runnable::{Actions, Lists, Making, Runnable, is_planned};
 use wf_val::Schedule;
 
 // Makes a run's events, until nothing may happen any more. With the definition's meaning as its record it is the run under the
@@ -27,6 +27,7 @@ fn make(
     schedule: &Schedule,
     spent: u64,
     traced: bool,
+    lists: &mut Lists,
 ) -> Result<Made, DriveFault>
     requires spent { spent ≤ 67108864 }
     ensures run { IfOk result (λ m. IsTheRun runnable.now.checked.now start.now inputs.now schedule.now traced (record {
@@ -45,13 +46,14 @@ fn make(
     wf_runnable::runs_cost_no_more_than_their_records();
     is_planned(runnable);
     let actions = Actions::of(runnable.ready, start, inputs);
-    let making = Making::fresh(alloc, &actions, runnable.plan)?;
-    let made = driven(alloc, making, schedule, spent, traced)?;
+    let making = Making::fresh(alloc, &actions, runnable.plan, lists)?;
+    let made = driven(alloc, making, schedule, spent, traced, lists)?;
     Ok(made)
 }
 
 /// Makes a run under a schedule, where other runs have cost `spent`: its record is the definition's meaning, whatever the schedule.
-/// Where it costs too much with what others cost, none is given. The lines of its events are kept where they are asked for.
+/// Where it costs too much with what others cost, none is given. The lines of its events are kept where they are asked for. It takes the
+/// lists that the run before it left, for their room, and leaves its own.
 pub fn run(
     alloc: Global,
     runnable: &Runnable<'_>,
@@ -60,6 +62,7 @@ pub fn run(
     schedule: &Schedule,
     spent: u64,
     traced: bool,
+    lists: &mut Lists,
 ) -> Result<Ended, DriveFault>
     requires spent { spent ≤ 67108864 }
     ensures told { IfOk result (λ e. IsTheRun runnable.now.checked.now start inputs.now schedule.now traced (told e)) }
@@ -73,7 +76,9 @@ pub fn run(
         steps,
         peak,
         trace,
-    } = make(alloc, runnable, &start, inputs, schedule, spent, traced)?;
+    } = make(
+        alloc, runnable, &start, inputs, schedule, spent, traced, lists,
+    )?;
     let finished = runnable.record(alloc, start, inputs, rows, &store)?;
     let cost = match cost_within(&finished, spent) {
         Some(cost) => cost,

@@ -28,4 +28,4 @@ pub use again::resubmit;
 pub use ended::Ended;
 pub use fresh::run;
 pub use least::cost_too_much;
-pub use wf_runnable::{Checked, Ends, Ready, Runnable};
+pub use wf_runnable::{Checked, Ends, Lists, Ready, Runnable};

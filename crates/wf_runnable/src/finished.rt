@@ -4,7 +4,7 @@ ghost use Rattle.wf_record.specs.Seen.{record_tree};
 ghost use Rattle.wf_runnable.specs.Aside.{IsAsideAtLast};
 ghost use Rattle.wf_runnable.specs.Runnable.{meant_record};
 
-use crate::over::given_up;
+use crate::over::{Lists, given_up};
 use crate::runnable::{Runnable, is_planned};
 use std::alloc::{AllocError, Global};
 use wf_actions::{Actions, Making, Rest};
@@ -29,7 +29,10 @@ impl<'a> Runnable<'a> {
         wf_actions::a_record_is_of_the_table();
         is_planned(self);
         let actions = Actions::of(self.ready, &start, inputs);
-        let (rows, store) = given_up(Making::again(&actions, self.plan, rest));
+        let (rows, store) = given_up(
+            Making::again(&actions, self.plan, rest),
+            &mut Lists::new(alloc),
+        );
         let record = self.record(alloc, start, inputs, rows, &store)?;
         Ok(record)
     }

@@ -4,7 +4,7 @@
 //! its plan (`wf_plan`). Who drives a run takes them from here: of a whole run (`wf_run`), or of one that waits for answers (`wf_session`).
 //!
 //! Once nothing may happen any more a run has left what its actions mean: `given_up` hands out its rows and its last writers, and `record`
-//! makes the record of them. `finished` does both, of a run that was put aside.
+//! makes the record of them. `finished` does both, of a run that was put aside. The room of its other lists it leaves for the next run.
 //!
 //! It makes nothing happen. What a `Runnable` is made of is handed on, so that who makes runs names no crate below this one for it.
 #![tactic(auto)]
@@ -13,7 +13,7 @@ mod finished;
 mod over;
 mod runnable;
 
-pub use over::given_up;
+pub use over::{Lists, given_up};
 pub use runnable::{Runnable, is_planned};
 pub use wf_actions::{
     Actions, Making, Places, Ready, Rest, a_record_is_of_the_table, name_of,

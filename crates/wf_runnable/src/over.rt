@@ -1,17 +1,22 @@
 //! Runs in which nothing may happen any more.
 ghost use Rattle.wf_runnable.specs.Over.{AreLeft, IsAtLast};
 
-use wf_actions::{Actions, Making};
+use wf_actions::{Actions, Making, Spare};
 use wf_asks::{Rows, Store};
+use wf_done::Begun;
+use wf_opening::{Decision, Verdict};
 use wf_record::Row;
 
-/// The rows and the last writers of a run in which nothing may happen any more.
-pub fn given_up(making: Making<'_, Actions<'_>>) -> (Rows<Row>, Store)
+/// The lists that one run leaves for the next (`Spare`).
+pub type Lists = Spare<Begun, Decision, Verdict>;
+
+/// The rows and the last writers of a run in which nothing may happen any more. It leaves its other lists.
+pub fn given_up(making: Making<'_, Actions<'_>>, lists: &mut Lists) -> (Rows<Row>, Store)
     requires { IsAtLast making.0 making.1 }
     ensures { AreLeft making.entry.0 result.0.0 result.1.0 }
 {
     let kept = making.state();
     kept.is_whole();
     kept.is_last();
-    making.into_parts()
+    making.into_parts(lists)
 }

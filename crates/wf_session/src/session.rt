@@ -14,7 +14,7 @@ use wf_asks::Acts;
 use wf_done::Begun;
 use wf_opening::{Decision, Verdict};
 use wf_record::Row;
-use wf_runnable::{Actions, Making, Rest, Runnable, is_planned};
+use wf_runnable::{Actions, Lists, Making, Rest, Runnable, is_planned};
 use wf_talk::StandFault;
 use wf_trigger::Start;
 use wf_waits::Waits;
@@ -65,7 +65,7 @@ pub(crate) fn begun(
 {
     is_planned(runnable);
     let actions = Actions::of(runnable.ready, start, inputs);
-    let mut making = Making::fresh(alloc, &actions, runnable.plan)?;
+    let mut making = Making::fresh(alloc, &actions, runnable.plan, &mut Lists::new(alloc))?;
     settle(alloc, &mut making, waits)?;
     making.state().is_last();
     Ok(making.rest())

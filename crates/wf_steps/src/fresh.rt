@@ -13,6 +13,7 @@ ghost use Rattle.wf_events.specs.Tables.{count_in, events_in};
 ghost use Rattle.wf_steps.specs.Kept.{IsPlanned};
 ghost use Rattle.wf_steps.specs.Shown.{shown};
 
+use crate::spare::{Spare, taken};
 use crate::state::State;
 use std::alloc::{AllocError, Global};
 use wf_events::{
@@ -36,13 +37,18 @@ fn add_count(waits: &mut Roomy<CountAt>, item: CountAt) -> Result<(), AllocError
 }
 
 // How much each action of the definition's own graph waits for, where nothing has a row.
-fn first_waits(alloc: Global, plan: &Plan) -> Result<Roomy<CountAt>, AllocError>
+fn first_waits(
+    alloc: Global,
+    plan: &Plan,
+    empty: Roomy<CountAt>,
+) -> Result<Roomy<CountAt>, AllocError>
+    requires { empty.0 ≡ [] }
     ensures { IfOk result (λ waits. (x : Address) → count_in waits.0 x
         ≡ cond (is_among x.name (plan_tree plan.now).top && same_at [] x.at)
         (nonzero (length (needs_at (plan_tree plan.now) x.name))) None) }
 {
     let top = plan.top();
-    let mut waits = Roomy::new(alloc);
+    let mut waits = empty;
     for action in top {
         let instance = Instance {
             action: *action,
@@ -63,13 +69,15 @@ fn first_ready<A: Acts>(
     opens: &Opens<A::Decision, A::Verdict>,
     store: &Store,
     waits: &Roomy<CountAt>,
+    empty: Roomy<EventAt>,
 ) -> Result<Roomy<EventAt>, AllocError>
+    requires { empty.0 ≡ [] }
     ensures { IfOk result (λ ready. (x : Address) → events_in ready.0 x
         ≡ cond (is_among x.name (plan_tree plan.now).top && same_at [] x.at)
         (idle_at (A.source acts.now) (rows_in A.row_tree rows.now.0) (count_in waits.now.0) (plan_tree plan.now) x) None) }
 {
     let top = plan.top();
-    let mut ready = Roomy::new(alloc);
+    let mut ready = empty;
     for action in top {
         let place = Instance {
             action: *action,
@@ -90,7 +98,12 @@ fn first_ready<A: Acts>(
 
 impl<'a, A: Acts> State<'a, A> {
     /// The state of a run that begins: nothing has happened, and the definition's own graph is open.
-    pub fn fresh(alloc: Global, acts: &'a A, plan: &'a Plan) -> Result<State<'a, A>, AllocError>
+    pub fn fresh(
+        alloc: Global,
+        acts: &'a A,
+        plan: &'a Plan,
+        spare: &mut Spare<A::Begun, A::Decision, A::Verdict>,
+    ) -> Result<State<'a, A>, AllocError>
         requires planned { IsPlanned (A.graph acts.now) (plan_tree plan.now) }
         requires instance { IsInstance (A.graph acts.now) (A.source acts.now) (A.depth acts.now) }
         ensures acts { IfOk result (λ s. s.0 ≡ acts.now) }
@@ -98,19 +111,23 @@ impl<'a, A: Acts> State<'a, A> {
         ensures lists { IfOk result (λ s. s.1 ≡ ([], ([], ([], [])))) }
     {
         let rows = Roomy::new(alloc);
-        let opens = Roomy::new(alloc);
         let store = Roomy::new(alloc);
-        let waits = first_waits(alloc, plan)?;
-        let ready = first_ready(alloc, acts, plan, &rows, &opens, &store, &waits)?;
+        let running = taken(alloc, &mut spare.running);
+        let opens = taken(alloc, &mut spare.opens);
+        let lacks = taken(alloc, &mut spare.lacks);
+        let uncounted = taken(alloc, &mut spare.waits);
+        let waits = first_waits(alloc, plan, uncounted)?;
+        let idle = taken(alloc, &mut spare.ready);
+        let ready = first_ready(alloc, acts, plan, &rows, &opens, &store, &waits, idle)?;
         Ok(State {
             acts,
             plan,
             rows,
-            running: Roomy::new(alloc),
+            running,
             opens,
             store,
             waits,
-            lacks: Roomy::new(alloc),
+            lacks,
             ready,
         })
     }

@@ -9,7 +9,8 @@
 //! counts and ready set are made by one walk over the graphs that are open then (`wf_resting`). The steps know no difference.
 //!
 //! A state borrows its actions. Where these are to change, as more becomes known of what they do, it is put aside as a `Rest`, which has
-//! the lists alone, and taken up again with the new ones: nothing is made anew, and nothing is copied.
+//! the lists alone, and taken up again with the new ones: nothing is made anew, and nothing is copied. One that is given up leaves the room
+//! of its lists, as a `Spare`, for the next.
 #![tactic(auto)]
 
 mod begin;
@@ -21,8 +22,10 @@ mod rest;
 mod resumed;
 mod seen;
 mod skip;
+mod spare;
 mod state;
 mod step;
 
 pub use rest::Rest;
+pub use spare::Spare;
 pub use state::State;

@@ -12,9 +12,13 @@ ghost use Rattle.wf_events.specs.Tables.{leaf_tree};
 ghost use Rattle.wf_steps.specs.Kept.{AreEnabled, IsOver, IsPlanned};
 ghost use Rattle.wf_steps.specs.Shown.{shown};
 
+use crate::spare::Spare;
 use crate::state::State;
 use wf_events::{Acts, EventAt, Instance, LeafAt, OpenAt, Opens, Plan, Rows, Store};
 use wf_room::Roomy;
+
+// From so many rows on a state leaves nothing for the next.
+const MANY: u64 = 1024;
 
 impl<'a, A: Acts> State<'a, A> {
     /// How many leaves run.
@@ -81,12 +85,34 @@ impl<'a, A: Acts> State<'a, A> {
         &self.ready
     }
 
-    /// The rows and the last writers, and the state is given up.
-    pub fn into_parts(self) -> (Rows<A::Row>, Store)
+    /// The rows and the last writers. The state is given up, and leaves its other lists, if it has few rows.
+    pub fn into_parts(
+        self,
+        spare: &mut Spare<A::Begun, A::Decision, A::Verdict>,
+    ) -> (Rows<A::Row>, Store)
         ensures rows { result.0.0 ≡ self.entry.1.0 }
         ensures store { result.1.0 ≡ self.entry.1.1.1.1 }
     {
-        let State { rows, store, .. } = self;
+        let State {
+            rows,
+            running,
+            opens,
+            store,
+            waits,
+            lacks,
+            ready,
+            ..
+        } = self;
+        // What many rows took is let go before the record is made.
+        if rows.len() < MANY {
+            *spare = Spare {
+                running,
+                opens,
+                waits,
+                lacks,
+                ready,
+            };
+        }
         (rows, store)
     }
 

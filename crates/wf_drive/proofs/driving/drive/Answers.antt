@@ -15,10 +15,10 @@ use Rattle.wf_drive.proofs.driving.drive.Goals as goal
 pub loop-alloc-init : goal.loop-alloc-init
 loop-alloc-init g c =
     let a = g.M.Machine in
-    let o = a.origin c.args.machine in
+    let o = a.origin c.args.machine.now in
     record {
       same = refl;
-      comes = begins (a.graph o) (a.source o) (a.told o) c.args.schedule.now (a.state c.args.machine) c.args.traced _
+      comes = begins (a.graph o) (a.source o) (a.told o) c.args.schedule.now (a.state c.args.machine.now) c.args.traced _
           c.new-trace.ensures.items;
       taken = c.requires.first.none_taken;
     }
@@ -36,7 +36,7 @@ pub loop-alloc-smaller : goal.loop-alloc-smaller
 loop-alloc-smaller g c =
     let a = g.M.Machine in
     let l = c.loop-alloc in
-    let o = a.origin c.args.machine in
+    let o = a.origin c.args.machine.now in
     let reached = subst (λ q. IsReached (a.graph q) (a.depth q) (a.source q) (a.state l.machine)) l.invariant.same c.is_reached.ensures in
     let goes = subst (λ q. Step (a.graph q) (a.source q) (a.state l.machine) (a.event_tree c.in_ok-event.event)
     (a.state c.turn.new.machine)) l.invariant.same c.in_ok-event.ensures.turn.goes in
@@ -48,7 +48,7 @@ pub loop-alloc-preserved : goal.loop-alloc-preserved
 loop-alloc-preserved g c =
     let a = g.M.Machine in
     let l = c.loop-alloc in
-    let o = a.origin c.args.machine in
+    let o = a.origin c.args.machine.now in
     let e = a.event_tree c.in_ok-event.event in
     let new = c.turn.new.machine in
     let reached = subst (λ q. IsReached (a.graph q) (a.depth q) (a.source q) (a.state l.machine)) l.invariant.same c.is_reached.ensures in
@@ -60,15 +60,15 @@ loop-alloc-preserved g c =
     → c.note.new.trace.items ≡ l.trace.items ++ cond c.args.traced (event_line (l.steps + 1) (a.told q e (number_of es e))) [])
     same c.in_ok-note.ensures in
     let comes = l.invariant.comes in
-    let run = run_before (a.graph o) (a.source o) (a.told o) c.args.schedule.now (a.state c.args.machine) (a.state l.machine) (a.state new)
-    l.steps l.peak c.args.traced l.trace.items e comes turn in
+    let run = run_before (a.graph o) (a.source o) (a.told o) c.args.schedule.now (a.state c.args.machine.now) (a.state l.machine)
+    (a.state new) l.steps l.peak c.args.traced l.trace.items e comes turn in
     let more : suc l.steps ≡ l.steps + 1 = omega arith in
     record {
       same = same;
-      comes = goes_on (a.graph o) (a.source o) (a.told o) c.args.schedule.now (a.state c.args.machine) (a.state l.machine) (a.state new)
+      comes = goes_on (a.graph o) (a.source o) (a.told o) c.args.schedule.now (a.state c.args.machine.now) (a.state l.machine) (a.state new)
           l.steps l.peak c.args.traced l.trace.items e comes turn c.requires.first.not_begun (l.steps + 1) c.max-peak.result
           c.running.result c.note.new.trace.items refl c.running.ensures c.max-peak.ensures
-          (noted (a.state c.args.machine) (a.state l.machine) comes.events c.requires.first.not_begun run reached turn.goes);
+          (noted (a.state c.args.machine.now) (a.state l.machine) comes.events c.requires.first.not_begun run reached turn.goes);
       taken = subst (HasTaken (a.graph o) (a.depth o) (a.source o) (a.state new)) more
           (one_more_taken (a.graph o) (a.depth o) (a.source o) (a.state l.machine) reached l.steps l.invariant.taken e (a.state new)
           turn.goes);

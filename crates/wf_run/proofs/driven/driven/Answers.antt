@@ -4,12 +4,12 @@ use Rattle.wf_run.proofs.driven.driven.Goals as goal
 
 pub given_up-rows-requires : goal.given_up-rows-requires
 given_up-rows-requires c =
-    let h = c.in_ok-machine.field-0.machine in
-    subst (λ k. IsAtLast k h.1) (sym c.in_ok-machine.ensures.same) c.in_ok-machine.ensures.driven.over
+    let h = c.drive.new.machine in
+    subst (λ k. IsAtLast k h.1) (sym c.in_ok-steps.ensures.same) c.in_ok-steps.ensures.driven.over
 
 pub returns-clause-made : goal.returns-clause-made
-returns-clause-made c = record { last = moment c.in_ok-machine.field-0.machine.1; driven = c.in_ok-machine.ensures.driven }
+returns-clause-made c = record { last = moment c.drive.new.machine.1; driven = c.in_ok-steps.ensures.driven }
 
 pub returns-clause-left : goal.returns-clause-left
 returns-clause-left c =
-    subst (λ k. AreLeft k c.given_up-rows.result.0.0 c.given_up-rows.result.1.0) c.in_ok-machine.ensures.same c.given_up-rows.ensures
+    subst (λ k. AreLeft k c.given_up-rows.result.0.0 c.given_up-rows.result.1.0) c.in_ok-steps.ensures.same c.given_up-rows.ensures
