@@ -100,11 +100,14 @@ fn planned(
     let ends = Ends::of(alloc, ready.checked, &ready.places)?;
     let plan = plan(alloc, &ready.checked.def)?;
     let runnable = Runnable::of(ready, &ends, &plan);
-    let written = all_written(alloc, &runnable, inputs, schedule, traced, starts)?;
+    let mut lists = Lists::new(alloc);
+    let written = all_written(
+        alloc, &runnable, inputs, schedule, traced, starts, &mut lists,
+    )?;
     Ok(written)
 }
 
-// What is written of the runs of these starts, one after the other.
+// What is written of the runs of these starts, one after the other, each with the lists that the one before it left.
 fn all_written(
     alloc: Global,
     runnable: &Runnable,
@@ -112,6 +115,7 @@ fn all_written(
     schedule: &Schedule,
     traced: bool,
     starts: &Starts,
+    lists: &mut Lists,
 ) -> Result<Written, RunsFault>
     ensures written { IfOk result (λ w. StartsAreWritten runnable.now.checked.now inputs.now schedule.now traced starts.now w.text.items w.cost) }
     ensures fault { IfErr result (λ f. f ≢ RunsFault.Memory → f ≡ RunsFault.TooLarge) }
@@ -119,7 +123,6 @@ fn all_written(
         → CostTooMuch runnable.now.checked.now inputs.now starts.now) }
 {
     let mut written = Written::new(alloc);
-    let mut lists = Lists::new(alloc);
     for k in 0..starts.len() {
         let start = starts.start(alloc, k)?;
         let ended = ended(
@@ -130,7 +133,7 @@ fn all_written(
             traced,
             start,
             written.cost,
-            &mut lists,
+            lists,
         )?;
         written = written.with(alloc, &ended)?;
     }
