@@ -29,7 +29,22 @@ impl Instance {
             .then(self.at.as_slice().cmp(other.at.as_slice()))
     }
 
+    /// A copy; most actions stand in no loop, and then it takes no memory and no call.
+    #[inline(always)]
     pub fn copy(&self, alloc: Global) -> Result<Instance, AllocError>
+        ensures { IfOk result (λ a. a ≡ self.now) }
+    {
+        if self.at.as_slice().is_empty() {
+            return Ok(Instance {
+                action: self.action,
+                at: Indexes::new(alloc),
+            });
+        }
+        self.copy_in_loop(alloc)
+    }
+
+    // A copy of one that has indexes.
+    fn copy_in_loop(&self, alloc: Global) -> Result<Instance, AllocError>
         ensures { IfOk result (λ a. a ≡ self.now) }
     {
         Ok(Instance {

@@ -228,42 +228,42 @@ impl<'a> Ends<'a> {
     }
 
     // The rows at their addresses, in order.
-    fn rows(&self, alloc: Global, rows: Rows<Row>) -> Result<wf_record::Rows, AllocError>
-        requires { AreWhole (def_tree self.now.checked.now.def) (rows_seen rows.0) }
-        ensures rows { IfOk result (λ there. map row_tree there ≡ rows_of (def_tree self.now.checked.now.def) (rows_seen rows.0)) }
-        ensures cost { IfOk result (λ there. sum_by row_cost (map row_tree there) ≡ sum_by cost_of rows.0) }
+    fn rows(&self, alloc: Global, rows: &mut Rows<Row>) -> Result<wf_record::Rows, AllocError>
+        requires { AreWhole (def_tree self.now.checked.now.def) (rows_seen rows.old.0) }
+        ensures rows { IfOk result (λ there. map row_tree there ≡ rows_of (def_tree self.now.checked.now.def) (rows_seen rows.old.0)) }
+        ensures cost { IfOk result (λ there. sum_by row_cost (map row_tree there) ≡ sum_by cost_of rows.old.0) }
     {
         self.checked.def.always_read();
         wf_sight_laws::listed_rows_stand_for_the_table();
         wf_catalog::numbers_are_places();
         wf_catalog::numbers_are_had();
         let _count = rows.len();
-        let items = rows.into_items()?;
+        let items = rows.take_all(alloc)?;
         let there = rows_of(alloc, self.places, items)?;
         Ok(there)
     }
 
     /// What a run leaves that was started so, once nothing may happen any more, whether it was started anew or made from an older one: from
-    /// its rows, and from who wrote last to each variable.
+    /// its rows, which are taken out of their list, and from who wrote last to each variable.
     pub fn left(
         &self,
         alloc: Global,
         start: &Start,
         inputs: &Inputs,
-        rows: Rows<Row>,
+        rows: &mut Rows<Row>,
         store: &Store,
     ) -> Result<Left, AllocError>
         requires { HasEnded (def_tree self.now.checked.now.def) (fresh (start_tree start.now) (inputs_tree inputs.now))
-            (rows_seen rows.0) (store_in store.now.0) }
+            (rows_seen rows.old.0) (store_in store.now.0) }
         ensures left { IfOk result (λ l. left_tree l ≡ left_by (def_tree self.now.checked.now.def)
-            (fresh (start_tree start.now) (inputs_tree inputs.now)) (rows_seen rows.0)) }
+            (fresh (start_tree start.now) (inputs_tree inputs.now)) (rows_seen rows.old.0)) }
         ensures record { IfOk result (λ l. recorded (def_tree self.now.checked.now.def).digest (start_tree start.now) (left_tree l)
             ≡ record_of_table (def_tree self.now.checked.now.def) (fresh (start_tree start.now) (inputs_tree inputs.now))
-            (rows_seen rows.0)) }
-        ensures cost { IfOk result (λ l. sum_by row_cost (left_tree l).rows ≡ sum_by cost_of rows.0) }
+            (rows_seen rows.old.0)) }
+        ensures cost { IfOk result (λ l. sum_by row_cost (left_tree l).rows ≡ sum_by cost_of rows.old.0) }
     {
-        let ending = self.ending(alloc, start, inputs, &rows, store)?;
-        let response = self.response(alloc, &rows)?;
+        let ending = self.ending(alloc, start, inputs, &*rows, store)?;
+        let response = self.response(alloc, &*rows)?;
         let there = self.rows(alloc, rows)?;
         Ok(Left {
             ending,

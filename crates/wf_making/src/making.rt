@@ -49,7 +49,7 @@ impl<'a, A: Acts> Making<'a, A> {
         alloc: Global,
         acts: &'a A,
         plan: &'a Plan,
-        spare: &mut Spare<A::Begun, A::Decision, A::Verdict>,
+        spare: &mut Spare<A::Row, A::Begun, A::Decision, A::Verdict>,
     ) -> Result<Making<'a, A>, AllocError>
         requires planned { IsPlanned (A.graph acts.now) (plan_tree plan.now) }
         requires instance { IsInstance (A.graph acts.now) (A.source acts.now) (A.depth acts.now) }
@@ -112,7 +112,7 @@ impl<'a, A: Acts> Making<'a, A> {
     /// The rows and the last writers. The run is given up, and leaves its other lists.
     pub fn into_parts(
         self,
-        spare: &mut Spare<A::Begun, A::Decision, A::Verdict>,
+        spare: &mut Spare<A::Row, A::Begun, A::Decision, A::Verdict>,
     ) -> (Rows<A::Row>, Store)
         ensures rows { result.0.0 ≡ self.entry.1.0 }
         ensures store { result.1.0 ≡ self.entry.1.1.1.1 }

@@ -54,7 +54,7 @@ impl<'a, A: Acts> Metered<'a, A> {
         alloc: Global,
         acts: &'a A,
         plan: &'a Plan,
-        spare: &mut Spare<A::Begun, A::Decision, A::Verdict>,
+        spare: &mut Spare<A::Row, A::Begun, A::Decision, A::Verdict>,
     ) -> Result<Metered<'a, A>, AllocError>
         requires planned { IsPlanned (A.graph acts.now) (plan_tree plan.now) }
         requires instance { IsInstance (A.graph acts.now) (A.source acts.now) (A.depth acts.now) }
@@ -109,7 +109,7 @@ impl<'a, A: Acts> Metered<'a, A> {
     /// The rows and the last writers. The state is given up, and leaves its other lists.
     pub fn into_parts(
         self,
-        spare: &mut Spare<A::Begun, A::Decision, A::Verdict>,
+        spare: &mut Spare<A::Row, A::Begun, A::Decision, A::Verdict>,
     ) -> (Rows<A::Row>, Store)
         ensures rows { result.0.0 ≡ self.entry.1.0 }
         ensures store { result.1.0 ≡ self.entry.1.1.1.1 }

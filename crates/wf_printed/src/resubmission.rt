@@ -10,7 +10,7 @@ use crate::written::with_run;
 use std::alloc::Global;
 use wf_answers::Inputs;
 use wf_planned::plan;
-use wf_record::Record;
+use wf_record::{Digits, Record};
 use wf_run::{Checked, Ended, Ends, Ready, Runnable, resubmit};
 use wf_told::{ResubmissionFault, prepare};
 use wf_val::{Name, Schedule};
@@ -30,7 +30,7 @@ pub(crate) fn resubmission_text(
 {
     let from = prepare(alloc, checked, log, names)?;
     let ended = made_ready(alloc, checked, log, &from, inputs, schedule)?;
-    let text = with_run(alloc, Vec::new(alloc), &ended)?;
+    let text = with_run(alloc, Vec::new(alloc), &mut Digits::new(), &ended)?;
     Ok(text)
 }
 

@@ -10,6 +10,7 @@ use crate::written::Written;
 use std::alloc::Global;
 use wf_answers::Inputs;
 use wf_planned::plan;
+use wf_record::Digits;
 use wf_run::{Checked, Ended, Ends, Lists, Ready, Runnable, cost_too_much, run};
 use wf_told::RunsFault;
 use wf_trigger::{Start, Starts, runs};
@@ -107,7 +108,8 @@ fn planned(
     Ok(written)
 }
 
-// What is written of the runs of these starts, one after the other, each with the lists that the one before it left.
+// What is written of the runs of these starts, one after the other, each with the lists that the one before it left, and with the digits
+// of the digest that they have in common.
 fn all_written(
     alloc: Global,
     runnable: &Runnable,
@@ -123,6 +125,7 @@ fn all_written(
         → CostTooMuch runnable.now.checked.now inputs.now starts.now) }
 {
     let mut written = Written::new(alloc);
+    let mut digits = Digits::new();
     for k in 0..starts.len() {
         let start = starts.start(alloc, k)?;
         let ended = ended(
@@ -135,7 +138,7 @@ fn all_written(
             written.cost,
             lists,
         )?;
-        written = written.with(alloc, &ended)?;
+        written = written.with(alloc, &mut digits, &ended)?;
     }
     Ok(written)
 }

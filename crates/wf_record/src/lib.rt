@@ -15,6 +15,7 @@
 
 mod attempt;
 mod cost;
+mod digits;
 mod laws;
 mod line;
 mod plain;
@@ -26,6 +27,7 @@ mod value;
 
 pub use attempt::{Tries, Try};
 pub use cost::{iterations, row_cost};
+pub use digits::Digits;
 pub use laws::{a_line_is_its_pieces, a_row_is_found_by_its_address, cost_by_counts};
 pub use line::{record_line, with_record_line};
 pub use record::Record;

@@ -1,3 +1,4 @@
 pub mod CellLemmas
 pub mod ChunkLemmas
 pub mod SearchLemmas
+pub mod TakenLemmas

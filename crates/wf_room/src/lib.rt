@@ -10,6 +10,9 @@
 //! an item out leaves its cell for the next. The cells stand in chunks of one size, each a ring: an edit moves those of two chunks at
 //! most, and one of each chunk between, whatever the number of items.
 //!
+//! A list takes no memory before it is asked for room, and all of it stands behind one pointer, so that a list is moved at little cost.
+//! Who takes all its items out can keep it: where they were few it keeps their cells.
+//!
 //! It isn't a list to be read whole before it is used up: items are asked for by key or by place. For that, and where an edit may fail,
 //! `wf_lists` has `Sorted`.
 #![tactic(auto)]
@@ -18,6 +21,7 @@ mod cell;
 mod cells;
 mod chunk;
 mod roomy;
+mod shelf;
 mod still;
 
 pub use roomy::Roomy;

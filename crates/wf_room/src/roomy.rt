@@ -2,15 +2,19 @@
 ghost use Rattle.std.specs.Prelude.{◌≡◌, ◌<◌, ◌≤◌, ◌+◌, ◌^◌, [], length, IfOk, IfErr, OnOk, OnErr, Some, None, option_map, slice_get};
 ghost use Rattle.wf_lists.specs.KeyOrder.{IsInKeyOrder, find_key, put_key, without_key};
 
-use crate::still::Still;
+use crate::shelf::Shelf;
 use std::alloc::{AllocError, Global};
 use std::marker::Model;
+use std::mem::replace;
 use wf_lists::Keyed;
+
+// From so many items on no cells are kept when all are taken out.
+const MANY: u64 = 64;
 
 /// Items in ascending order of their keys, each key once; seen as their list, and for how many more there is room.
 #[derive(Drop)]
 pub struct Roomy<T: Keyed> {
-    items: Still<T>,
+    items: Shelf<T>,
 }
 
 impl<T: Keyed> Model for Roomy<T> {
@@ -30,7 +34,7 @@ impl<T: Keyed> Roomy<T> {
         ensures { result.0 ≡ [] }
     {
         Roomy {
-            items: Still::new(alloc),
+            items: Shelf::new(alloc),
         }
     }
 
@@ -119,13 +123,18 @@ impl<T: Keyed> Roomy<T> {
             Err(_) => None,
         }
     }
-    /// The items, in order.
-    pub fn into_items(self) -> Result<Vec<T>, AllocError>
+
+    /// Takes all items out, in order. Few leave their cells for others; what many took is let go. After an error they may be gone.
+    pub fn take_all(&mut self, alloc: Global) -> Result<Vec<T>, AllocError>
     where
         T: Drop,
-        ensures { IfOk result (λ items. items.items ≡ self.0) }
+        ensures items { IfOk result (λ items. items.items ≡ self.old.0) }
+        ensures none { OnOk result (self.new.0 ≡ []) }
     {
-        let Roomy { items } = self;
+        if self.items.len() < MANY {
+            return self.items.take_all(alloc);
+        }
+        let Roomy { items } = replace(self, Roomy::new(alloc));
         items.into_items()
     }
 }

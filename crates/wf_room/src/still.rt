@@ -1,5 +1,5 @@
 //! Items that stand still.
-ghost use Rattle.std.specs.Prelude.{◌≡◌, ◌<◌, ◌≤◌, ◌+◌, ◌-◌, ◌++◌, ◌^◌, [], length, None, IfOk, IfErr, OnOk, Some, insert, remove, replicate, slice_get, slice_set};
+ghost use Rattle.std.specs.Prelude.{◌≡◌, ◌<◌, ◌≤◌, ◌+◌, ◌-◌, ◌++◌, ◌^◌, [], length, None, IfOk, IfErr, OnOk, OnErr, Some, insert, remove, replicate, slice_get, slice_set};
 ghost use Rattle.std.specs.List.Sorted.{IsSearchInRange};
 ghost use Rattle.wf_lists.specs.KeyOrder.{IsInKeyOrder, IsKeyPlace, IsKeyGap};
 
@@ -117,6 +117,23 @@ impl<T> Still<T> {
             Some(item) => item,
             None => unreachable!(),
         }
+    }
+
+    /// Takes all items out, in order, and keeps their cells for others.
+    pub(crate) fn take_all(&mut self, alloc: Global) -> Result<Vec<T>, AllocError>
+    where
+        T: Drop,
+        ensures items { IfOk result (λ items. items.items ≡ self.old.0) }
+        ensures none { OnOk result (self.new.0 ≡ []) }
+        ensures err { OnErr result (self.new.0 ≡ self.old.0) }
+    {
+        let mut items = Vec::with_capacity(alloc, self.count)?;
+        // From the last one on, since then no cell moves.
+        while self.count > 0 {
+            items.push_reserved(self.remove(self.count - 1));
+        }
+        items.reverse();
+        Ok(items)
     }
 
     /// The items.

@@ -142,13 +142,13 @@ pub fn resubmit(
 {
     let start = started(alloc, log, inputs)?;
     let Made {
-        rows,
+        mut rows,
         store,
         steps,
         peak,
         trace,
     } = remake(alloc, &*runnable, &start, &*log, &*from, &*inputs, schedule)?;
-    let finished = runnable.record(alloc, start, inputs, rows, &store)?;
+    let finished = runnable.record(alloc, start, inputs, &mut rows, &store)?;
     let cost = match cost_within(&finished, 0) {
         Some(cost) => cost,
         None => return Err(DriveFault::TooLarge),

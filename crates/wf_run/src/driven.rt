@@ -14,7 +14,7 @@ use wf_val::Schedule;
 /// those that its actions mean, whatever the schedule. It leaves its other lists.
 pub(crate) fn driven(
     alloc: Global,
-    making: Making<'_, Actions<'_>>,
+    mut making: Making<'_, Actions<'_>>,
     schedule: &Schedule,
     spent: u64,
     traced: bool,
@@ -27,7 +27,6 @@ pub(crate) fn driven(
     ensures few { IfOk result (λ m. AreFew m.steps (price making.entry.0)) }
     ensures large { IfErr result (λ f. f ≢ DriveFault.Memory → IsTooMuch spent (price making.entry.0)) }
 {
-    let mut making = making;
     let Driven { steps, peak, trace } = drive(alloc, &mut making, schedule, spent, traced)?;
     let (rows, store) = given_up(making, lists);
     Ok(Made {

@@ -71,7 +71,7 @@ pub fn run(
     ensures large { IfErr result (λ f. f ≢ DriveFault.Memory → IsTooMuch spent (meant_cost runnable.now.checked.now start inputs.now)) }
 {
     let Made {
-        rows,
+        mut rows,
         store,
         steps,
         peak,
@@ -79,7 +79,8 @@ pub fn run(
     } = make(
         alloc, runnable, &start, inputs, schedule, spent, traced, lists,
     )?;
-    let finished = runnable.record(alloc, start, inputs, rows, &store)?;
+    let finished = runnable.record(alloc, start, inputs, &mut rows, &store)?;
+    lists.keep_rows(rows);
     let cost = match cost_within(&finished, spent) {
         Some(cost) => cost,
         None => return Err(DriveFault::TooLarge),

@@ -29,11 +29,11 @@ impl<'a> Runnable<'a> {
         wf_actions::a_record_is_of_the_table();
         is_planned(self);
         let actions = Actions::of(self.ready, &start, inputs);
-        let (rows, store) = given_up(
+        let (mut rows, store) = given_up(
             Making::again(&actions, self.plan, rest),
             &mut Lists::new(alloc),
         );
-        let record = self.record(alloc, start, inputs, rows, &store)?;
+        let record = self.record(alloc, start, inputs, &mut rows, &store)?;
         Ok(record)
     }
 }

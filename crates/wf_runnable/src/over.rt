@@ -8,7 +8,7 @@ use wf_opening::{Decision, Verdict};
 use wf_record::Row;
 
 /// The lists that one run leaves for the next (`Spare`).
-pub type Lists = Spare<Begun, Decision, Verdict>;
+pub type Lists = Spare<Row, Begun, Decision, Verdict>;
 
 /// The rows and the last writers of a run in which nothing may happen any more. It leaves its other lists.
 pub fn given_up(making: Making<'_, Actions<'_>>, lists: &mut Lists) -> (Rows<Row>, Store)

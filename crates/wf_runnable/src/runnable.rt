@@ -47,17 +47,17 @@ impl<'a> Runnable<'a> {
         }
     }
 
-    /// The record of a run that has these rows and last writers, once nothing may happen any more.
+    /// The record of a run that has these rows and last writers, once nothing may happen any more. The rows are taken out of their list.
     pub fn record(
         &self,
         alloc: Global,
         start: Start,
         inputs: &Inputs,
-        rows: Rows<Row>,
+        rows: &mut Rows<Row>,
         store: &Store,
     ) -> Result<Record, AllocError>
-        requires { IsEnded self.now.checked.now start inputs.now rows.0 store.now.0 }
-        ensures { IfOk result (λ r. record_tree r ≡ record_left self.now.checked.now start inputs.now rows.0) }
+        requires { IsEnded self.now.checked.now start inputs.now rows.old.0 store.now.0 }
+        ensures { IfOk result (λ r. record_tree r ≡ record_left self.now.checked.now start inputs.now rows.old.0) }
     {
         let left = self.ends.left(alloc, &start, inputs, rows, store)?;
         Ok(left.record(self.checked.def.digest, start))

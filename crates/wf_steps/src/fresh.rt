@@ -102,7 +102,7 @@ impl<'a, A: Acts> State<'a, A> {
         alloc: Global,
         acts: &'a A,
         plan: &'a Plan,
-        spare: &mut Spare<A::Begun, A::Decision, A::Verdict>,
+        spare: &mut Spare<A::Row, A::Begun, A::Decision, A::Verdict>,
     ) -> Result<State<'a, A>, AllocError>
         requires planned { IsPlanned (A.graph acts.now) (plan_tree plan.now) }
         requires instance { IsInstance (A.graph acts.now) (A.source acts.now) (A.depth acts.now) }
@@ -110,7 +110,7 @@ impl<'a, A: Acts> State<'a, A> {
         ensures first { IfOk result (λ s. shown A.row_tree A.begun_tree A.decision_tree A.verdict_tree s.1 ≡ fresh) }
         ensures lists { IfOk result (λ s. s.1 ≡ ([], ([], ([], [])))) }
     {
-        let rows = Roomy::new(alloc);
+        let rows = taken(alloc, &mut spare.rows);
         let store = Roomy::new(alloc);
         let running = taken(alloc, &mut spare.running);
         let opens = taken(alloc, &mut spare.opens);

@@ -88,7 +88,7 @@ impl<'a, A: Acts> State<'a, A> {
     /// The rows and the last writers. The state is given up, and leaves its other lists, if it has few rows.
     pub fn into_parts(
         self,
-        spare: &mut Spare<A::Begun, A::Decision, A::Verdict>,
+        spare: &mut Spare<A::Row, A::Begun, A::Decision, A::Verdict>,
     ) -> (Rows<A::Row>, Store)
         ensures rows { result.0.0 ≡ self.entry.1.0 }
         ensures store { result.1.0 ≡ self.entry.1.1.1.1 }
@@ -105,13 +105,11 @@ impl<'a, A: Acts> State<'a, A> {
         } = self;
         // What many rows took is let go before the record is made.
         if rows.len() < MANY {
-            *spare = Spare {
-                running,
-                opens,
-                waits,
-                lacks,
-                ready,
-            };
+            spare.running = running;
+            spare.opens = opens;
+            spare.waits = waits;
+            spare.lacks = lacks;
+            spare.ready = ready;
         }
         (rows, store)
     }

@@ -6,4 +6,4 @@ use Rattle.wf_record.proofs.line.put_digest_member.Goals as goal
 -- no digit is escaped
 pub put_plain-requires : goal.put_plain-requires
 put_plain-requires c =
-    subst (λ d. flat_map escaped d ≡ d) (sym c.in-Ok.ensures.written) (digits_are_plain c.args.digest.now c.fits-digest)
+    subst (λ d. flat_map escaped d ≡ d) (sym c.of.ensures) (digits_are_plain c.args.digest.now c.fits-digest)

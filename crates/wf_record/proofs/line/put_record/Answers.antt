@@ -7,16 +7,16 @@ pub returns : goal.returns
 unfolding record_pieces
 returns c =
     rw (
-      c.in_ok-extend_from_slice-2.ensures.items,
-      c.in_ok-put_member-5.ensures,
+      c.in_ok-extend_from_slice-3.ensures.items,
+      c.in_ok-put_member-4.ensures,
       c.in_ok-put_text_member-2.ensures,
       c.in_ok-put_text_member.ensures,
       c.in_ok-put_list.ensures,
-      c.in_ok-extend_from_slice.ensures.items,
-      c.in_ok-put_member-4.ensures,
-      c.in_ok-put_object_member.ensures,
+      c.in_ok-extend_from_slice-2.ensures.items,
       c.in_ok-put_member-3.ensures,
+      c.in_ok-put_object_member.ensures,
       c.in_ok-put_member-2.ensures,
+      c.in_ok-extend_from_slice.ensures.items,
       c.in_ok-put_member.ensures,
       c.in_ok-put_digest_member.ensures,
       c.as_slice.ensures.items,
