@@ -1,5 +1,5 @@
 //! What a run leaves.
-ghost use Rattle.std.specs.Prelude.{◌≡◌, ◌+◌, [], IfOk, map, option_map, sum_by};
+ghost use Rattle.std.specs.Prelude.{◌≡◌, ◌+◌, [], IfOk, OnOk, map, option_map, sum_by};
 ghost use Rattle.wf_answers.specs.InputsSeen.{inputs_tree};
 ghost use Rattle.wf_asks.specs.Known.{store_in};
 ghost use Rattle.wf_def.specs.ActionTree.{actions_in};
@@ -232,6 +232,7 @@ impl<'a> Ends<'a> {
         requires { AreWhole (def_tree self.now.checked.now.def) (rows_seen rows.old.0) }
         ensures rows { IfOk result (λ there. map row_tree there ≡ rows_of (def_tree self.now.checked.now.def) (rows_seen rows.old.0)) }
         ensures cost { IfOk result (λ there. sum_by row_cost (map row_tree there) ≡ sum_by cost_of rows.old.0) }
+        ensures none { OnOk result (rows.new.0 ≡ []) }
     {
         self.checked.def.always_read();
         wf_sight_laws::listed_rows_stand_for_the_table();
@@ -244,7 +245,7 @@ impl<'a> Ends<'a> {
     }
 
     /// What a run leaves that was started so, once nothing may happen any more, whether it was started anew or made from an older one: from
-    /// its rows, which are taken out of their list, and from who wrote last to each variable.
+    /// its rows, which are taken out of their list, and from who wrote last to each variable. After an error they may be gone.
     pub fn left(
         &self,
         alloc: Global,
@@ -261,6 +262,7 @@ impl<'a> Ends<'a> {
             ≡ record_of_table (def_tree self.now.checked.now.def) (fresh (start_tree start.now) (inputs_tree inputs.now))
             (rows_seen rows.old.0)) }
         ensures cost { IfOk result (λ l. sum_by row_cost (left_tree l).rows ≡ sum_by cost_of rows.old.0) }
+        ensures none { OnOk result (rows.new.0 ≡ []) }
     {
         let ending = self.ending(alloc, start, inputs, &*rows, store)?;
         let response = self.response(alloc, &*rows)?;

@@ -3,7 +3,7 @@ use Rattle.std.proofs.Common.{◌≡◌, ◌<◌, ◌≤◌, ◌+◌, ◌-◌, �
 use Rattle.std.proofs.lemmas.List.Edits.{length-insert, length-remove, insert-append_left, insert-append_right, remove-append_left, remove-append_right}
 use Rattle.std.proofs.lemmas.List.{set-append_left, set-append_right}
 use Rattle.std.proofs.lemmas.Option.{none-some}
-use Rattle.wf_room.specs.Cells.{held, all_cells, AreEven, AreFull, IsLastShort, HasHole}
+use Rattle.wf_room.specs.Cells.{all_cells, AreEven, AreFull, IsLastShort, HasHole}
 use native.Mathlib.Numerals.{unary_clauses}
 
 module _ {X : Type 0} where
@@ -331,19 +331,6 @@ pub or-none : {X : Type 0} (xs : List (Option X)) (i : ℕ) (x : Option X) → s
 or-none [] i x is = absurd (none-some x is)
 or-none (y ∷ ys) zero x is = let same : y ≡ x = Prim.cc in same
 or-none (y ∷ ys) (suc i) x is = or-none ys i x is
-
-pub held-append : {X : Type 0} (front back : List (Option X)) → held (front ++ back) ≡ held front ++ held back
-held-append [] back = refl
-held-append (None ∷ cells) back = held-append cells back
-held-append (Some x ∷ cells) back = ap (λ ys. x ∷ ys) (held-append cells back)
-
--- the items of one chunk more
-pub held-more : {X : Type 0} (chunks : List (List (Option X) × ℕ)) (c : List (Option X) × ℕ)
-    → held (all_cells (chunks ++ c ∷ [])) ≡ held (all_cells chunks) ++ held c.0
-held-more [] c = ap held (append-nil c.0)
-held-more (d ∷ ds) c =
-    held-append d.0 (all_cells (ds ++ c ∷ [])) ∙ ap (λ xs. held d.0 ++ xs) (held-more ds c)
-    ∙ sym (append_assoc (held d.0) (held (all_cells ds)) (held c.0)) ∙ ap (λ xs. xs ++ held c.0) (sym (held-append d.0 (all_cells ds)))
 
 -- what holds anyway holds after an error
 pub if_failed : {A E P : Type 0} (r : Result A E) → P → OnErr r P

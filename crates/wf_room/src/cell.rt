@@ -57,12 +57,4 @@ impl<T> Cell<T> {
     {
         *self.content = Some(item);
     }
-
-    /// What is held; the cell is given up.
-    pub(crate) fn into_content(self) -> Option<T>
-        ensures { result ≡ self }
-    {
-        let Cell { content } = self;
-        Box::into_inner(content)
-    }
 }

@@ -1,6 +1,6 @@
 //! Many cells, in chunks of one size.
-ghost use Rattle.std.specs.Prelude.{◌≡◌, ◌<◌, ◌≤◌, ◌+◌, ◌*◌, ◌^◌, ◌++◌, ◌∷◌, [], length, IfOk, OnOk, OnErr, Some, None, insert, remove, slice_get, slice_index_or, slice_set, true, false};
-ghost use Rattle.wf_room.specs.Cells.{held, all_cells, AreEven, AreFull, IsLastShort, HasHole};
+ghost use Rattle.std.specs.Prelude.{◌≡◌, ◌<◌, ◌≤◌, ◌+◌, ◌*◌, ◌^◌, ◌++◌, ◌∷◌, [], length, OnOk, OnErr, Some, None, insert, remove, slice_get, slice_index_or, slice_set, true, false};
+ghost use Rattle.wf_room.specs.Cells.{all_cells, AreEven, AreFull, IsLastShort, HasHole};
 
 use crate::cell::Cell;
 use crate::chunk::Chunk;
@@ -112,24 +112,6 @@ impl<T> Cells<T> {
         let cell = take_cell(&mut self.chunks, hole, outside);
         move_hole(&mut self.chunks, hole, goal);
         put_cell(&mut self.chunks, goal, inside, cell);
-    }
-
-    /// The items that are held, in order.
-    pub(crate) fn into_items(self, count: usize) -> Result<Vec<T>, AllocError>
-    where
-        T: Drop,
-        ensures { IfOk result (λ items. items.items ≡ held self) }
-    {
-        let Cells {
-            chunks,
-            count: _,
-            alloc,
-        } = self;
-        let mut items = Vec::with_capacity(alloc, count)?;
-        for chunk in chunks {
-            chunk.give_items(&mut items)?;
-        }
-        Ok(items)
     }
 }
 

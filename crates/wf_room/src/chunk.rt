@@ -1,6 +1,5 @@
 //! Cells side by side.
 ghost use Rattle.std.specs.Prelude.{◌≡◌, ◌<◌, ◌≤◌, ◌++◌, ◌∷◌, [], length, OnOk, OnErr, Some, None, insert, remove, slice_get, slice_set};
-ghost use Rattle.wf_room.specs.Cells.{held};
 
 use crate::cell::Cell;
 use std::alloc::{AllocError, Global};
@@ -147,21 +146,5 @@ impl<T> Chunk<T> {
         ensures { self.new.0 ≡ self.old.0 ++ cell ∷ [] }
     {
         self.cells.push_back_reserved(cell);
-    }
-
-    /// Adds the items that are held, in order, to others.
-    pub(crate) fn give_items(self, items: &mut Vec<T>) -> Result<(), AllocError>
-    where
-        T: Drop,
-        ensures { OnOk result (items.new.items ≡ items.old.items ++ held self.0) }
-    {
-        let Chunk { cells } = self;
-        let mut cells = cells;
-        while let Some(cell) = cells.pop_front() {
-            if let Some(item) = cell.into_content() {
-                items.push(item)?;
-            }
-        }
-        Ok(())
     }
 }

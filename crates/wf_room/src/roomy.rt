@@ -5,11 +5,10 @@ ghost use Rattle.wf_lists.specs.KeyOrder.{IsInKeyOrder, find_key, put_key, witho
 use crate::shelf::Shelf;
 use std::alloc::{AllocError, Global};
 use std::marker::Model;
-use std::mem::replace;
 use wf_lists::Keyed;
 
 // From so many items on no cells are kept when all are taken out.
-const MANY: u64 = 64;
+const MANY: usize = 64;
 
 /// Items in ascending order of their keys, each key once; seen as their list, and for how many more there is room.
 #[derive(Drop)]
@@ -124,17 +123,18 @@ impl<T: Keyed> Roomy<T> {
         }
     }
 
-    /// Takes all items out, in order. Few leave their cells for others; what many took is let go. After an error they may be gone.
+    /// Takes all items out, in order. Few leave their cells for others; the cells of many are let go.
     pub fn take_all(&mut self, alloc: Global) -> Result<Vec<T>, AllocError>
     where
         T: Drop,
         ensures items { IfOk result (λ items. items.items ≡ self.old.0) }
         ensures none { OnOk result (self.new.0 ≡ []) }
+        ensures err { OnErr result (self.new.0 ≡ self.old.0) }
     {
-        if self.items.len() < MANY {
-            return self.items.take_all(alloc);
+        let items = self.items.take_all(alloc)?;
+        if items.len() >= MANY {
+            self.items = Shelf::new(alloc);
         }
-        let Roomy { items } = replace(self, Roomy::new(alloc));
-        items.into_items()
+        Ok(items)
     }
 }

@@ -11,10 +11,16 @@ use wf_lists::Keyed;
 
 /// The same as `Still`, which is made once room is asked for: until then no memory is taken. It is moved as one pointer: a state of a run
 /// has seven such lists, and is moved a few times before its first event.
-#[derive(Drop)]
 pub(crate) struct Shelf<T> {
     still: Option<Box<Still<T>>>,
     alloc: Global,
+}
+
+// By hand, so that to let a list go is one call for a check above, whether or not room was asked for.
+impl<T: Drop> Drop for Shelf<T> {
+    fn drop(self) {
+        let Shelf { still: _, alloc: _ } = self;
+    }
 }
 
 impl<T> Model for Shelf<T> {
@@ -129,19 +135,6 @@ impl<T> Shelf<T> {
     {
         match &mut self.still {
             Some(still) => still.take_all(alloc),
-            None => Ok(Vec::new(alloc)),
-        }
-    }
-
-    /// The items; their cells are given up.
-    pub(crate) fn into_items(self) -> Result<Vec<T>, AllocError>
-    where
-        T: Drop,
-        ensures { IfOk result (λ items. items.items ≡ self.0) }
-    {
-        let Shelf { still, alloc } = self;
-        match still {
-            Some(still) => Box::into_inner(still).into_items(),
             None => Ok(Vec::new(alloc)),
         }
     }

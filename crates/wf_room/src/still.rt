@@ -135,20 +135,6 @@ impl<T> Still<T> {
         items.reverse();
         Ok(items)
     }
-
-    /// The items.
-    pub(crate) fn into_items(self) -> Result<Vec<T>, AllocError>
-    where
-        T: Drop,
-        ensures { IfOk result (λ items. items.items ≡ self.0) }
-    {
-        let Still {
-            cells,
-            count,
-            last: _,
-        } = self;
-        cells.into_items(count)
-    }
 }
 
 impl<T: Keyed> Still<T> {

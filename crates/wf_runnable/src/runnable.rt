@@ -1,5 +1,5 @@
 //! A definition that was made ready for its runs.
-ghost use Rattle.std.specs.Prelude.{◌≡◌, IfOk};
+ghost use Rattle.std.specs.Prelude.{◌≡◌, [], IfOk, OnOk};
 ghost use Rattle.wf_record.specs.Seen.{record_tree};
 ghost use Rattle.wf_runnable.specs.Runnable.{IsEnded, Plans, record_left};
 
@@ -47,7 +47,8 @@ impl<'a> Runnable<'a> {
         }
     }
 
-    /// The record of a run that has these rows and last writers, once nothing may happen any more. The rows are taken out of their list.
+    /// The record of a run that has these rows and last writers, once nothing may happen any more. The rows are taken out of their list,
+    /// and after an error they may be gone.
     pub fn record(
         &self,
         alloc: Global,
@@ -57,7 +58,8 @@ impl<'a> Runnable<'a> {
         store: &Store,
     ) -> Result<Record, AllocError>
         requires { IsEnded self.now.checked.now start inputs.now rows.old.0 store.now.0 }
-        ensures { IfOk result (λ r. record_tree r ≡ record_left self.now.checked.now start inputs.now rows.old.0) }
+        ensures record { IfOk result (λ r. record_tree r ≡ record_left self.now.checked.now start inputs.now rows.old.0) }
+        ensures none { OnOk result (rows.new.0 ≡ []) }
     {
         let left = self.ends.left(alloc, &start, inputs, rows, store)?;
         Ok(left.record(self.checked.def.digest, start))

@@ -6,11 +6,11 @@ use Rattle.wf_run.proofs.again.resubmit.Goals as goal
 
 pub returns-in-None-clause-large : goal.returns-in-None-clause-large
 returns-in-None-clause-large c = λ other.
-    subst (λ r. IsTooMuch 0 (cost r)) (c.in_ok-finished.ensures ∙ c.in_ok-rows.ensures.meant) (c.cost_within.ensures.large c.in-None.is)
+    subst (λ r. IsTooMuch 0 (cost r)) (c.in_ok-finished.ensures.record ∙ c.in_ok-rows.ensures.meant) (c.cost_within.ensures.large c.in-None.is)
 
 pub returns-clause-told : goal.returns-clause-told
 returns-clause-told c =
     let m = c.in_ok-rows.field-0 in
     subst (λ r. IsTheResubmission c.args.runnable.now.checked.now c.args.log.now c.args.inputs.now c.args.from.now c.args.schedule.now
     (record { events = m.trace.items; left = r; steps = m.steps; peak = m.peak }))
-    (sym (c.in_ok-finished.ensures ∙ c.in_ok-rows.ensures.meant)) c.in_ok-rows.ensures.run
+    (sym (c.in_ok-finished.ensures.record ∙ c.in_ok-rows.ensures.meant)) c.in_ok-rows.ensures.run

@@ -62,6 +62,6 @@ returns c =
     subst (λ k. ActFor a (definition k) e (sources.source (definition k) e)) c.args.self.now.readied c.of-actions.ensures.acts in
     let rows = c.given_up-rows.result.0.0 in
     let store = c.given_up-rows.result.1.0 in
-    c.in_ok-record.ensures
+    c.in_ok-record.ensures.record
     ∙ (record_is d e (sources.source d e) a act rows store (subst (λ k. AreLeft k rows store) c.again.ensures.acts c.given_up-rows.ensures)
     ∙ sym (c.a_record_is_of_the_table.ensures.record d e))
