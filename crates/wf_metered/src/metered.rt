@@ -11,8 +11,11 @@ ghost use Rattle.wf_meter.specs.PlanSeen.{plan_tree};
 ghost use Rattle.wf_meter.specs.Tables.{event_tree};
 ghost use Rattle.wf_meter.specs.Cost.{opens_cost, rows_cost, running_cost};
 ghost use Rattle.wf_steps.specs.Kept.{Goes, IsEnabled, IsPlanned};
+ghost use Rattle.wf_steps.specs.Rest.{IsRest};
 ghost use Rattle.wf_steps.specs.Shown.{shown};
+ghost use Rattle.wf_metered.specs.Sums.{AreSumsOf};
 
+use crate::rest::MeteredRest;
 use crate::sums::{Moves, Sums, moved, parts_at};
 use std::alloc::{AllocError, Global};
 use std::marker::Model;
@@ -21,11 +24,21 @@ use wf_meter::{EventAt, Plan, decisions_total, rows_total, total, turns_total};
 use wf_steps::{Spare, State};
 
 /// A state, and what it costs.
-#[derive(Drop)]
 pub struct Metered<'a, A: Acts> {
     pub(crate) state: State<'a, A>,
     pub(crate) plan: &'a Plan,
     pub(crate) sums: Sums,
+}
+
+// By hand, so that to let a state go is one call for a check above.
+impl<'a, A: Acts> Drop for Metered<'a, A> {
+    fn drop(self) {
+        let Metered {
+            state: _,
+            plan: _,
+            sums: _,
+        } = self;
+    }
 }
 
 impl<'a, A: Acts> Model for Metered<'a, A> {
@@ -114,7 +127,12 @@ impl<'a, A: Acts> Metered<'a, A> {
         ensures rows { result.0.0 ≡ self.entry.1.0 }
         ensures store { result.1.0 ≡ self.entry.1.1.1.1 }
     {
-        self.state.into_parts(spare)
+        let Metered {
+            state,
+            plan: _,
+            sums: _,
+        } = self;
+        state.into_parts(spare)
     }
 
     /// What the state costs: its rows, running leaves and open containers; cut to the greatest u64.
@@ -156,5 +174,50 @@ impl<'a, A: Acts> Metered<'a, A> {
         let after = parts_at(&self.state, self.plan, &event.instance, moves, &mut probe);
         self.sums = moved(self.sums, before, after);
         Ok(())
+    }
+
+    /// The state is put aside with what it costs.
+    pub fn rest(self) -> MeteredRest<A::Row, A::Begun, A::Decision, A::Verdict>
+        ensures lists { result.0.0 ≡ self.entry.1 }
+        ensures kept { IsRest A.row_tree A.begun_tree A.decision_tree A.verdict_tree (A.graph self.entry.0) (A.source self.entry.0)
+            (A.depth self.entry.0) (A.writes self.entry.0) result.0 }
+        ensures sums { AreSumsOf A.row_tree A.begun_tree A.decision_tree A.verdict_tree (A.graph self.entry.0) (A.cost_of_row self.entry.0)
+            (A.weight_of_begun self.entry.0) (A.source self.entry.0).items (A.weight_of_decision self.entry.0) result.0.0.0 result.0.0.1.0
+            result.0.0.1.1.0 result.1 }
+    {
+        self.state.is_reached();
+        self.state.is_listed();
+        let Metered {
+            state,
+            plan: _,
+            sums,
+        } = self;
+        MeteredRest {
+            rest: state.rest(),
+            sums,
+        }
+    }
+
+    /// A state that was put aside goes on, with actions by which it is one of a run too, and costs what it did.
+    pub fn again(
+        acts: &'a A,
+        plan: &'a Plan,
+        rest: MeteredRest<A::Row, A::Begun, A::Decision, A::Verdict>,
+    ) -> Metered<'a, A>
+        requires planned { IsPlanned (A.graph acts.now) (plan_tree plan.now) }
+        requires kept { IsRest A.row_tree A.begun_tree A.decision_tree A.verdict_tree (A.graph acts.now) (A.source acts.now)
+            (A.depth acts.now) (A.writes acts.now) rest.0 }
+        requires sums { AreSumsOf A.row_tree A.begun_tree A.decision_tree A.verdict_tree (A.graph acts.now) (A.cost_of_row acts.now)
+            (A.weight_of_begun acts.now) (A.source acts.now).items (A.weight_of_decision acts.now) rest.0.0.0 rest.0.0.1.0
+            rest.0.0.1.1.0 rest.1 }
+        ensures acts { result.0 ≡ acts.now }
+        ensures lists { result.1 ≡ rest.0.0 }
+    {
+        let (rest, sums) = rest.into_parts();
+        Metered {
+            state: State::again(acts, plan, rest),
+            plan,
+            sums,
+        }
     }
 }

@@ -18,11 +18,21 @@ use wf_talk::Want;
 use wf_val::Address;
 
 /// Attempts that wait, in the order of their keys, and those of them that are new.
-#[derive(Drop)]
 pub struct Waits {
     by_key: Sorted<Waiting>,
     by_place: Roomy<EventAt>,
     fresh: Roomy<Fresh>,
+}
+
+// By hand, so that to let them go is one call for a check above.
+impl Drop for Waits {
+    fn drop(self) {
+        let Waits {
+            by_key: _,
+            by_place: _,
+            fresh: _,
+        } = self;
+    }
 }
 
 impl Model for Waits {
