@@ -1,5 +1,5 @@
 // What `session` does before its talk: each function follows the plan of its name, and reads at most one file.
-ghost use Rattle.std.specs.Prelude.{◌≡◌, ◌≢◌, IfOk, IfErr, Ok};
+ghost use Rattle.std.specs.Prelude.{◌≡◌, ◌≢◌, IfOk, IfErr, Ok, length};
 ghost use Rattle.wf_answers.specs.InputsSeen.{inputs_tree};
 ghost use Rattle.wf_files.specs.Fault.{fault_line};
 ghost use Rattle.wf_outside.specs.Outside.{Held};
@@ -7,7 +7,7 @@ ghost use Rattle.wf_reading.specs.ReadSeen.{def_tree};
 ghost use Rattle.wf_told.specs.Records.{starts_of};
 ghost use Rattle.wf_top.specs.Opening.{MayOpen, Opens};
 ghost use Rattle.wf_top.specs.Plan.{Says};
-ghost use Rattle.wf_top.specs.Session.{joined, many_runs, session, started};
+ghost use Rattle.wf_top.specs.Session.{joined, many_runs, no_run, session, started};
 ghost use Rattle.wf_top.specs.Trigger.{trigger_line};
 ghost use Rattle.wf_trigger.specs.StartsSeen.{starts_seen};
 
@@ -80,29 +80,54 @@ fn say_no_start(alloc: Global, fault: TriggerFault) -> Result<Opened, Stop>
     }
 }
 
-// Leads to the talk of the run that starts, if it is one alone.
+// Says that no run starts.
+fn say_none(alloc: Global) -> Result<Opened, Stop>
+    ensures opened { IfOk result (λ opened. (held : Held) → MayOpen held (Says Verdict.Done no_run) opened) }
+    ensures stopped { IfErr result (λ stop. stop ≡ Stop.Memory) }
+{
+    Ok(Opened::Said(Said {
+        verdict: Verdict::Done,
+        text: NO_RUN.to_vec(alloc)?,
+    }))
+}
+
+// Says that so many runs start.
+fn say_many(alloc: Global, count: u64) -> Result<Opened, Stop>
+    ensures opened { IfOk result (λ opened. (held : Held) → MayOpen held (Says Verdict.Inputs (many_runs count)) opened) }
+    ensures stopped { IfErr result (λ stop. stop ≡ Stop.Memory) }
+{
+    Ok(Opened::Said(Said {
+        verdict: Verdict::Inputs,
+        text: many_runs(alloc, count)?,
+    }))
+}
+
+// Leads to the talk of the run that starts alone.
+fn say_one(alloc: Global, checked: Checked, inputs: Inputs, starts: &Starts) -> Result<Opened, Stop>
+    requires { length (starts_seen starts.now) ≡ 1 }
+    ensures opened { IfOk result (λ opened. (held : Held) → MayOpen held (started (def_tree checked.def) (inputs_tree inputs)
+        (Ok (starts_seen starts.now))) opened) }
+    ensures stopped { IfErr result (λ stop. stop ≡ Stop.Memory) }
+{
+    let start = starts.start(alloc, 0)?;
+    Ok(Opened::Talk {
+        checked,
+        start,
+        inputs,
+    })
+}
+
+// Leads to the talk of the run that starts, if it is one alone. What is said where it isn't is made by calls that aren't lent the
+// definition and the inputs: so these are let go once an arm, and not where memory runs out too.
 fn started(alloc: Global, checked: Checked, inputs: Inputs, starts: &Starts) -> Result<Opened, Stop>
     ensures opened { IfOk result (λ opened. (held : Held) → MayOpen held (started (def_tree checked.def) (inputs_tree inputs)
         (Ok (starts_seen starts.now))) opened) }
     ensures stopped { IfErr result (λ stop. stop ≡ Stop.Memory) }
 {
     match starts.len() {
-        0 => Ok(Opened::Said(Said {
-            verdict: Verdict::Done,
-            text: NO_RUN.to_vec(alloc)?,
-        })),
-        1 => {
-            let start = starts.start(alloc, 0)?;
-            Ok(Opened::Talk {
-                checked,
-                start,
-                inputs,
-            })
-        }
-        count => Ok(Opened::Said(Said {
-            verdict: Verdict::Inputs,
-            text: many_runs(alloc, count)?,
-        })),
+        0 => say_none(alloc),
+        1 => say_one(alloc, checked, inputs, starts),
+        count => say_many(alloc, count),
     }
 }
 
