@@ -1,11 +1,14 @@
 //! A run that is being made.
 ghost use Rattle.std.specs.Prelude.{◌≡◌, ◌+◌, [], ℕ, IfOk};
 ghost use Rattle.wf_val.specs.Cut.{cut_u64};
+ghost use Rattle.wf_lists.specs.KeyOrder.{IsInKeyOrder};
+ghost use Rattle.wf_layers.specs.Address.{Address};
 ghost use Rattle.wf_layers.specs.Laws.{IsInstance};
-ghost use Rattle.wf_layers.specs.Machine.{fresh};
+ghost use Rattle.wf_layers.specs.Machine.{IsOver, fresh};
+ghost use Rattle.wf_layers.specs.Meaning.{meaning};
 ghost use Rattle.wf_layers.specs.Variables.{IsLastWritten};
-ghost use Rattle.wf_kept.specs.Reached.{IsResumption};
-ghost use Rattle.wf_asks.specs.Instances.{rows_in};
+ghost use Rattle.wf_kept.specs.Reached.{IsReached, IsResumption};
+ghost use Rattle.wf_asks.specs.Instances.{instance_cmp, rows_in};
 ghost use Rattle.wf_asks.specs.Known.{store_in, writer};
 ghost use Rattle.wf_metered.specs.PlanSeen.{plan_tree};
 ghost use Rattle.wf_metered.specs.Tables.{event_tree};
@@ -98,6 +101,33 @@ impl<'a, A: Acts> Making<'a, A> {
             (shown A.row_tree A.begun_tree A.decision_tree A.verdict_tree self.now.1) result.now.0 }
     {
         self.state().ready()
+    }
+
+    /// Tells a caller that events lead to it, that what it keeps is listed once, in the order of instances, and which its last writers are;
+    /// and does nothing.
+    pub fn is_known(&self)
+        ensures reached { IsReached (A.graph self.now.0) (A.depth self.now.0) (A.source self.now.0)
+            (shown A.row_tree A.begun_tree A.decision_tree A.verdict_tree self.now.1) }
+        ensures rows { IsInKeyOrder instance_cmp (λ r. r.instance) self.now.1.0 }
+        ensures running { IsInKeyOrder instance_cmp (λ l. l.instance) self.now.1.1.0 }
+        ensures opens { IsInKeyOrder instance_cmp (λ o. o.instance) self.now.1.1.1.0 }
+        ensures last { (v : ℕ) → IsLastWritten (A.graph self.now.0) (A.source self.now.0) (writer (A.writes self.now.0) v)
+            (shown A.row_tree A.begun_tree A.decision_tree A.verdict_tree self.now.1).rows (store_in self.now.1.1.1.1 v) }
+    {
+        let kept = self.state();
+        kept.is_reached();
+        kept.is_listed();
+        kept.is_last();
+    }
+
+    /// Where nothing may happen any more, tells a caller that its rows are those that the definition means, and all of them; and does nothing.
+    pub fn is_whole(&self)
+        requires { IsOver (A.graph self.now.0) (A.source self.now.0)
+            (shown A.row_tree A.begun_tree A.decision_tree A.verdict_tree self.now.1) }
+        ensures { (x : Address) → (shown A.row_tree A.begun_tree A.decision_tree A.verdict_tree self.now.1).rows x
+            ≡ meaning (A.source self.now.0) (A.depth self.now.0) (A.graph self.now.0) x }
+    {
+        self.state().is_whole();
     }
 
     // What its rows, running leaves and open containers cost.

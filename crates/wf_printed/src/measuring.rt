@@ -66,8 +66,7 @@ fn made_ready(
     ensures too_large { IfErr result (λ f. f ≢ RunsFault.Memory → IsTooMuch 0 (meant_cost checked.now start inputs.now)) }
 {
     let ready = Ready::of(alloc, checked)?;
-    let ended = planned(alloc, &ready, inputs, schedule, start)?;
-    Ok(ended)
+    planned(alloc, &ready, inputs, schedule, start)
 }
 
 // The same, once it is ready but for its ends and its plan.
@@ -87,7 +86,7 @@ fn planned(
     let ends = Ends::of(alloc, ready.checked, &ready.places)?;
     let plan = plan(alloc, &ready.checked.def)?;
     let runnable = Runnable::of(ready, &ends, &plan);
-    let ended = ended(
+    ended(
         alloc,
         &runnable,
         inputs,
@@ -96,6 +95,5 @@ fn planned(
         start,
         0,
         &mut Lists::new(alloc),
-    )?;
-    Ok(ended)
+    )
 }

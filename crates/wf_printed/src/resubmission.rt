@@ -51,8 +51,7 @@ fn made_ready(
         → IsTooMuch 0 (resumed_cost checked.now log.now inputs.now from.now)) }
 {
     let ready = Ready::of(alloc, checked)?;
-    let ended = planned(alloc, &ready, log, from, inputs, schedule)?;
-    Ok(ended)
+    planned(alloc, &ready, log, from, inputs, schedule)
 }
 
 // The same, once it is ready but for its ends and its plan.
@@ -74,8 +73,7 @@ fn planned(
     let ends = Ends::of(alloc, ready.checked, &ready.places)?;
     let plan = plan(alloc, &ready.checked.def)?;
     let runnable = Runnable::of(ready, &ends, &plan);
-    let ended = resubmitted(alloc, &runnable, log, from, inputs, schedule)?;
-    Ok(ended)
+    resubmitted(alloc, &runnable, log, from, inputs, schedule)
 }
 
 // And once it is ready.

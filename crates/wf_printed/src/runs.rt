@@ -37,8 +37,7 @@ pub(crate) fn runs_text(
         &checked.def.triggers,
         inputs,
     )?;
-    let text = text_of(alloc, checked, inputs, schedule, traced, &starts)?;
-    Ok(text)
+    text_of(alloc, checked, inputs, schedule, traced, &starts)
 }
 
 // The text of the runs of these starts.
@@ -80,8 +79,7 @@ fn made_ready(
         → CostTooMuch checked.now inputs.now starts.now) }
 {
     let ready = Ready::of(alloc, checked)?;
-    let written = planned(alloc, &ready, inputs, schedule, traced, starts)?;
-    Ok(written)
+    planned(alloc, &ready, inputs, schedule, traced, starts)
 }
 
 // The same, once it is ready but for its ends and its plan.
@@ -102,10 +100,9 @@ fn planned(
     let plan = plan(alloc, &ready.checked.def)?;
     let runnable = Runnable::of(ready, &ends, &plan);
     let mut lists = Lists::new(alloc);
-    let written = all_written(
+    all_written(
         alloc, &runnable, inputs, schedule, traced, starts, &mut lists,
-    )?;
-    Ok(written)
+    )
 }
 
 // What is written of the runs of these starts, one after the other, each with the lists that the one before it left, and with the digits

@@ -15,8 +15,7 @@ pub fn given_up(making: Making<'_, Actions<'_>>, lists: &mut Lists) -> (Rows<Row
     requires { IsAtLast making.0 making.1 }
     ensures { AreLeft making.entry.0 result.0.0 result.1.0 }
 {
-    let kept = making.state();
-    kept.is_whole();
-    kept.is_last();
+    making.is_known();
+    making.is_whole();
     making.into_parts(lists)
 }

@@ -5,7 +5,7 @@ ghost use Rattle.wf_reading.specs.ReadSeen.{def_tree};
 ghost use Rattle.wf_trigger.specs.StartsSeen.{start_tree};
 ghost use Rattle.wf_session.specs.Conversed.{HasConversed};
 
-use crate::session::Session;
+use crate::session::{Given, Session};
 use std::alloc::Global;
 use wf_answers::Inputs;
 use wf_outside::{Sink, Source};
@@ -19,16 +19,15 @@ use wf_trigger::Start;
 fn begun<I: Source, O: Sink>(
     alloc: Global,
     runnable: &Runnable<'_>,
-    start: Start,
-    inputs: Inputs,
+    given: Given,
     input: &mut I,
     out: &mut O,
 ) -> u8
-    ensures { HasConversed (def_tree runnable.now.checked.now.def) (start_tree start) (inputs_tree inputs)
+    ensures { HasConversed (def_tree runnable.now.checked.now.def) (start_tree given.start) (inputs_tree given.inputs)
         (record { left = I.left input.old; unread = I.faults input.old; taken = O.taken out.old; unwritten = O.faults out.old })
         (record { left = I.left input.new; unread = I.faults input.new; taken = O.taken out.new; unwritten = O.faults out.new }) result }
 {
-    match Session::begin(alloc, runnable, start, inputs) {
+    match Session::begin(alloc, runnable, given) {
         Ok(session) => hold(alloc, session, input, out),
         Err(fault) => refuse::<Session<'_>, O>(out, fault),
     }
@@ -39,20 +38,19 @@ fn planned<I: Source, O: Sink>(
     alloc: Global,
     ready: &Ready<'_>,
     ends: &Ends<'_>,
-    start: Start,
-    inputs: Inputs,
+    given: Given,
     input: &mut I,
     out: &mut O,
 ) -> u8
     requires { ends.now.checked.now ≡ ready.now.checked.now }
-    ensures { HasConversed (def_tree ready.now.checked.now.def) (start_tree start) (inputs_tree inputs)
+    ensures { HasConversed (def_tree ready.now.checked.now.def) (start_tree given.start) (inputs_tree given.inputs)
         (record { left = I.left input.old; unread = I.faults input.old; taken = O.taken out.old; unwritten = O.faults out.old })
         (record { left = I.left input.new; unread = I.faults input.new; taken = O.taken out.new; unwritten = O.faults out.new }) result }
 {
     match plan(alloc, &ready.checked.def) {
         Ok(plan) => {
             let runnable = Runnable::of(ready, ends, &plan);
-            begun(alloc, &runnable, start, inputs, input, out)
+            begun(alloc, &runnable, given, input, out)
         }
         Err(_) => refuse::<Session<'_>, O>(out, StandFault::Memory),
     }
@@ -62,17 +60,16 @@ fn planned<I: Source, O: Sink>(
 fn made_ready<I: Source, O: Sink>(
     alloc: Global,
     ready: &Ready<'_>,
-    start: Start,
-    inputs: Inputs,
+    given: Given,
     input: &mut I,
     out: &mut O,
 ) -> u8
-    ensures { HasConversed (def_tree ready.now.checked.now.def) (start_tree start) (inputs_tree inputs)
+    ensures { HasConversed (def_tree ready.now.checked.now.def) (start_tree given.start) (inputs_tree given.inputs)
         (record { left = I.left input.old; unread = I.faults input.old; taken = O.taken out.old; unwritten = O.faults out.old })
         (record { left = I.left input.new; unread = I.faults input.new; taken = O.taken out.new; unwritten = O.faults out.new }) result }
 {
     match Ends::of(alloc, ready.checked, &ready.places) {
-        Ok(ends) => planned(alloc, ready, &ends, start, inputs, input, out),
+        Ok(ends) => planned(alloc, ready, &ends, given, input, out),
         Err(_) => refuse::<Session<'_>, O>(out, StandFault::Memory),
     }
 }
@@ -90,8 +87,9 @@ pub fn converse<I: Source, O: Sink>(
         (record { left = I.left input.old; unread = I.faults input.old; taken = O.taken out.old; unwritten = O.faults out.old })
         (record { left = I.left input.new; unread = I.faults input.new; taken = O.taken out.new; unwritten = O.faults out.new }) result }
 {
+    let given = Given { start, inputs };
     match Ready::of(alloc, checked) {
-        Ok(ready) => made_ready(alloc, &ready, start, inputs, input, out),
+        Ok(ready) => made_ready(alloc, &ready, given, input, out),
         Err(_) => refuse::<Session<'_>, O>(out, StandFault::Memory),
     }
 }

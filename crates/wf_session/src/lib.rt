@@ -10,6 +10,7 @@
 
 mod accept;
 mod conversing;
+mod known;
 mod missing;
 mod session;
 mod settle;

@@ -6,6 +6,7 @@ ghost use Rattle.wf_session.specs.Stood.{MayGoOn, Stands, run_with};
 ghost use Rattle.wf_session.specs.Waiting.{AreWaiting};
 ghost use Rattle.wf_waits.specs.Kept.{AreNew};
 
+use crate::known::is_known;
 use crate::settle::settle;
 use std::alloc::Global;
 use std::marker::Model;
@@ -19,13 +20,28 @@ use wf_talk::StandFault;
 use wf_trigger::Start;
 use wf_waits::Waits;
 
+/// What a run begins with, and the answers that have come since.
+pub(crate) struct Given {
+    pub(crate) start: Start,
+    pub(crate) inputs: Inputs,
+}
+
+// By hand, so that to let it go is one call for each function that has it.
+impl Drop for Given {
+    fn drop(self) {
+        let Given {
+            start: _,
+            inputs: _,
+        } = self;
+    }
+}
+
 /// A run that stands still where it needs an answer that isn't there: what it has come to, and which attempts wait. Once it has failed
 /// nothing is kept of it.
 #[derive(Drop)]
 pub struct Session<'a> {
     pub(crate) runnable: &'a Runnable<'a>,
-    pub(crate) start: Start,
-    pub(crate) inputs: Inputs,
+    pub(crate) given: Given,
     pub(crate) waits: Waits,
     pub(crate) rest: Option<Rest<Row, Begun, Decision, Verdict>>,
 }
@@ -46,9 +62,9 @@ impl<'a> Model for Session<'a> {
 
     ghost coded = { Prim.hlevel (codes, read.the_row.coded, coded_value, coded_member) };
 
-    ghost view = { λ s. (s.runnable.now.checked.now, (s.start, (s.inputs, (s.waits.0, s.rest)))) };
+    ghost view = { λ s. (s.runnable.now.checked.now, (s.given.start, (s.given.inputs, (s.waits.0, s.rest)))) };
 
-    ghost invariant = { λ s. IfSome s.rest (λ rest. Stands (run_with s.runnable.now.checked.now s.start s.inputs) rest s.waits.0) };
+    ghost invariant = { λ s. IfSome s.rest (λ rest. Stands (run_with s.runnable.now.checked.now s.given.start s.given.inputs) rest s.waits.0) };
 }
 
 // A run begins, and goes on until it needs an answer that isn't there.
@@ -67,7 +83,7 @@ pub(crate) fn begun(
     let actions = Actions::of(runnable.ready, start, inputs);
     let mut making = Making::fresh(alloc, &actions, runnable.plan, &mut Lists::new(alloc))?;
     settle(alloc, &mut making, waits)?;
-    making.state().is_last();
+    is_known(&making);
     Ok(making.rest())
 }
 
@@ -93,6 +109,6 @@ pub(crate) fn gone_on(
     actions.is_instance();
     let mut making = Making::again(&actions, runnable.plan, rest);
     settle(alloc, &mut making, waits)?;
-    making.state().is_last();
+    is_known(&making);
     Ok(making.rest())
 }

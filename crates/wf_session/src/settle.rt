@@ -10,6 +10,7 @@ ghost use Rattle.wf_waits.specs.Kept.{AreNew};
 ghost use Rattle.wf_session.specs.Settled.{AreHeld, HasLooked, IsHeld, WillHappen};
 ghost use Rattle.wf_session.specs.Waiting.{AreAllKept, AreWaiting};
 
+use crate::known::{is_known, ready};
 use crate::missing::missing;
 use std::alloc::{AllocError, Global};
 use wf_drive::Machine;
@@ -34,8 +35,7 @@ fn look(
     ensures happens { IfOk result (λ found. IfSome found (λ e. WillHappen (going making.now.0) (moment making.now.1) (event_tree e))) }
     ensures held { IfOk result (λ found. found ≡ None → IsHeld (going making.now.0) (moment making.now.1) ready.now.0 waits.new.0 place) }
 {
-    let kept = making.state();
-    kept.is_reached();
+    is_known(making);
     let event = ready.at(place);
     match missing(alloc, making, event)? {
         Some(want) => {
@@ -67,8 +67,7 @@ fn first_that_happens(
     ensures held { IfOk result (λ found. found ≡ None
         → AreHeld (going making.now.0) (moment making.now.1) ready.now.0 waits.new.0 (length ready.now.0)) }
 {
-    let kept = making.state();
-    kept.is_reached();
+    is_known(making);
     let mut place = waits.past(ready, 0);
     while place < ready.len() {
         if let Some(event) = look(alloc, making, ready, waits, place)? {
@@ -92,9 +91,8 @@ fn next(
         (moment making.now.1)) }
     ensures all { IfOk result (λ found. found ≡ None → AreAllKept (going making.now.0) (moment making.now.1) waits.new.0) }
 {
-    let kept = making.state();
-    kept.is_reached();
-    let found = first_that_happens(alloc, making, kept.ready(), waits)?;
+    is_known(making);
+    let found = first_that_happens(alloc, making, ready(making), waits)?;
     Ok(found)
 }
 
@@ -128,15 +126,13 @@ pub(crate) fn settle(
         let Some(event) = next(alloc, making, waits)? else {
             break;
         };
-        let kept = making.state();
-        kept.is_reached();
-        kept.is_listed();
+        is_known(making);
         if is_too_dear(making) {
             return Err(StandFault::TooLarge);
         }
         making.step(alloc, &event)?;
     }
-    making.state().is_listed();
+    is_known(making);
     if is_too_dear(making) {
         Err(StandFault::TooLarge)
     } else {

@@ -9,7 +9,7 @@ ghost use Rattle.wf_record.specs.Seen.{record_tree};
 ghost use Rattle.wf_talk.specs.Standing.{TooLarge};
 
 use crate::accept::add;
-use crate::session::{Session, begun, gone_on};
+use crate::session::{Given, Session, begun, gone_on};
 use std::alloc::{AllocError, Global};
 use wf_answers::{Answer, Inputs};
 use wf_record::{Record, record_line};
@@ -39,24 +39,22 @@ fn costs_too_much(record: &Record) -> bool
 
 impl<'a> Session<'a> {
     /// A run that begins, and goes on until it needs an answer that isn't there.
-    pub fn begin(
+    pub(crate) fn begin(
         alloc: Global,
         runnable: &'a Runnable<'a>,
-        start: Start,
-        inputs: Inputs,
+        given: Given,
     ) -> Result<Session<'a>, StandFault>
         ensures definition { IfOk result (λ s. s.0 ≡ runnable.now.checked.now) }
-        ensures start { IfOk result (λ s. s.1.0 ≡ start) }
-        ensures inputs { IfOk result (λ s. s.1.1.0 ≡ inputs) }
+        ensures start { IfOk result (λ s. s.1.0 ≡ given.start) }
+        ensures inputs { IfOk result (λ s. s.1.1.0 ≡ given.inputs) }
         ensures dear { IfErr result (λ f. f ≢ StandFault.Memory
-            → stands.Stands (def_tree runnable.now.checked.now.def) (start_tree start) (inputs_tree inputs) TooLarge) }
+            → stands.Stands (def_tree runnable.now.checked.now.def) (start_tree given.start) (inputs_tree given.inputs) TooLarge) }
     {
         let mut waits = Waits::new(alloc);
-        let rest = begun(alloc, runnable, &start, &inputs, &mut waits)?;
+        let rest = begun(alloc, runnable, &given.start, &given.inputs, &mut waits)?;
         Ok(Session {
             runnable,
-            start,
-            inputs,
+            given,
             waits,
             rest: Some(rest),
         })
@@ -92,8 +90,10 @@ impl<'a> Stand for Session<'a> {
         let Some(rest) = self.rest.take() else {
             return Err(StandFault::Memory);
         };
-        let start = copy_of(alloc, &self.start)?;
-        let record = self.runnable.finished(alloc, start, &self.inputs, rest)?;
+        let start = copy_of(alloc, &self.given.start)?;
+        let record = self
+            .runnable
+            .finished(alloc, start, &self.given.inputs, rest)?;
         if costs_too_much(&record) {
             return Err(StandFault::TooLarge);
         }
@@ -120,12 +120,12 @@ impl<'a> Stand for Session<'a> {
         self.waits.is_in_order();
         wf_stands::one_more_answer_is_known();
         wf_stands::answers_stay_answered();
-        add(alloc, &mut self.inputs, &mut self.waits, answer)?;
+        add(alloc, &mut self.given.inputs, &mut self.waits, answer)?;
         let rest = gone_on(
             alloc,
             self.runnable,
-            &self.start,
-            &self.inputs,
+            &self.given.start,
+            &self.given.inputs,
             rest,
             &mut self.waits,
         )?;

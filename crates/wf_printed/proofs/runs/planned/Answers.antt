@@ -1,16 +1,16 @@
-use Rattle.std.proofs.Common.{subst}
-use Rattle.std.proofs.lemmas.Result.{err_from_is_err_and}
+use Rattle.std.proofs.Common.{◌≢◌, IfOk, IfErr, subst}
+use Rattle.wf_told.specs.declared.fault.RunsFault.{RunsFault}
 use Rattle.wf_printed.specs.Written.{CostTooMuch, StartsAreWritten}
 use Rattle.wf_printed.proofs.runs.planned.Goals as goal
 
-pub returns-in_err-written-clause-too_large : goal.returns-in_err-written-clause-too_large
-returns-in_err-written-clause-too_large c =
-    let p = err_from_is_err_and c.from_residual-in_err-written.result c.from_residual-in_err-written.ensures.1 in
-    rw (p.1, p.2)
-    (λ free. subst (λ k. CostTooMuch k c.args.inputs.now c.args.starts.now) c.of-runnable.ensures (c.in_err-written.ensures.too_large free))
+pub returns-clause-too_large : goal.returns-clause-too_large
+returns-clause-too_large c =
+    subst (λ k. IfErr c.all_written.result (λ f. f ≢ RunsFault.Memory → CostTooMuch k c.args.inputs.now c.args.starts.now))
+    c.of-runnable.ensures c.all_written.ensures.too_large
 
 pub returns-clause-written : goal.returns-clause-written
 returns-clause-written c =
-    let w = c.in_ok-written.written in
-    subst (λ k. StartsAreWritten k c.args.inputs.now c.args.schedule.now c.args.traced c.args.starts.now w.text.items w.cost)
-    c.of-runnable.ensures c.in_ok-written.ensures.written
+    subst
+    (λ k. IfOk c.all_written.result (λ w. StartsAreWritten k c.args.inputs.now c.args.schedule.now c.args.traced c.args.starts.now w.text.items
+    w.cost))
+    c.of-runnable.ensures c.all_written.ensures.written

@@ -19,7 +19,7 @@ returns-in-Ok g c =
     record {
       talks =
           subst
-          (λ (i : InputsTree). Talks (Stands d (start_tree c.args.start)) i (left c.args.input.now) (left c.hold.new.input)
+          (λ (i : InputsTree). Talks (Stands d (start_tree c.args.given.start)) i (left c.args.input.now) (left c.hold.new.input)
           (taken c.args.out.now) (taken c.hold.new.out) c.hold.result)
           (ap inputs_tree e.inputs)
           (subst
@@ -41,7 +41,7 @@ returns-in-Err g c =
     let e = c.refuse.ensures in
     record {
       talks =
-          e.talks (def_tree c.args.runnable.now.checked.now.def, start_tree c.args.start) (inputs_tree c.args.inputs)
+          e.talks (def_tree c.args.runnable.now.checked.now.def, start_tree c.args.given.start) (inputs_tree c.args.given.inputs)
           (g.I.Source.left c.args.input.now) c.in-Err.ensures.dear;
       only = e.only;
       always = e.always;

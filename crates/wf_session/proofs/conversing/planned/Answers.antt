@@ -9,7 +9,7 @@ returns-in-Err g c =
     let e = c.refuse.ensures in
     record {
       talks =
-          e.talks (def_tree c.args.ready.now.checked.now.def, start_tree c.args.start) (inputs_tree c.args.inputs) (g.I.Source.left c.args.input.now)
+          e.talks (def_tree c.args.ready.now.checked.now.def, start_tree c.args.given.start) (inputs_tree c.args.given.inputs) (g.I.Source.left c.args.input.now)
           (λ other. absurd (other refl));
       only = e.only;
       always = e.always;

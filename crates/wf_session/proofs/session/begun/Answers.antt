@@ -45,7 +45,5 @@ returns-clause-stands c =
     (λ b. IsLastWritten (graph (going b)) (source b) (writer (writes (definition_of b)) v) (moment c.settle.new.making.1).rows
     (store_in c.settle.new.making.1.1.1.1 v))
     c.settle.ensures.same
-    (subst
-    (λ h. IsLastWritten (graph (going h.0)) (source h.0) (writer (writes (definition_of h.0)) v) (moment h.1).rows (store_in h.1.1.1.1 v))
-    c.state.ensures (c.is_last.ensures v)))
+    (c.is_known.ensures.last v))
     e.listed e.still e.waiting e.all e.within)

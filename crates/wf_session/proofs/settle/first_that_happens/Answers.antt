@@ -10,7 +10,7 @@ pub past-place-requires : goal.past-place-requires
 past-place-requires c =
     let h = c.args.making.now in
     let reached : IsReached (graph (going h.0)) (depth h.0) (source h.0) (moment h.1) =
-    subst (λ s. IsReached (graph (going s.0)) (depth s.0) (source s.0) (moment s.1)) c.state-kept.ensures c.is_reached.ensures in
+    c.is_known.ensures.reached in
     may_happen (going h.0) (moment h.1) c.args.ready.now.0 c.args.waits.now.0 (depth h.0) reached c.requires.ready c.requires.waiting
 
 pub loop-place-init : goal.loop-place-init
@@ -26,7 +26,7 @@ pub past-place-requires-in-loop-place : goal.past-place-requires-in-loop-place
 past-place-requires-in-loop-place c =
     let h = c.args.making.now in
     let reached : IsReached (graph (going h.0)) (depth h.0) (source h.0) (moment h.1) =
-    subst (λ s. IsReached (graph (going s.0)) (depth s.0) (source s.0) (moment s.1)) c.state-kept.ensures c.is_reached.ensures in
+    c.is_known.ensures.reached in
     may_happen (going h.0) (moment h.1) c.args.ready.now.0 c.look.new.waits.0 (depth h.0) reached c.requires.ready
     c.in_ok-event.ensures.looked.waiting
 

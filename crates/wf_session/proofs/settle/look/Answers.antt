@@ -16,7 +16,7 @@ pub missing-requires : goal.missing-requires
 missing-requires c =
     let h = c.args.making.now in
     let reached : IsReached (graph (going h.0)) (depth h.0) (source h.0) (moment h.1) =
-    subst (λ s. IsReached (graph (going s.0)) (depth s.0) (source s.0) (moment s.1)) c.state-kept.ensures c.is_reached.ensures in
+    c.is_known.ensures.reached in
     listed_enabled (going h.0) (moment h.1) c.args.ready.now.0 (depth h.0) reached c.requires.ready c.args.place c.at-event.result.now
     c.at-event.ensures.item
 
@@ -46,7 +46,7 @@ returns-in_ok-instance-in-None-clause-happens c =
     let g = going h.0 in
     let s = moment h.1 in
     let reached : IsReached (graph g) (depth h.0) (source h.0) s =
-    subst (λ k. IsReached (graph (going k.0)) (depth k.0) (source k.0) (moment k.1)) c.state-kept.ensures c.is_reached.ensures in
+    c.is_known.ensures.reached in
     let event = c.at-event.result.now in
     let happens : WillHappen g s (event_tree event) = record {
       enabled = listed_enabled g s c.args.ready.now.0 (depth h.0) reached c.requires.ready c.args.place event c.at-event.ensures.item;

@@ -12,9 +12,9 @@ returns-clause-quiet c = λ none.
     let h = c.args.making.now in
     let ready = c.ready.result.now.0 in
     let reached : IsReached (graph (going h.0)) (depth h.0) (source h.0) (moment h.1) =
-    subst (λ s. IsReached (graph (going s.0)) (depth s.0) (source s.0) (moment s.1)) c.state-kept.ensures c.is_reached.ensures in
+    c.is_known.ensures.reached in
     let is_ready : IsReady (graph (going h.0)) (source h.0) (moment h.1) (events_in ready) =
-    subst (λ s. IsReady (graph (going s.0)) (source s.0) (moment s.1) (events_in ready)) c.state-kept.ensures c.ready.ensures.each in
+    c.ready.ensures.each in
     quiet (going h.0) (moment h.1) ready c.first_that_happens.new.waits.0 (depth h.0) reached is_ready (c.in_ok-found.ensures.held none)
 
 pub returns-clause-all : goal.returns-clause-all
@@ -22,8 +22,8 @@ returns-clause-all c = λ none.
     let h = c.args.making.now in
     let ready = c.ready.result.now.0 in
     let reached : IsReached (graph (going h.0)) (depth h.0) (source h.0) (moment h.1) =
-    subst (λ s. IsReached (graph (going s.0)) (depth s.0) (source s.0) (moment s.1)) c.state-kept.ensures c.is_reached.ensures in
+    c.is_known.ensures.reached in
     let is_ready : IsReady (graph (going h.0)) (source h.0) (moment h.1) (events_in ready) =
-    subst (λ s. IsReady (graph (going s.0)) (source s.0) (moment s.1) (events_in ready)) c.state-kept.ensures c.ready.ensures.each in
+    c.ready.ensures.each in
     all_are_kept (going h.0) (moment h.1) ready c.first_that_happens.new.waits.0 (depth h.0) reached is_ready
     (c.in_ok-found.ensures.held none)

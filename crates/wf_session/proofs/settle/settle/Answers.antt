@@ -25,7 +25,7 @@ loop-event-smaller c =
     let s = moment l.making.1 in
     let reached : IsReached (graph (going a)) (depth a) (source a) s =
     subst (λ b. IsReached (graph (going b)) (depth b) (source b) s) l.invariant.same
-    (subst (λ h. IsReached (graph (going h.0)) (depth h.0) (source h.0) (moment h.1)) c.state-kept.ensures c.is_reached.ensures) in
+    c.is_known.ensures.reached in
     let goes : Step (graph (going a)) (source a) s (event_tree c.in-Some.event) (moment c.step.new.self.1) =
     subst (λ b. Step (graph (going b)) (source b) s (event_tree c.in-Some.event) (moment c.step.new.self.1)) l.invariant.same
     c.in_ok-step.ensures.goes in
@@ -63,9 +63,7 @@ pub returns-then-is_too_dear-2-clause-dear : goal.returns-then-is_too_dear-2-cla
 returns-then-is_too_dear-2-clause-dear c = λ other.
     let l = c.loop-event in record {
       lists = l.making.1;
-      listed =
-          subst (λ h. AreListed h.1) c.state.ensures
-          (record { rows = c.is_listed-2.ensures.rows; running = c.is_listed-2.ensures.running; opens = c.is_listed-2.ensures.opens });
+      listed = c.is_known-2.ensures.listed;
       comes = l.invariant.comes;
       beyond = subst (λ b. 67108864 < price (going b) l.making.1) l.invariant.same (c.is_too_dear-2.ensures.dear c.if-is_too_dear-2.true);
     }

@@ -9,5 +9,5 @@ pub returns-in_err-rest-clause-dear : goal.returns-in_err-rest-clause-dear
 returns-in_err-rest-clause-dear c =
     let p = err_from_is_err_and c.from_residual.result c.from_residual.ensures.1 in
     rw (p.1, p.2)
-    (λ other. too_dear (def_tree c.args.runnable.now.checked.now.def) (start_tree c.args.start) (inputs_tree c.args.inputs)
+    (λ other. too_dear (def_tree c.args.runnable.now.checked.now.def) (start_tree c.args.given.start) (inputs_tree c.args.given.inputs)
     (c.in_err-rest.ensures.dear other))

@@ -29,12 +29,12 @@ add-requires c =
     let rest = c.in-Some.rest in
     let a = answer_tree c.args.answer in
     let here : s.rest ≡ Some rest = sym c.take.ensures.value ∙ c.in-Some.is in
-    let st : Stands (run_with checked s.start s.inputs) rest s.waits.0 =
-    subst (λ (o : Option Aside). IfSome o (λ r. Stands (run_with checked s.start s.inputs) r s.waits.0)) here c.self.invariant in
+    let st : Stands (run_with checked s.given.start s.given.inputs) rest s.waits.0 =
+    subst (λ (o : Option Aside). IfSome o (λ r. Stands (run_with checked s.given.start s.given.inputs) r s.waits.0)) here c.self.invariant in
     let keys : keys_of s.waits.0 ≡ wanted_in c.args.self.now.1.1.1.1 c.args.self.now.1.1.1.0 =
     ap (λ o. wanted_in o s.waits.0) (sym here) ∙ ap (λ v. wanted_in v.1.1.1.1 v.1.1.1.0) c.self.view_is in
     let wanted : is_among (key_of a) (keys_of s.waits.0) ≡ true = subst (λ (ks : List Key). is_among (key_of a) ks ≡ true) (sym keys) c.requires in
-    not_there (def_tree checked.def) (start_tree s.start) (inputs_tree s.inputs) a rest s.waits st c.is_in_order.ensures wanted
+    not_there (def_tree checked.def) (start_tree s.given.start) (inputs_tree s.given.inputs) a rest s.waits st c.is_in_order.ensures wanted
 
 pub returns-in_err-add-clause-fault : goal.returns-in_err-add-clause-fault
 returns-in_err-add-clause-fault c =
@@ -46,18 +46,18 @@ gone_on-requires-clause-goes_on c =
     let s = c.self.inside in
     let checked = s.runnable.now.checked.now in
     let d = def_tree checked.def in
-    let i = inputs_tree s.inputs in
+    let i = inputs_tree s.given.inputs in
     let rest = c.in-Some.rest in
     let a = answer_tree c.args.answer in
     let here : s.rest ≡ Some rest = sym c.take.ensures.value ∙ c.in-Some.is in
-    let st : Stands (run_with checked s.start s.inputs) rest s.waits.0 =
-    subst (λ (o : Option Aside). IfSome o (λ r. Stands (run_with checked s.start s.inputs) r s.waits.0)) here c.self.invariant in
+    let st : Stands (run_with checked s.given.start s.given.inputs) rest s.waits.0 =
+    subst (λ (o : Option Aside). IfSome o (λ r. Stands (run_with checked s.given.start s.given.inputs) r s.waits.0)) here c.self.invariant in
     let keys : keys_of s.waits.0 ≡ wanted_in c.args.self.now.1.1.1.1 c.args.self.now.1.1.1.0 =
     ap (λ o. wanted_in o s.waits.0) (sym here) ∙ ap (λ v. wanted_in v.1.1.1.1 v.1.1.1.0) c.self.view_is in
     let wanted : is_among (key_of a) (keys_of s.waits.0) ≡ true = subst (λ (ks : List Key). is_among (key_of a) ks ≡ true) (sym keys) c.requires in
-    let none = not_there d (start_tree s.start) i a rest s.waits st c.is_in_order.ensures wanted in
-    subst (λ (j : InputsTree). MayGoOn (run_of d (start_tree s.start) j) rest) (sym c.in_ok-add.ensures.inputs)
-    (may_go_on d (start_tree s.start) i a (c.one_more_answer_is_known.ensures d (start_tree s.start) i a none)
+    let none = not_there d (start_tree s.given.start) i a rest s.waits st c.is_in_order.ensures wanted in
+    subst (λ (j : InputsTree). MayGoOn (run_of d (start_tree s.given.start) j) rest) (sym c.in_ok-add.ensures.inputs)
+    (may_go_on d (start_tree s.given.start) i a (c.one_more_answer_is_known.ensures d (start_tree s.given.start) i a none)
     (c.answers_stay_answered.ensures.stay d i a) rest s.waits st)
 
 pub gone_on-requires-clause-waiting : goal.gone_on-requires-clause-waiting
@@ -65,25 +65,25 @@ gone_on-requires-clause-waiting c =
     let s = c.self.inside in
     let checked = s.runnable.now.checked.now in
     let d = def_tree checked.def in
-    let i = inputs_tree s.inputs in
+    let i = inputs_tree s.given.inputs in
     let rest = c.in-Some.rest in
     let a = answer_tree c.args.answer in
     let here : s.rest ≡ Some rest = sym c.take.ensures.value ∙ c.in-Some.is in
-    let st : Stands (run_with checked s.start s.inputs) rest s.waits.0 =
-    subst (λ (o : Option Aside). IfSome o (λ r. Stands (run_with checked s.start s.inputs) r s.waits.0)) here c.self.invariant in
+    let st : Stands (run_with checked s.given.start s.given.inputs) rest s.waits.0 =
+    subst (λ (o : Option Aside). IfSome o (λ r. Stands (run_with checked s.given.start s.given.inputs) r s.waits.0)) here c.self.invariant in
     let keys : keys_of s.waits.0 ≡ wanted_in c.args.self.now.1.1.1.1 c.args.self.now.1.1.1.0 =
     ap (λ o. wanted_in o s.waits.0) (sym here) ∙ ap (λ v. wanted_in v.1.1.1.1 v.1.1.1.0) c.self.view_is in
     let wanted : is_among (key_of a) (keys_of s.waits.0) ≡ true = subst (λ (ks : List Key). is_among (key_of a) ks ≡ true) (sym keys) c.requires in
-    let none = not_there d (start_tree s.start) i a rest s.waits st c.is_in_order.ensures wanted in
-    subst (λ (kept : Kept). AreWaiting (run_of d (start_tree s.start) (inputs_tree c.add.new.inputs)) (moment rest.0.0) kept.0)
+    let none = not_there d (start_tree s.given.start) i a rest s.waits st c.is_in_order.ensures wanted in
+    subst (λ (kept : Kept). AreWaiting (run_of d (start_tree s.given.start) (inputs_tree c.add.new.inputs)) (moment rest.0.0) kept.0)
     (sym c.in_ok-add.ensures.waits)
     (subst
-    (λ (j : InputsTree). AreWaiting (run_of d (start_tree s.start) j) (moment rest.0.0)
+    (λ (j : InputsTree). AreWaiting (run_of d (start_tree s.given.start) j) (moment rest.0.0)
     (without_key key_cmp waiting_key (key_of a) s.waits.0))
     (sym c.in_ok-add.ensures.inputs)
-    (wait_still d (start_tree s.start) i a (c.one_more_answer_is_known.ensures d (start_tree s.start) i a none)
+    (wait_still d (start_tree s.given.start) i a (c.one_more_answer_is_known.ensures d (start_tree s.given.start) i a none)
     (c.answers_stay_answered.ensures.stay d i a) rest s.waits st (λ x n. c.answers_stay_answered.ensures.others d i a x n)
-    (by_keys d (start_tree s.start) i a rest s.waits st c.is_in_order.ensures wanted)))
+    (by_keys d (start_tree s.given.start) i a rest s.waits st c.is_in_order.ensures wanted)))
 
 pub returns-in_err-rest-clause-fault : goal.returns-in_err-rest-clause-fault
 returns-in_err-rest-clause-fault c =
@@ -97,8 +97,8 @@ returns-in_err-rest-clause-fault c =
     (λ v. stands.IsTooDear (def_tree v.0.def) (start_tree v.1.0) (with_added (inputs_tree v.1.1.0) a)
     ⊎ stands.LeavesTooMuch (def_tree v.0.def) (start_tree v.1.0) (with_added (inputs_tree v.1.1.0) a))
     c.self.view_is
-    (subst (λ (j : InputsTree). stands.Stands d (start_tree s.start) j TooLarge) c.in_ok-add.ensures.inputs
-    (too_dear d (start_tree s.start) (inputs_tree c.add.new.inputs) (c.in_err-rest.ensures.dear other))))
+    (subst (λ (j : InputsTree). stands.Stands d (start_tree s.given.start) j TooLarge) c.in_ok-add.ensures.inputs
+    (too_dear d (start_tree s.given.start) (inputs_tree c.add.new.inputs) (c.in_err-rest.ensures.dear other))))
 
 pub returns-in_err-wants-clause-fault : goal.returns-in_err-wants-clause-fault
 returns-in_err-wants-clause-fault c =
@@ -110,22 +110,22 @@ returns-clause-fresh c =
     let s = c.self.inside in
     let checked = s.runnable.now.checked.now in
     let d = def_tree checked.def in
-    let i = inputs_tree s.inputs in
+    let i = inputs_tree s.given.inputs in
     let rest = c.in-Some.rest in
     let a = answer_tree c.args.answer in
     let here : s.rest ≡ Some rest = sym c.take.ensures.value ∙ c.in-Some.is in
-    let st : Stands (run_with checked s.start s.inputs) rest s.waits.0 =
-    subst (λ (o : Option Aside). IfSome o (λ r. Stands (run_with checked s.start s.inputs) r s.waits.0)) here c.self.invariant in
+    let st : Stands (run_with checked s.given.start s.given.inputs) rest s.waits.0 =
+    subst (λ (o : Option Aside). IfSome o (λ r. Stands (run_with checked s.given.start s.given.inputs) r s.waits.0)) here c.self.invariant in
     let keys : keys_of s.waits.0 ≡ wanted_in c.args.self.now.1.1.1.1 c.args.self.now.1.1.1.0 =
     ap (λ o. wanted_in o s.waits.0) (sym here) ∙ ap (λ v. wanted_in v.1.1.1.1 v.1.1.1.0) c.self.view_is in
     let wanted : is_among (key_of a) (keys_of s.waits.0) ≡ true = subst (λ (ks : List Key). is_among (key_of a) ks ≡ true) (sym keys) c.requires in
-    let at_first : AreNew (has_answer (run_of d (start_tree s.start) (inputs_tree c.add.new.inputs))) (keys_of s.waits.0) c.add.new.waits =
-    subst (AreNew (has_answer (run_of d (start_tree s.start) (inputs_tree c.add.new.inputs))) (keys_of s.waits.0))
+    let at_first : AreNew (has_answer (run_of d (start_tree s.given.start) (inputs_tree c.add.new.inputs))) (keys_of s.waits.0) c.add.new.waits =
+    subst (AreNew (has_answer (run_of d (start_tree s.given.start) (inputs_tree c.add.new.inputs))) (keys_of s.waits.0))
     (sym c.in_ok-add.ensures.waits)
     (subst
-    (λ (j : InputsTree). AreNew (has_answer (run_of d (start_tree s.start) j)) (keys_of s.waits.0) (kept_without (key_of a) s.waits))
+    (λ (j : InputsTree). AreNew (has_answer (run_of d (start_tree s.given.start) j)) (keys_of s.waits.0) (kept_without (key_of a) s.waits))
     (sym c.in_ok-add.ensures.inputs)
-    (marked d (start_tree s.start) i a rest s.waits st c.is_in_order.ensures wanted
+    (marked d (start_tree s.given.start) i a rest s.waits st c.is_in_order.ensures wanted
     (λ x n. c.answers_stay_answered.ensures.added d i a x n))) in
     c.in_ok-wants.ensures
     ∙ ((c.in_ok-rest.ensures.marked (keys_of s.waits.0) at_first).new_are

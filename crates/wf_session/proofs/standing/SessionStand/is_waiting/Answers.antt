@@ -14,7 +14,7 @@ returns-then-is_some-clause-waits c =
     (λ v. nat_lt 0 c.len.result ≡ true → stands.WaitsFor (def_tree v.0.def) (start_tree v.1.0) (inputs_tree v.1.1.0)
     (wanted_in v.1.1.1.1 v.1.1.1.0))
     c.self.view_is
-    (λ some. waiting_with (def_tree s.runnable.now.checked.now.def) (start_tree s.start) (inputs_tree s.inputs) s.waits.0 c.is_in_order.ensures
+    (λ some. waiting_with (def_tree s.runnable.now.checked.now.def) (start_tree s.given.start) (inputs_tree s.given.inputs) s.waits.0 c.is_in_order.ensures
     s.rest c.self.invariant (sym c.is_some.ensures ∙ c.if-is_some.true) (sym (ap (nat_lt 0) c.len.ensures) ∙ some))
 
 pub returns-else-is_some-clause-waits : goal.returns-else-is_some-clause-waits

@@ -24,12 +24,12 @@ finished-requires c =
     let checked = s.runnable.now.checked.now in
     let rest = c.in-Some.rest in
     let here : s.rest ≡ Some rest = sym c.take.ensures.value ∙ c.in-Some.is in
-    let st : Stands (run_with checked s.start s.inputs) rest s.waits.0 =
-    subst (λ (o : Option Aside). IfSome o (λ r. Stands (run_with checked s.start s.inputs) r s.waits.0)) here c.self.invariant in
+    let st : Stands (run_with checked s.given.start s.given.inputs) rest s.waits.0 =
+    subst (λ (o : Option Aside). IfSome o (λ r. Stands (run_with checked s.given.start s.given.inputs) r s.waits.0)) here c.self.invariant in
     let none : keys_of s.waits.0 ≡ [] =
     subst (λ (o : Option Aside). wanted_in o s.waits.0 ≡ []) here
     (subst (λ v. wanted_in v.1.1.1.1 v.1.1.1.0 ≡ []) (sym c.self.view_is) c.requires) in
-    at_last checked s.start s.inputs rest s.waits.0 st none c.in_ok-start.start c.in_ok-start.ensures
+    at_last checked s.given.start s.given.inputs rest s.waits.0 st none c.in_ok-start.start c.in_ok-start.ensures
 
 pub returns-in_err-start-clause-fault : goal.returns-in_err-start-clause-fault
 returns-in_err-start-clause-fault c =
@@ -41,15 +41,15 @@ returns-then-costs_too_much-clause-fault c = λ other.
     let s = c.self.inside in
     let checked = s.runnable.now.checked.now in
     let d = def_tree checked.def in
-    let i = inputs_tree s.inputs in
+    let i = inputs_tree s.given.inputs in
     let rest = c.in-Some.rest in
     let here : s.rest ≡ Some rest = sym c.take.ensures.value ∙ c.in-Some.is in
-    let st : Stands (run_with checked s.start s.inputs) rest s.waits.0 =
-    subst (λ (o : Option Aside). IfSome o (λ r. Stands (run_with checked s.start s.inputs) r s.waits.0)) here c.self.invariant in
+    let st : Stands (run_with checked s.given.start s.given.inputs) rest s.waits.0 =
+    subst (λ (o : Option Aside). IfSome o (λ r. Stands (run_with checked s.given.start s.given.inputs) r s.waits.0)) here c.self.invariant in
     let none : keys_of s.waits.0 ≡ [] =
     subst (λ (o : Option Aside). wanted_in o s.waits.0 ≡ []) here
     (subst (λ v. wanted_in v.1.1.1.1 v.1.1.1.0 ≡ []) (sym c.self.view_is) c.requires) in
-    let told : record_tree c.in_ok-record.record ≡ meaning d (fresh (start_tree s.start) i) =
+    let told : record_tree c.in_ok-record.record ≡ meaning d (fresh (start_tree s.given.start) i) =
     c.in_ok-record.ensures ∙ ap (λ (t : StartTree). meaning d (fresh t i)) c.in_ok-start.ensures in
     subst
     (λ v. stands.IsTooDear (def_tree v.0.def) (start_tree v.1.0) (inputs_tree v.1.1.0)
@@ -59,7 +59,7 @@ returns-then-costs_too_much-clause-fault c = λ other.
     (record {
       still = moment rest.0.0;
       is_still = st.still;
-      wanted = none_waits d (start_tree s.start) i rest s.waits.0 st none;
+      wanted = none_waits d (start_tree s.given.start) i rest s.waits.0 st none;
       beyond = subst (λ r. 67108864 < cost r) told (c.costs_too_much.ensures.dear c.if-costs_too_much.true);
     }))
 
@@ -73,21 +73,21 @@ returns-clause-line c =
     let s = c.self.inside in
     let checked = s.runnable.now.checked.now in
     let d = def_tree checked.def in
-    let i = inputs_tree s.inputs in
+    let i = inputs_tree s.given.inputs in
     let rest = c.in-Some.rest in
     let here : s.rest ≡ Some rest = sym c.take.ensures.value ∙ c.in-Some.is in
-    let st : Stands (run_with checked s.start s.inputs) rest s.waits.0 =
-    subst (λ (o : Option Aside). IfSome o (λ r. Stands (run_with checked s.start s.inputs) r s.waits.0)) here c.self.invariant in
+    let st : Stands (run_with checked s.given.start s.given.inputs) rest s.waits.0 =
+    subst (λ (o : Option Aside). IfSome o (λ r. Stands (run_with checked s.given.start s.given.inputs) r s.waits.0)) here c.self.invariant in
     let none : keys_of s.waits.0 ≡ [] =
     subst (λ (o : Option Aside). wanted_in o s.waits.0 ≡ []) here
     (subst (λ v. wanted_in v.1.1.1.1 v.1.1.1.0 ≡ []) (sym c.self.view_is) c.requires) in
-    let told : record_tree c.in_ok-record.record ≡ meaning d (fresh (start_tree s.start) i) =
+    let told : record_tree c.in_ok-record.record ≡ meaning d (fresh (start_tree s.given.start) i) =
     c.in_ok-record.ensures ∙ ap (λ (t : StartTree). meaning d (fresh t i)) c.in_ok-start.ensures in
     subst (λ v. stands.HasLeft (def_tree v.0.def) (start_tree v.1.0) (inputs_tree v.1.1.0) c.in_ok-line.line.items) c.self.view_is
     (record {
       still = moment rest.0.0;
       is_still = st.still;
-      wanted = none_waits d (start_tree s.start) i rest s.waits.0 st none;
+      wanted = none_waits d (start_tree s.given.start) i rest s.waits.0 st none;
       within = subst (λ r. cost r ≤ 67108864) told (c.costs_too_much.ensures.within c.if-costs_too_much.false);
       line_is = c.in_ok-line.ensures ∙ ap record_line told;
     })
