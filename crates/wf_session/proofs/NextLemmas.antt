@@ -1,10 +1,9 @@
 -- What may happen next, once all events that may happen are looked through.
 use Rattle.std.proofs.Common.{◌≡◌, ◌<◌, ℕ, suc, Bool, true, false, List, [], ◌∷◌, Option, Some, None, cond, option_map, is_eq, length, slice_get, refl, sym, ap, ◌∙◌, subst, true≢false, arith}
-use Rattle.std.specs.List.{AllByRecursion}
 use Rattle.std.proofs.lemmas.Option.{none-some}
 use Rattle.wf_lists.specs.KeyOrder.{find_key}
 use Rattle.wf_lists.proofs.KeyOrderLemmas.{find-own}
-use Rattle.wf_layers.specs.Address.{Address, address}
+use Rattle.wf_layers.specs.Address.{Address}
 use Rattle.wf_layers.specs.Machine.{Event, Try, Step}
 use Rattle.wf_asks.specs.Instances.{address_of, instance_cmp, instance_of, instance_total}
 use Rattle.wf_asks.specs.declared.instance.Instance.{Instance}
@@ -24,7 +23,7 @@ use Rattle.wf_session.specs.Begun.{Going, answered_in, graph}
 use Rattle.wf_session.specs.Settled.{AreHeld}
 use Rattle.wf_session.specs.Waiting.{AreAllKept, AreWaiting, IsMissing, Wants, key_at}
 use Rattle.wf_waits.specs.Kept.{keys_of}
-use Rattle.wf_waits.specs.Places.{HappensAt, MayHappen}
+use Rattle.wf_waits.specs.Places.{MayHappen}
 use Rattle.wf_waits.specs.declared.waiting.Waiting.{Waiting}
 use Rattle.wf_waits.proofs.ListLemmas.{all_so, at_among}
 

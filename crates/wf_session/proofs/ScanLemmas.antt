@@ -1,6 +1,5 @@
 -- How the events that may happen are looked through, in words of the lists.
-use Rattle.std.proofs.Common.{◌≡◌, ◌<◌, ◌≤◌, ℕ, true, false, List, Some, ⊎_elim, slice_get, nat_eq, nat_lt, ◌+◌, eqb-true, refl, sym, ap, ◌∙◌, subst, arith}
-use Rattle.std.specs.List.{AllByRecursion}
+use Rattle.std.proofs.Common.{◌≡◌, ◌≤◌, ℕ, true, false, List, Some, ⊎_elim, slice_get, nat_eq, nat_lt, ◌+◌, eqb-true, sym, ap, ◌∙◌, subst, arith}
 use Rattle.std.proofs.lemmas.Bool.{eqb-false, ltb-false, ltb-true}
 use Rattle.wf_lists.specs.KeyOrder.{IsInKeyOrder}
 use Rattle.wf_layers.proofs.Basics.{two}

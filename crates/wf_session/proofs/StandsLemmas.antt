@@ -21,7 +21,6 @@ use Rattle.wf_layers.specs.Address.{Address}
 use Rattle.wf_layers.specs.Machine.{IsOver}
 use Rattle.wf_lists.specs.KeyOrder.{IsInKeyOrder}
 use Rattle.wf_lists.proofs.KeyOrderLemmas.{in_order-map, in_order-on}
-use Rattle.wf_planned.specs.Look.{instance}
 use Rattle.wf_planned.specs.Points.{graph_of}
 use Rattle.wf_meter.specs.Cost.{leaf_cost, open_cost}
 use Rattle.wf_opening.specs.DecisionSeen.{decision_tree, verdict_tree}

@@ -1,5 +1,5 @@
 -- A run between two answers: what becomes of it as one comes.
-use Rattle.std.proofs.Common.{◌≡◌, ◌≢◌, ◌≤◌, ℕ, List, length, sym, ap, subst, ◌∙◌}
+use Rattle.std.proofs.Common.{◌≡◌, ◌≢◌, ◌≤◌, ℕ, List, sym, ap, subst, ◌∙◌}
 use Rattle.wf_stands.specs.Answered.{answered}
 use Rattle.wf_answers.specs.Added.{with_added}
 use Rattle.wf_answers.specs.AnswerTree.{AnswerTree, key_cmp, key_of}

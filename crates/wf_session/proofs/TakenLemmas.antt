@@ -1,5 +1,5 @@
 -- An answer that is wanted, as it is taken.
-use Rattle.std.proofs.Common.{◌≡◌, ℕ, true, false, List, Option, None, Some, sym, ap, refl, ◌∙◌, true≢false}
+use Rattle.std.proofs.Common.{◌≡◌, ℕ, true, false, Option, None, Some, sym, ap, refl, ◌∙◌, true≢false}
 use Rattle.wf_stands.specs.Answered.{answered}
 use Rattle.wf_answers.specs.Added.{with_added}
 use Rattle.wf_answers.specs.AnswerTree.{AnswerTree, find_answer, key_cmp, key_of}

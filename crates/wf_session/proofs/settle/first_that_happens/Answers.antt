@@ -1,4 +1,3 @@
-use Rattle.std.proofs.Common.{subst}
 use Rattle.wf_kept.specs.Reached.{IsReached}
 use Rattle.wf_runnable.specs.Meant.{depth, source}
 use Rattle.wf_session.specs.Begun.{going, graph, moment}

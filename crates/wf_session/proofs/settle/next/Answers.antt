@@ -1,4 +1,3 @@
-use Rattle.std.proofs.Common.{subst}
 use Rattle.wf_kept.specs.Reached.{IsReached}
 use Rattle.wf_kept.specs.Ready.{IsReady}
 use Rattle.wf_tables.specs.Tables.{events_in}

@@ -8,7 +8,7 @@ use Rattle.wf_layers.specs.Machine as machine
 use Rattle.wf_tables.specs.Tables.{event_tree}
 use Rattle.wf_tables.specs.declared.entries.EventAt.{EventAt}
 use Rattle.wf_runnable.specs.Meant.{depth, source}
-use Rattle.wf_session.specs.Begun.{AreListed, answered_in, going, graph, moment, price}
+use Rattle.wf_session.specs.Begun.{answered_in, going, graph, moment, price}
 use Rattle.wf_session.specs.Settled.{HasLooked, WillHappen}
 use Rattle.wf_session.specs.Waiting.{AreAllKept}
 use Rattle.wf_session.proofs.NextLemmas.{waiting_on}

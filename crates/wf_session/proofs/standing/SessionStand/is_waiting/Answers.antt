@@ -1,4 +1,4 @@
-use Rattle.std.proofs.Common.{◌≡◌, true, false, nat_lt, sym, ap, subst, ◌∙◌, true≢false}
+use Rattle.std.proofs.Common.{◌≡◌, true, nat_lt, sym, ap, subst, ◌∙◌, true≢false}
 use Rattle.wf_answers.specs.InputsSeen.{inputs_tree}
 use Rattle.wf_reading.specs.ReadSeen.{def_tree}
 use Rattle.wf_stands.specs.Stands as stands
