@@ -64,8 +64,7 @@ impl<'a> Model for Session<'a> {
 
     ghost view = { λ s. (s.runnable.now.checked.now, (s.given.start, (s.given.inputs, (s.waits.0, s.rest)))) };
 
-    ghost invariant = { λ s. IfSome s.rest
-        (λ rest. Stands (run_with s.runnable.now.checked.now s.given.start s.given.inputs) rest s.waits.0) };
+    ghost invariant = { λ s. IfSome s.rest (λ rest. Stands (run_with s.runnable.now.checked.now s.given.start s.given.inputs) rest s.waits.0) };
 }
 
 // A run begins, and goes on until it needs an answer that isn't there.

@@ -7,8 +7,8 @@ use Rattle.wf_printed.proofs.measuring.made_ready.Goals as goal
 
 pub returns-clause-told : goal.returns-clause-told
 returns-clause-told c =
-    subst (λ k. IfOk c.planned.result (λ e. IsTheRun k c.args.start c.args.inputs.now c.args.schedule.now false (told e)))
-    c.in_ok-ready.ensures c.planned.ensures.told
+    subst (λ k. IfOk c.planned.result (λ e. IsTheRun k c.args.start c.args.inputs.now c.args.schedule.now false (told e))) c.in_ok-ready.ensures
+    c.planned.ensures.told
 
 pub returns-clause-too_large : goal.returns-clause-too_large
 returns-clause-too_large c =

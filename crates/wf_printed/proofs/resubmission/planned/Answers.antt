@@ -11,8 +11,7 @@ resubmitted-requires c = subst (λ k. MayBeResumed k c.args.log.now c.args.from.
 pub returns-clause-told : goal.returns-clause-told
 returns-clause-told c =
     subst
-    (λ k. IfOk c.resubmitted.result
-    (λ e. IsTheResubmission k c.args.log.now c.args.inputs.now c.args.from.now c.args.schedule.now (told e)))
+    (λ k. IfOk c.resubmitted.result (λ e. IsTheResubmission k c.args.log.now c.args.inputs.now c.args.from.now c.args.schedule.now (told e)))
     c.of-runnable.ensures c.resubmitted.ensures.told
 
 pub returns-clause-too_large : goal.returns-clause-too_large

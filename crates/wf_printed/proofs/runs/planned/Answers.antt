@@ -11,6 +11,6 @@ returns-clause-too_large c =
 pub returns-clause-written : goal.returns-clause-written
 returns-clause-written c =
     subst
-    (λ k. IfOk c.all_written.result
-    (λ w. StartsAreWritten k c.args.inputs.now c.args.schedule.now c.args.traced c.args.starts.now w.text.items w.cost))
+    (λ k. IfOk c.all_written.result (λ w. StartsAreWritten k c.args.inputs.now c.args.schedule.now c.args.traced c.args.starts.now w.text.items
+    w.cost))
     c.of-runnable.ensures c.all_written.ensures.written

@@ -30,12 +30,10 @@ add-requires c =
     let a = answer_tree c.args.answer in
     let here : s.rest ≡ Some rest = sym c.take.ensures.value ∙ c.in-Some.is in
     let st : Stands (run_with checked s.given.start s.given.inputs) rest s.waits.0 =
-    subst (λ (o : Option Aside). IfSome o (λ r. Stands (run_with checked s.given.start s.given.inputs) r s.waits.0)) here
-    c.self.invariant in
+    subst (λ (o : Option Aside). IfSome o (λ r. Stands (run_with checked s.given.start s.given.inputs) r s.waits.0)) here c.self.invariant in
     let keys : keys_of s.waits.0 ≡ wanted_in c.args.self.now.1.1.1.1 c.args.self.now.1.1.1.0 =
     ap (λ o. wanted_in o s.waits.0) (sym here) ∙ ap (λ v. wanted_in v.1.1.1.1 v.1.1.1.0) c.self.view_is in
-    let wanted : is_among (key_of a) (keys_of s.waits.0) ≡ true =
-    subst (λ (ks : List Key). is_among (key_of a) ks ≡ true) (sym keys) c.requires in
+    let wanted : is_among (key_of a) (keys_of s.waits.0) ≡ true = subst (λ (ks : List Key). is_among (key_of a) ks ≡ true) (sym keys) c.requires in
     not_there (def_tree checked.def) (start_tree s.given.start) (inputs_tree s.given.inputs) a rest s.waits st c.is_in_order.ensures wanted
 
 pub returns-in_err-add-clause-fault : goal.returns-in_err-add-clause-fault
@@ -53,12 +51,10 @@ gone_on-requires-clause-goes_on c =
     let a = answer_tree c.args.answer in
     let here : s.rest ≡ Some rest = sym c.take.ensures.value ∙ c.in-Some.is in
     let st : Stands (run_with checked s.given.start s.given.inputs) rest s.waits.0 =
-    subst (λ (o : Option Aside). IfSome o (λ r. Stands (run_with checked s.given.start s.given.inputs) r s.waits.0)) here
-    c.self.invariant in
+    subst (λ (o : Option Aside). IfSome o (λ r. Stands (run_with checked s.given.start s.given.inputs) r s.waits.0)) here c.self.invariant in
     let keys : keys_of s.waits.0 ≡ wanted_in c.args.self.now.1.1.1.1 c.args.self.now.1.1.1.0 =
     ap (λ o. wanted_in o s.waits.0) (sym here) ∙ ap (λ v. wanted_in v.1.1.1.1 v.1.1.1.0) c.self.view_is in
-    let wanted : is_among (key_of a) (keys_of s.waits.0) ≡ true =
-    subst (λ (ks : List Key). is_among (key_of a) ks ≡ true) (sym keys) c.requires in
+    let wanted : is_among (key_of a) (keys_of s.waits.0) ≡ true = subst (λ (ks : List Key). is_among (key_of a) ks ≡ true) (sym keys) c.requires in
     let none = not_there d (start_tree s.given.start) i a rest s.waits st c.is_in_order.ensures wanted in
     subst (λ (j : InputsTree). MayGoOn (run_of d (start_tree s.given.start) j) rest) (sym c.in_ok-add.ensures.inputs)
     (may_go_on d (start_tree s.given.start) i a (c.one_more_answer_is_known.ensures d (start_tree s.given.start) i a none)
@@ -74,12 +70,10 @@ gone_on-requires-clause-waiting c =
     let a = answer_tree c.args.answer in
     let here : s.rest ≡ Some rest = sym c.take.ensures.value ∙ c.in-Some.is in
     let st : Stands (run_with checked s.given.start s.given.inputs) rest s.waits.0 =
-    subst (λ (o : Option Aside). IfSome o (λ r. Stands (run_with checked s.given.start s.given.inputs) r s.waits.0)) here
-    c.self.invariant in
+    subst (λ (o : Option Aside). IfSome o (λ r. Stands (run_with checked s.given.start s.given.inputs) r s.waits.0)) here c.self.invariant in
     let keys : keys_of s.waits.0 ≡ wanted_in c.args.self.now.1.1.1.1 c.args.self.now.1.1.1.0 =
     ap (λ o. wanted_in o s.waits.0) (sym here) ∙ ap (λ v. wanted_in v.1.1.1.1 v.1.1.1.0) c.self.view_is in
-    let wanted : is_among (key_of a) (keys_of s.waits.0) ≡ true =
-    subst (λ (ks : List Key). is_among (key_of a) ks ≡ true) (sym keys) c.requires in
+    let wanted : is_among (key_of a) (keys_of s.waits.0) ≡ true = subst (λ (ks : List Key). is_among (key_of a) ks ≡ true) (sym keys) c.requires in
     let none = not_there d (start_tree s.given.start) i a rest s.waits st c.is_in_order.ensures wanted in
     subst (λ (kept : Kept). AreWaiting (run_of d (start_tree s.given.start) (inputs_tree c.add.new.inputs)) (moment rest.0.0) kept.0)
     (sym c.in_ok-add.ensures.waits)
@@ -121,14 +115,11 @@ returns-clause-fresh c =
     let a = answer_tree c.args.answer in
     let here : s.rest ≡ Some rest = sym c.take.ensures.value ∙ c.in-Some.is in
     let st : Stands (run_with checked s.given.start s.given.inputs) rest s.waits.0 =
-    subst (λ (o : Option Aside). IfSome o (λ r. Stands (run_with checked s.given.start s.given.inputs) r s.waits.0)) here
-    c.self.invariant in
+    subst (λ (o : Option Aside). IfSome o (λ r. Stands (run_with checked s.given.start s.given.inputs) r s.waits.0)) here c.self.invariant in
     let keys : keys_of s.waits.0 ≡ wanted_in c.args.self.now.1.1.1.1 c.args.self.now.1.1.1.0 =
     ap (λ o. wanted_in o s.waits.0) (sym here) ∙ ap (λ v. wanted_in v.1.1.1.1 v.1.1.1.0) c.self.view_is in
-    let wanted : is_among (key_of a) (keys_of s.waits.0) ≡ true =
-    subst (λ (ks : List Key). is_among (key_of a) ks ≡ true) (sym keys) c.requires in
-    let at_first : AreNew (has_answer (run_of d (start_tree s.given.start) (inputs_tree c.add.new.inputs))) (keys_of s.waits.0)
-    c.add.new.waits =
+    let wanted : is_among (key_of a) (keys_of s.waits.0) ≡ true = subst (λ (ks : List Key). is_among (key_of a) ks ≡ true) (sym keys) c.requires in
+    let at_first : AreNew (has_answer (run_of d (start_tree s.given.start) (inputs_tree c.add.new.inputs))) (keys_of s.waits.0) c.add.new.waits =
     subst (AreNew (has_answer (run_of d (start_tree s.given.start) (inputs_tree c.add.new.inputs))) (keys_of s.waits.0))
     (sym c.in_ok-add.ensures.waits)
     (subst

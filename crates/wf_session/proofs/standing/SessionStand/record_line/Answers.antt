@@ -25,8 +25,7 @@ finished-requires c =
     let rest = c.in-Some.rest in
     let here : s.rest ≡ Some rest = sym c.take.ensures.value ∙ c.in-Some.is in
     let st : Stands (run_with checked s.given.start s.given.inputs) rest s.waits.0 =
-    subst (λ (o : Option Aside). IfSome o (λ r. Stands (run_with checked s.given.start s.given.inputs) r s.waits.0)) here
-    c.self.invariant in
+    subst (λ (o : Option Aside). IfSome o (λ r. Stands (run_with checked s.given.start s.given.inputs) r s.waits.0)) here c.self.invariant in
     let none : keys_of s.waits.0 ≡ [] =
     subst (λ (o : Option Aside). wanted_in o s.waits.0 ≡ []) here
     (subst (λ v. wanted_in v.1.1.1.1 v.1.1.1.0 ≡ []) (sym c.self.view_is) c.requires) in
@@ -46,8 +45,7 @@ returns-then-costs_too_much-clause-fault c = λ other.
     let rest = c.in-Some.rest in
     let here : s.rest ≡ Some rest = sym c.take.ensures.value ∙ c.in-Some.is in
     let st : Stands (run_with checked s.given.start s.given.inputs) rest s.waits.0 =
-    subst (λ (o : Option Aside). IfSome o (λ r. Stands (run_with checked s.given.start s.given.inputs) r s.waits.0)) here
-    c.self.invariant in
+    subst (λ (o : Option Aside). IfSome o (λ r. Stands (run_with checked s.given.start s.given.inputs) r s.waits.0)) here c.self.invariant in
     let none : keys_of s.waits.0 ≡ [] =
     subst (λ (o : Option Aside). wanted_in o s.waits.0 ≡ []) here
     (subst (λ v. wanted_in v.1.1.1.1 v.1.1.1.0 ≡ []) (sym c.self.view_is) c.requires) in
@@ -79,8 +77,7 @@ returns-clause-line c =
     let rest = c.in-Some.rest in
     let here : s.rest ≡ Some rest = sym c.take.ensures.value ∙ c.in-Some.is in
     let st : Stands (run_with checked s.given.start s.given.inputs) rest s.waits.0 =
-    subst (λ (o : Option Aside). IfSome o (λ r. Stands (run_with checked s.given.start s.given.inputs) r s.waits.0)) here
-    c.self.invariant in
+    subst (λ (o : Option Aside). IfSome o (λ r. Stands (run_with checked s.given.start s.given.inputs) r s.waits.0)) here c.self.invariant in
     let none : keys_of s.waits.0 ≡ [] =
     subst (λ (o : Option Aside). wanted_in o s.waits.0 ≡ []) here
     (subst (λ v. wanted_in v.1.1.1.1 v.1.1.1.0 ≡ []) (sym c.self.view_is) c.requires) in
